@@ -13,7 +13,6 @@ pub fn plans_run_in_turn<T, E, X, I, S>()
 {}
 
 /// Entering a task is running it, and then what follows it with the steps that are left: the meaning as a recursion over the tree.
-#[tactic(auto, using(crate::proofs::Laws::run_enter))]
 pub fn a_task_runs_first<T, E, X, I, S>()
     ensures { (L : Language T E X I S) (n : ℕ) (t : T) (s : X) (next : E → X → Plan T E X I) (z : S) → run L n (enter t s next) z ≡ follow (run L n (enter t s ends) z) (λ e x w m. run L m (next e x) w) }
 {}
