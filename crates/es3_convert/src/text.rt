@@ -1,0 +1,154 @@
+//! The texts of values (ES3 9.8).
+
+ghost use Rattle.std.specs.Prelude.{◌≡◌, ◌++◌, IfOk, OnOk};
+ghost use Rattle.caja_units.specs.Index.{number_units};
+ghost use Rattle.caja_units.specs.Number.{number_text};
+ghost use Rattle.es3_heap.specs.Properties.{own, value_of};
+ghost use Rattle.es3_convert.specs.Answers.{Answers};
+ghost use Rattle.es3_convert.specs.Conversions.{primitive_text, converts, item_text, text_within, text_of};
+ghost use Rattle.es3_convert.specs.Texts.{separator, array_text, object_text};
+
+use crate::array::{array_len, item};
+use caja_num::Whole;
+use caja_units::{Memory, Units};
+use es3_heap::{Class, Heap, ObjId, Stop, Value};
+use std::alloc::Global;
+
+/// How many arrays may be nested in one another.
+const MOST_NESTED: u32 = 32;
+
+/// What stands between two items.
+const COMMA: u16 = b',' as u16;
+
+/// Want of memory stops the run.
+pub fn out_of_memory(_memory: Memory) -> Stop
+    ensures { result ≡ Stop.Memory }
+{
+    Stop::Memory
+}
+
+/// The text of a number (ES3 9.8.1).
+pub fn number_text(alloc: Global, n: Whole) -> Result<Units, Memory>
+    ensures { IfOk result (λ text. text ≡ number_text n) }
+{
+    let number = n.get();
+    let text = format!(in alloc; "{number}")?;
+    Units::from_ascii(alloc, text.as_bytes())
+}
+
+/// The name of an index (ES3 9.8.1, 15.4).
+pub fn index_key(alloc: Global, index: u64) -> Result<Units, Memory>
+    ensures { IfOk result (λ text. text ≡ number_units index) }
+{
+    let text = format!(in alloc; "{index}")?;
+    Units::from_ascii(alloc, text.as_bytes())
+}
+
+/// The text of a value that is no object (ES3 9.8), and the empty text of an object.
+pub fn primitive_text(alloc: Global, v: &Value) -> Result<Units, Memory>
+    ensures { IfOk result (λ text. text ≡ primitive_text v.now) }
+{
+    match v {
+        Value::Undefined => Units::from_ascii(alloc, b"undefined"),
+        Value::Null => Units::from_ascii(alloc, b"null"),
+        Value::Bool(true) => Units::from_ascii(alloc, b"true"),
+        Value::Bool(false) => Units::from_ascii(alloc, b"false"),
+        Value::Num(n) => number_text(alloc, *n),
+        Value::Text(text) => text.copy(alloc),
+        Value::Obj(_) => Units::from_ascii(alloc, b""),
+    }
+}
+
+/// Whether an object's conversions are the built-in ones (ES3 8.6.2.6).
+fn converts(alloc: Global, h: &Heap, o: ObjId) -> Result<bool, Memory>
+    ensures { IfOk result (λ b. b ≡ converts h.now o) }
+{
+    let to_string = Units::from_ascii(alloc, b"toString")?;
+    let value_of = Units::from_ascii(alloc, b"valueOf")?;
+    Ok(!h.has(o, &to_string) && !h.has(o, &value_of))
+}
+
+/// Appends a text.
+fn push_text(units: &mut Vec<u16>, text: &Units) -> Result<(), Memory>
+    ensures { OnOk result (units.new.items ≡ units.old.items ++ text.now) }
+{
+    for at in 0..text.len() {
+        if let Some(unit) = text.at(at) {
+            units.push(unit)?;
+        }
+    }
+    Ok(())
+}
+
+/// Appends the text of the item at an index to those of the items before it.
+fn push_item(units: &mut Vec<u16>, index: u64, text: &Units) -> Result<(), Memory>
+    ensures { OnOk result (units.new.items ≡ units.old.items ++ (separator index ++ text.now)) }
+{
+    if index > 0 {
+        units.push(COMMA)?;
+    }
+    push_text(units, text)
+}
+
+/// What the item at an index gives to the text of its array, where so many arrays may still be nested in it.
+#[cycle(text)]
+fn item_text(alloc: Global, nested: u32, h: &Heap, o: ObjId, index: u64) -> Result<Units, Stop>
+    ensures { Answers result (item_text (text_within nested h.now) (value_of (own h.now o (number_units index)))) }
+{
+    let item = item(alloc, h, o, index).map_err(out_of_memory)?;
+    match item {
+        Value::Undefined | Value::Null => Units::from_ascii(alloc, b"").map_err(out_of_memory),
+        _ => text_within(alloc, nested, h, &item),
+    }
+}
+
+/// The items of an array with a comma between each two (ES3 15.4.4.5).
+#[cycle(text)]
+fn array_text(alloc: Global, nested: u32, h: &Heap, o: ObjId) -> Result<Units, Stop>
+    ensures { Answers result (array_text nested h.now o) }
+{
+    if nested == 0 {
+        return Err(Stop::Depth);
+    }
+    let count = array_len(alloc, h, o).map_err(out_of_memory)?;
+    let mut units = Vec::new(alloc);
+    for index in 0..count {
+        let item = item_text(alloc, nested - 1, h, o, index)?;
+        push_item(&mut units, index, &item).map_err(out_of_memory)?;
+    }
+    Units::from_units(alloc, &units).map_err(out_of_memory)
+}
+
+/// The text of an object by its class (ES3 15.2.4.2, 15.3.4.2, 15.4.4.2).
+#[cycle(text)]
+fn object_text(alloc: Global, nested: u32, h: &Heap, o: ObjId) -> Result<Units, Stop>
+    ensures { Answers result (object_text nested h.now o) }
+{
+    if !converts(alloc, h, o).map_err(out_of_memory)? {
+        return Err(Stop::Convert);
+    }
+    match h.class(o) {
+        Class::Array => array_text(alloc, nested, h, o),
+        Class::Function => Units::from_ascii(alloc, b"[object Function]").map_err(out_of_memory),
+        _ => Units::from_ascii(alloc, b"[object Object]").map_err(out_of_memory),
+    }
+}
+
+/// The text of a value, where so many arrays may still be nested in it.
+#[cycle(text)]
+fn text_within(alloc: Global, nested: u32, h: &Heap, v: &Value) -> Result<Units, Stop>
+    ensures { Answers result (text_within nested h.now v.now) }
+{
+    match v {
+        Value::Obj(o) => object_text(alloc, nested, h, *o),
+        _ => primitive_text(alloc, v).map_err(out_of_memory),
+    }
+}
+
+/// The text of a value (ES3 9.8). At most 32 arrays may be nested in one another, else the run stops (`Depth`); it stops
+/// too at an object that has a `toString` or a `valueOf` (`Convert`).
+pub fn to_text(alloc: Global, h: &Heap, v: &Value) -> Result<Units, Stop>
+    ensures { Answers result (text_of h.now v.now) }
+{
+    text_within(alloc, MOST_NESTED, h, v)
+}

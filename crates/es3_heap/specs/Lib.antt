@@ -1,0 +1,5 @@
+pub mod Objects
+pub mod Properties
+pub mod Making
+pub mod Reading
+pub mod Store

@@ -1,0 +1,346 @@
+//! The store: all objects of a run, each named by its number (ES3 8.6).
+
+ghost use Rattle.std.specs.Prelude.{◌≡◌, ◌≤◌, IfOk, OnOk, option_map, is_some, length, slice_get, slice_set};
+ghost use Rattle.std.specs.Option.{option_copied};
+ghost use Rattle.es3_heap.specs.Objects.{object_at, props_of, proto_of, callable_of, tag_of, class_of, with_object};
+ghost use Rattle.es3_heap.specs.Properties.{own, lookup, get, can_put, put, define, with_props, lengthened, written};
+ghost use Rattle.es3_heap.specs.Making.{proto_id, first_objects, new_objects, made, made_function, array_object, error_object, count_at, with_tag, raised, named};
+ghost use Rattle.es3_heap.specs.Reading.{property, kind_of, maker_of};
+
+use crate::object::{Callable, Object};
+use crate::slots;
+use crate::slots::Slot;
+use crate::value::{Attrs, Class, FuncKind, ObjId, Proto, Tag, Value};
+use caja_units::{Memory, Units};
+use std::alloc::Global;
+use std::marker::Model;
+
+/// The most objects of a store: 2^32 - 2.
+const MOST_OBJECTS: usize = 4_294_967_294;
+
+/// How many modules have a count.
+const MODULES: usize = 64;
+
+/// All objects, each named by its number, and for each of 64 modules how many objects were named for it.
+///
+/// An object that isn't in the store reads as one without properties, and a write to it does nothing.
+#[derive(Debug, Drop)]
+pub struct Heap {
+    alloc: Global,
+    // The name `length`, and the value of a property that isn't there.
+    length_key: Units,
+    undefined: Value,
+    objects: Vec<Object>,
+    counts: Vec<u32>,
+}
+
+impl Model for Heap {
+    ghost use Rattle.es3_heap.specs.Objects.{Objects};
+    ghost use Rattle.es3_heap.specs.Store.{IsStore};
+
+    ghost Value = { Objects };
+
+    ghost view = { λ h. record { list = h.objects.items; counts = h.counts.items } };
+
+    ghost invariant = { λ h. IsStore h.objects.items h.length_key h.undefined };
+}
+
+/// The prototype of each object that a store begins with, by its number.
+const FIRST_PROTOS: [Option<u32>; 10] = [
+    None,
+    Some(0),
+    Some(0),
+    Some(0),
+    Some(0),
+    Some(0),
+    Some(0),
+    Some(6),
+    Some(6),
+    Some(0),
+];
+
+impl Heap {
+    /// A store with the ten prototypes.
+    pub fn new(alloc: Global) -> Result<Heap, Memory>
+        ensures { IfOk result (λ h. h ≡ new_objects) }
+    {
+        Ok(Heap {
+            alloc,
+            length_key: Units::from_ascii(alloc, b"length")?,
+            undefined: Value::Undefined,
+            objects: first_objects(alloc)?,
+            counts: vec![in alloc; 0; MODULES]?,
+        })
+    }
+
+    /// How many objects there are.
+    pub fn len(&self) -> usize
+        ensures count { result ≡ length self.now.list }
+        ensures bound { result ≤ 4294967294 }
+    {
+        self.objects.len()
+    }
+
+    /// A prototype that the store began with.
+    pub fn proto(&self, p: Proto) -> ObjId
+        ensures { result ≡ proto_id p }
+    {
+        p.object()
+    }
+
+    /// The object of a number.
+    fn object(&self, o: ObjId) -> Option<&Object>
+        ensures { option_copied result ≡ object_at self.now o }
+    {
+        self.objects.get(o.number() as usize)
+    }
+
+    /// The properties of an object.
+    fn slots(&self, o: ObjId) -> &[Slot]
+        ensures { result.now ≡ props_of (object_at self.now o) }
+    {
+        match self.object(o) {
+            Some(object) => &object.slots,
+            None => &[],
+        }
+    }
+
+    /// An object's prototype (ES3 8.6.2, [[Prototype]]).
+    pub fn proto_of(&self, o: ObjId) -> Option<ObjId>
+        ensures { result ≡ proto_of (object_at self.now o) }
+    {
+        self.object(o)?.proto
+    }
+
+    /// The module that made a function.
+    pub fn maker(&self, o: ObjId) -> Option<u32>
+        ensures { result ≡ maker_of (callable_of (object_at self.now o)) }
+    {
+        Some(self.callable(o)?.maker)
+    }
+
+    /// What a call of a function runs; an object that is no function has none.
+    pub fn kind(&self, o: ObjId) -> Option<FuncKind>
+        ensures { result ≡ kind_of (callable_of (object_at self.now o)) }
+    {
+        Some(self.callable(o)?.kind)
+    }
+
+    /// What is told of an object that is a function.
+    fn callable(&self, o: ObjId) -> Option<Callable>
+        ensures { result ≡ callable_of (object_at self.now o) }
+    {
+        self.object(o)?.callable
+    }
+
+    /// An object's class (ES3 8.6.2, [[Class]]).
+    pub fn class(&self, o: ObjId) -> Class
+        ensures { result ≡ class_of (object_at self.now o) }
+    {
+        match self.object(o) {
+            Some(object) => object.class,
+            None => Class::Object,
+        }
+    }
+
+    /// The name that the log gives an object.
+    pub fn tag(&self, o: ObjId) -> Tag
+        ensures { result ≡ tag_of (object_at self.now o) }
+    {
+        match self.object(o) {
+            Some(object) => object.tag,
+            None => Tag::None,
+        }
+    }
+
+    /// An object's own property, and None exactly where it has none of that key.
+    pub fn own(&self, o: ObjId, k: &Units) -> Option<(&Value, Attrs)>
+        ensures { own self.now o k.now ≡ option_map (λ p. property k.now p.0.now p.1) result }
+    {
+        let slot = slots::find(self.slots(o), k)?;
+        Some((&slot.value, slot.attrs))
+    }
+
+    /// The property of a key of an object or of the first prototype above it that has one.
+    fn lookup(&self, o: ObjId, k: &Units) -> Option<&Slot>
+        ensures { option_copied result ≡ lookup self.now o k.now }
+    {
+        let mut next = Some(o);
+        for _above in 0..self.objects.len() {
+            let here = next?;
+            let found = slots::find(self.slots(here), k);
+            if found.is_some() {
+                return found;
+            }
+            next = self.proto_of(here);
+        }
+        None
+    }
+
+    /// The value of a key of an object or of the prototypes above it, undefined where none has it (ES3 8.6.2.1).
+    pub fn get(&self, o: ObjId, k: &Units) -> &Value
+        ensures { result.now ≡ get self.now o k.now }
+    {
+        match self.lookup(o, k) {
+            Some(slot) => &slot.value,
+            None => &self.undefined,
+        }
+    }
+
+    /// Whether an object or a prototype above it has a key (ES3 8.6.2.4).
+    pub fn has(&self, o: ObjId, k: &Units) -> bool
+        ensures { result ≡ is_some (lookup self.now o k.now) }
+    {
+        self.lookup(o, k).is_some()
+    }
+
+    /// Writes a value to a property (ES3 8.6.2.2). The answer is whether that may be done (8.6.2.3); where it may not,
+    /// nothing is written.
+    pub fn put(&mut self, o: ObjId, k: &Units, v: Value) -> Result<bool, Memory>
+        ensures answer { IfOk result (λ b. b ≡ can_put self.old o k.now) }
+        ensures store { OnOk result (self.new ≡ put self.old o k.now v) }
+    {
+        if !self.can_put(o, k) {
+            return Ok(false);
+        }
+        self.write(o, k, v)?;
+        Ok(true)
+    }
+
+    /// Whether a property may be written (ES3 8.6.2.3).
+    fn can_put(&self, o: ObjId, k: &Units) -> bool
+        ensures { result ≡ can_put self.now o k.now }
+    {
+        match self.lookup(o, k) {
+            Some(slot) => !slot.attrs.read_only,
+            None => true,
+        }
+    }
+
+    /// Writes a value to an own property that may be written.
+    fn write(&mut self, o: ObjId, k: &Units, v: Value) -> Result<(), Memory>
+        ensures { OnOk result (self.new ≡ with_props self.old o (object_at self.old o)
+            (lengthened (class_of (object_at self.old o)) k.now (written k.now v (props_of (object_at self.old o))))) }
+    {
+        let at = o.number() as usize;
+        if at >= self.objects.len() {
+            return Ok(());
+        }
+        let object = &mut self.objects[at];
+        object.put(self.alloc, &self.length_key, k, v)
+    }
+
+    /// Gives a property this value and these attributes, whatever was there.
+    pub fn define(&mut self, o: ObjId, k: &Units, v: Value, a: Attrs) -> Result<(), Memory>
+        ensures { OnOk result (self.new ≡ define self.old o k.now v a) }
+    {
+        let at = o.number() as usize;
+        if at >= self.objects.len() {
+            return Ok(());
+        }
+        let object = &mut self.objects[at];
+        slots::define(&mut object.slots, self.alloc, k, v, a)
+    }
+
+    /// Gives an object a name for the log.
+    pub fn set_tag(&mut self, o: ObjId, t: Tag)
+        ensures { self.new ≡ with_tag self.old o (object_at self.old o) t }
+    {
+        let at = o.number() as usize;
+        if at < self.objects.len() {
+            let object = &mut self.objects[at];
+            object.tag = t;
+        }
+    }
+
+    /// Gives an object the next name of a module. A count stands still at 2^32 - 1.
+    pub fn name_next(&mut self, o: ObjId, by: u32)
+        ensures { self.new ≡ named self.old o by }
+    {
+        let number = next_number(&mut self.counts, by);
+        self.set_tag(o, Tag::Made(by, number));
+    }
+
+    /// A new object, the last; there is no memory for 2^32 - 1 objects.
+    fn push(&mut self, object: Object) -> Result<ObjId, Memory>
+        ensures id { IfOk result (λ o. o ≡ length self.old.list) }
+        ensures store { OnOk result (self.new ≡ with_object self.old object) }
+    {
+        let count = self.objects.len();
+        if count >= MOST_OBJECTS {
+            return Err(Memory);
+        }
+        self.objects.push(object)?;
+        Ok(ObjId::new(count as u32))
+    }
+
+    /// A new object that is no function, without properties.
+    pub fn make(&mut self, class: Class, proto: Option<ObjId>) -> Result<ObjId, Memory>
+        ensures id { IfOk result (λ o. o ≡ length self.old.list) }
+        ensures store { OnOk result (self.new ≡ made class proto self.old) }
+    {
+        let object = Object::bare(self.alloc, class, proto, None);
+        self.push(object)
+    }
+
+    /// A new function without properties (ES3 13.2), with what a call of it runs and the module that makes it.
+    pub fn make_func(&mut self, kind: FuncKind, maker: u32) -> Result<ObjId, Memory>
+        ensures id { IfOk result (λ o. o ≡ length self.old.list) }
+        ensures store { OnOk result (self.new ≡ made_function kind maker self.old) }
+    {
+        let callable = Some(Callable { kind, maker });
+        let object = Object::bare(
+            self.alloc,
+            Class::Function,
+            Some(Proto::Function.object()),
+            callable,
+        );
+        self.push(object)
+    }
+
+    /// A new array of these items (ES3 11.1.4, 15.4.2.1).
+    pub fn make_array(&mut self, items: Vec<Value>) -> Result<ObjId, Memory>
+        ensures id { IfOk result (λ o. o ≡ length self.old.list) }
+        ensures store { OnOk result (self.new ≡ with_object self.old (array_object items.items)) }
+    {
+        let object = Object::array(self.alloc, &self.length_key, items)?;
+        self.push(object)
+    }
+
+    /// A new error with its name and message (ES3 15.11).
+    pub fn make_error(&mut self, proto: Proto, name: Units, message: Units) -> Result<ObjId, Memory>
+        ensures id { IfOk result (λ o. o ≡ length self.old.list) }
+        ensures store { OnOk result (self.new ≡ with_object self.old (error_object proto name message)) }
+    {
+        let object = Object::error(self.alloc, proto, name, message)?;
+        self.push(object)
+    }
+}
+
+/// The prototypes that a store begins with.
+fn first_objects(alloc: Global) -> Result<Vec<Object>, Memory>
+    ensures { IfOk result (λ v. v.items ≡ first_objects) }
+{
+    let mut objects = Vec::with_capacity(alloc, FIRST_PROTOS.len())?;
+    for proto in FIRST_PROTOS {
+        objects.push(Object::bare(alloc, Class::Object, proto.map(ObjId::new), None))?;
+    }
+    Ok(objects)
+}
+
+/// The number of the next name of a module, which is counted.
+fn next_number(counts: &mut [u32], by: u32) -> u32
+    ensures number { result ≡ count_at (slice_get counts.old by) }
+    ensures counted { counts.new ≡ slice_set counts.old by (raised (count_at (slice_get counts.old by))) }
+{
+    let at = by as usize;
+    if at >= counts.len() {
+        return 0;
+    }
+    let number = counts[at];
+    counts[at] = number.saturating_add(1);
+    number
+}
+
+#[cfg(test)]
+mod tests;

@@ -1,0 +1,102 @@
+use super::Heap;
+use crate::value::{Attrs, Class, FuncKind, Proto, Tag, Value};
+use caja_num::Whole;
+use caja_units::Units;
+use std::test::Fail;
+
+fn number(v: i64) -> Value {
+    Whole::new(v).map_or(Value::Null, Value::Num)
+}
+
+fn in_number(v: &Value) -> Option<i64> {
+    match v {
+        Value::Num(n) => Some(n.get()),
+        _ => None,
+    }
+}
+
+fn is_text(v: &Value, text: &Units) -> bool {
+    match v {
+        Value::Text(units) => units.same(text),
+        _ => false,
+    }
+}
+
+#[test]
+fn a_write_hides_the_property_of_the_prototype(rt: HostRuntime) -> Result<(), Fail> {
+    let x = Units::from_ascii(rt.alloc(), b"x")?;
+    let mut heap = Heap::new(rt.alloc())?;
+    let above = heap.make(Class::Object, Some(heap.proto(Proto::Object)))?;
+    let below = heap.make(Class::Object, Some(above))?;
+    assert!(rt; heap.put(above, &x, number(1))?);
+    assert_eq!(rt; in_number(heap.get(below, &x)), Some(1));
+    assert!(rt; heap.own(below, &x).is_none());
+    assert!(rt; heap.has(below, &x));
+    assert!(rt; heap.put(below, &x, number(2))?);
+    assert_eq!(rt; heap.own(below, &x).and_then(|p| in_number(p.0)), Some(2));
+    assert_eq!(rt; in_number(heap.get(above, &x)), Some(1));
+    Ok(())
+}
+
+#[test]
+fn a_property_above_that_is_read_only_is_not_hidden(rt: HostRuntime) -> Result<(), Fail> {
+    let x = Units::from_ascii(rt.alloc(), b"x")?;
+    let mut heap = Heap::new(rt.alloc())?;
+    let above = heap.make(Class::Object, None)?;
+    let below = heap.make(Class::Object, Some(above))?;
+    heap.define(above, &x, number(1), Attrs::FIXED)?;
+    assert!(rt; !heap.put(below, &x, number(2))?);
+    assert!(rt; heap.own(below, &x).is_none());
+    Ok(())
+}
+
+#[test]
+fn objects_of_a_module_are_numbered(rt: HostRuntime) -> Result<(), Fail> {
+    let mut heap = Heap::new(rt.alloc())?;
+    let first = heap.make(Class::Object, None)?;
+    let second = heap.make(Class::Object, None)?;
+    heap.name_next(first, 3);
+    heap.name_next(second, 3);
+    assert_eq!(rt; heap.tag(first), Tag::Made(3, 0));
+    assert_eq!(rt; heap.tag(second), Tag::Made(3, 1));
+    heap.set_tag(first, Tag::Built(7));
+    assert_eq!(rt; heap.tag(first), Tag::Built(7));
+    Ok(())
+}
+
+#[test]
+fn a_text_is_copied(rt: HostRuntime) -> Result<(), Fail> {
+    let a = Units::from_ascii(rt.alloc(), b"a")?;
+    let text = Value::Text(Units::from_ascii(rt.alloc(), b"a")?);
+    assert!(rt; is_text(&text.copy(rt.alloc())?, &a));
+    Ok(())
+}
+
+#[test]
+fn an_array_is_longer_than_its_indices(rt: HostRuntime) -> Result<(), Fail> {
+    let length = Units::from_ascii(rt.alloc(), b"length")?;
+    let five = Units::from_ascii(rt.alloc(), b"5")?;
+    let mut heap = Heap::new(rt.alloc())?;
+    let array = heap.make_array(vec![in rt.alloc(); number(10), number(20)]?)?;
+    assert_eq!(rt; in_number(heap.get(array, &length)), Some(2));
+    assert!(rt; heap.put(array, &five, number(30))?);
+    assert_eq!(rt; in_number(heap.get(array, &length)), Some(6));
+    Ok(())
+}
+
+#[test]
+fn a_function_and_an_error_are_told_from_objects(rt: HostRuntime) -> Result<(), Fail> {
+    let name = Units::from_ascii(rt.alloc(), b"name")?;
+    let message = Units::from_ascii(rt.alloc(), b"no such name")?;
+    let range = Units::from_ascii(rt.alloc(), b"RangeError")?;
+    let mut heap = Heap::new(rt.alloc())?;
+    let function = heap.make_func(FuncKind::Code(4), 3)?;
+    let error = heap.make_error(Proto::RangeError, range.copy(rt.alloc())?, message)?;
+    assert_eq!(rt; heap.len(), 12);
+    assert_eq!(rt; heap.kind(function), Some(FuncKind::Code(4)));
+    assert_eq!(rt; heap.maker(function), Some(3));
+    assert_eq!(rt; heap.class(error), Class::Error);
+    assert_eq!(rt; heap.proto_of(error), Some(heap.proto(Proto::RangeError)));
+    assert!(rt; is_text(heap.get(error, &name), &range));
+    Ok(())
+}

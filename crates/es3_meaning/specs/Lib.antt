@@ -1,0 +1,4 @@
+pub mod Store
+pub mod References
+pub mod Natives
+pub mod Meaning

@@ -1,0 +1,4 @@
+pub mod Measure
+pub mod Token
+pub mod Tree
+pub mod View

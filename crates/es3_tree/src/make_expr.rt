@@ -1,0 +1,123 @@
+ghost use Rattle.std.specs.Prelude.{◌≡◌, IfOk};
+ghost use Rattle.es3_tree.specs.Tree as tree;
+ghost use Rattle.es3_tree.specs.View.{expr, func, text, of_exprs, of_fields};
+
+use crate::boxed::boxed;
+use crate::{BinOp, Expr, Func, Name, UnOp};
+use caja_units::Memory;
+use std::alloc::Global;
+
+/// An array literal of these elements (ES3 11.1.4).
+#[tactic(auto, using(crate::proofs::Rows::view_array))]
+pub fn make_array(elements: Vec<Expr>) -> Expr
+    ensures { expr result ≡ tree.array (of_exprs elements.items) }
+{
+    Expr::Array(elements)
+}
+
+/// An object literal of these properties, each a key and its value (ES3 11.1.5).
+#[tactic(auto, using(crate::proofs::Rows::view_object))]
+pub fn make_object(properties: Vec<(Name, Expr)>) -> Expr
+    ensures { expr result ≡ tree.object (of_fields properties.items) }
+{
+    Expr::Object(properties)
+}
+
+/// A function expression (ES3 13).
+#[tactic(auto, using(crate::proofs::Rows::view_function))]
+pub fn make_function(alloc: Global, function: Func) -> Result<Expr, Memory>
+    ensures { IfOk result (λ x. expr x ≡ tree.function (func function)) }
+{
+    Ok(Expr::Func(boxed(alloc, function)?))
+}
+
+/// The member of an object by its name, `object.key` (ES3 11.2.1).
+pub fn make_dot(alloc: Global, object: Expr, key: Name) -> Result<Expr, Memory>
+    ensures { IfOk result (λ x. expr x ≡ tree.dot (expr object) (text key)) }
+{
+    Ok(Expr::Dot(boxed(alloc, object)?, key))
+}
+
+/// The member of an object by a computed key, `object[key]` (ES3 11.2.1).
+pub fn make_index(alloc: Global, object: Expr, key: Expr) -> Result<Expr, Memory>
+    ensures { IfOk result (λ x. expr x ≡ tree.index (expr object) (expr key)) }
+{
+    Ok(Expr::Index(boxed(alloc, object)?, boxed(alloc, key)?))
+}
+
+/// A call (ES3 11.2.3).
+#[tactic(auto, using(crate::proofs::Rows::view_call))]
+pub fn make_call(alloc: Global, callee: Expr, arguments: Vec<Expr>) -> Result<Expr, Memory>
+    ensures { IfOk result (λ x. expr x ≡ tree.call (expr callee) (of_exprs arguments.items)) }
+{
+    Ok(Expr::Call(boxed(alloc, callee)?, arguments))
+}
+
+/// A `new` with its arguments, none where the source gives none (ES3 11.2.2).
+#[tactic(auto, using(crate::proofs::Rows::view_new))]
+pub fn make_new(alloc: Global, constructor: Expr, arguments: Vec<Expr>) -> Result<Expr, Memory>
+    ensures { IfOk result (λ x. expr x ≡ tree.new (expr constructor) (of_exprs arguments.items)) }
+{
+    Ok(Expr::New(boxed(alloc, constructor)?, arguments))
+}
+
+/// A prefix operator that is no `++` or `--`, whose byte in the source is `at` (ES3 11.4).
+pub fn make_unary(alloc: Global, op: UnOp, operand: Expr, at: u32) -> Result<Expr, Memory>
+    ensures { IfOk result (λ x. expr x ≡ tree.unary op (expr operand)) }
+{
+    Ok(Expr::Unary(op, boxed(alloc, operand)?, at))
+}
+
+/// `++` where `up`, else `--`, before its operand where `before`, else behind it (ES3 11.3, 11.4.4, 11.4.5).
+pub fn make_step(alloc: Global, up: bool, before: bool, operand: Expr) -> Result<Expr, Memory>
+    ensures { IfOk result (λ x. expr x ≡ tree.step up before (expr operand)) }
+{
+    Ok(Expr::Step(up, before, boxed(alloc, operand)?))
+}
+
+/// A binary operator between its operands (ES3 11.5 to 11.10).
+pub fn make_binary(alloc: Global, op: BinOp, left: Expr, right: Expr) -> Result<Expr, Memory>
+    ensures { IfOk result (λ x. expr x ≡ tree.binary op (expr left) (expr right)) }
+{
+    Ok(Expr::Binary(op, boxed(alloc, left)?, boxed(alloc, right)?))
+}
+
+/// `left && right` (ES3 11.11).
+pub fn make_and(alloc: Global, left: Expr, right: Expr) -> Result<Expr, Memory>
+    ensures { IfOk result (λ x. expr x ≡ tree.and (expr left) (expr right)) }
+{
+    Ok(Expr::And(boxed(alloc, left)?, boxed(alloc, right)?))
+}
+
+/// `left || right` (ES3 11.11).
+pub fn make_or(alloc: Global, left: Expr, right: Expr) -> Result<Expr, Memory>
+    ensures { IfOk result (λ x. expr x ≡ tree.or (expr left) (expr right)) }
+{
+    Ok(Expr::Or(boxed(alloc, left)?, boxed(alloc, right)?))
+}
+
+/// `test ? yes : no` (ES3 11.12).
+pub fn make_cond(alloc: Global, test: Expr, yes: Expr, no: Expr) -> Result<Expr, Memory>
+    ensures { IfOk result (λ x. expr x ≡ tree.choice (expr test) (expr yes) (expr no)) }
+{
+    Ok(Expr::Cond(boxed(alloc, test)?, boxed(alloc, yes)?, boxed(alloc, no)?))
+}
+
+/// An assignment to `target`: `=` where there is no operator, else the operator's own, as `+=` (ES3 11.13).
+pub fn make_assign(
+    alloc: Global,
+    op: Option<BinOp>,
+    target: Expr,
+    value: Expr,
+) -> Result<Expr, Memory>
+    ensures { IfOk result (λ x. expr x ≡ tree.assign op (expr target) (expr value)) }
+{
+    Ok(Expr::Assign(op, boxed(alloc, target)?, boxed(alloc, value)?))
+}
+
+/// `left, right` (ES3 11.14).
+pub fn make_comma(alloc: Global, left: Expr, right: Expr) -> Result<Expr, Memory>
+    ensures { IfOk result (λ x. expr x ≡ tree.comma (expr left) (expr right)) }
+{
+    Ok(Expr::Comma(boxed(alloc, left)?, boxed(alloc, right)?))
+}
