@@ -8,11 +8,11 @@ use Rattle.caja_units.specs.Index.{number_units}
 use Rattle.es3_heap.specs.declared.value.Value.{Value}
 use Rattle.es3_heap.specs.declared.value.Value.TheVariants as v
 use Rattle.es3_heap.specs.declared.value.Stop.{Stop}
-use Rattle.es3_heap.specs.declared.value.Stop.TheVariants.{Number, Depth, Convert, Steps, Memory}
 use Rattle.es3_heap.specs.Objects.{Objects}
 use Rattle.es3_heap.specs.Properties.{own, value_of, length_of, length_key}
 use Rattle.es3_convert.specs.Answers.{Answers}
 use Rattle.es3_convert.specs.Conversions.{and_then, primitive_text, items_from, array_items, item_text, tail_text, joined, text_within}
+use Rattle.es3_convert.proofs.Faults.{and_then-fault}
 use Rattle.es3_convert.specs.Texts.{separator, rest_text, array_text, object_text}
 
 -- one unit more of a text that is appended
@@ -21,32 +21,29 @@ unit-pushed before us units i u h e =
     let within = slice_get_within us i u e in
     rw (take_more us i 0 within, get_or_from_slice_get us i u 0 e, h, append_assoc) refl
 
--- a fault of the first conversion is the fault of both
-pub and_then-fault : {A B : Type 0} (e : Stop) (first : Result A Fault) (go : A → Result B Fault) → Answers {A = A} (Err e) first → Answers {A = B} (Err e) (and_then first go)
-and_then-fault Number first go h = rw h refl
-and_then-fault Depth first go h = rw h refl
-and_then-fault Convert first go h = rw h refl
-and_then-fault Steps first go h = h
-and_then-fault Memory first go h = h
-
 -- an item, and what is left behind it
 rest_text-item : (i : ℕ) (text : Value → Result (List ℕ) Fault) (x : Value) (xs : List Value) → rest_text i text (x ∷ xs) ≡ and_then (item_text text x) (λ us. and_then (tail_text text xs) (λ ws. Ok (separator i ++ (us ++ ws))))
 rest_text-item zero text x xs = refl
 rest_text-item (suc i) text x xs = refl
-
-and_then-assoc : {A B C : Type 0} (first : Result A Fault) (go : A → Result B Fault) (on : B → Result C Fault) → and_then (and_then first go) on ≡ and_then first (λ x. and_then (go x) on)
-and_then-assoc (Ok x) go on = refl
-and_then-assoc (Err f) go on = refl
 
 behind : (before us mid : List ℕ) (tail : Result (List ℕ) Fault) → and_then (and_then tail (λ ws. Ok (mid ++ (us ++ ws)))) (λ ws. Ok (before ++ ws)) ≡ and_then tail (λ ws. Ok ((before ++ (mid ++ us)) ++ ws))
 behind before us mid (Ok ws) = ap (λ all. let r : Result (List ℕ) Fault = Ok all in r) (simp append_assoc)
 behind before us mid (Err f) = refl
 
 -- where there is an item at the index, the items from there on are that item and the others
-items_from-item : (n i : ℕ) (h : Objects) (o : ℕ) → i < n → items_from (n - i) i h o ≡ value_of (own h o (number_units i)) ∷ items_from (n - (i + 1)) (i + 1) h o
+pub items_from-item : (n i : ℕ) (h : Objects) (o : ℕ) → i < n → items_from (n - i) i h o ≡ value_of (own h o (number_units i)) ∷ items_from (n - (i + 1)) (i + 1) h o
 items_from-item n i h o less =
     let more : n - i ≡ suc (n - (i + 1)) = omega arith in
     rw more refl
+
+-- an item more of a list of items
+pub items_from-more : (n i : ℕ) (h : Objects) (o : ℕ) (before after all : List Value) (x : Value) → i < n
+    → before ++ items_from (n - i) i h o ≡ all
+    → x ≡ value_of (own h o (number_units i))
+    → after ≡ before ++ x ∷ []
+    → after ++ items_from (n - (i + 1)) (i + 1) h o ≡ all
+items_from-more n i h o before after all x less is item pushed =
+    rw (pushed, append_assoc, item, ← items_from-item n i h o less) is
 
 -- a turn of the loop: the text of the item at an index is appended, behind what stands before it
 pub rest_text-more : (n i : ℕ) (text : Value → Result (List ℕ) Fault) (h : Objects) (o : ℕ) (before us : List ℕ) (all : Result (List ℕ) Fault) → i < n

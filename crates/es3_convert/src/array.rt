@@ -2,6 +2,7 @@
 
 ghost use Rattle.std.specs.Prelude.{◌≡◌, ◌<◌, ◌^◌, IfOk};
 ghost use Rattle.caja_units.specs.Index.{number_units};
+ghost use Rattle.es3_convert.specs.Conversions.{array_items};
 ghost use Rattle.es3_heap.specs.Properties.{own, value_of, length_key, length_of};
 
 use crate::text::index_key;
@@ -10,7 +11,7 @@ use es3_heap::{Heap, ObjId, Value};
 use std::alloc::Global;
 
 /// An object's own property of a key, undefined where it has none.
-fn own_value(alloc: Global, h: &Heap, o: ObjId, k: &Units) -> Result<Value, Memory>
+pub fn own_value(alloc: Global, h: &Heap, o: ObjId, k: &Units) -> Result<Value, Memory>
     ensures { IfOk result (λ v. v ≡ value_of (own h.now o k.now)) }
 {
     match h.own(o, k) {
@@ -31,9 +32,22 @@ pub fn array_len(alloc: Global, h: &Heap, o: ObjId) -> Result<u64, Memory>
 }
 
 /// The item of an array at an index, from 0; a hole is undefined.
-pub fn item(alloc: Global, h: &Heap, o: ObjId, index: u64) -> Result<Value, Memory>
+pub fn array_item(alloc: Global, h: &Heap, o: ObjId, index: u64) -> Result<Value, Memory>
     ensures { IfOk result (λ v. v ≡ value_of (own h.now o (number_units index))) }
 {
     let key = index_key(alloc, index)?;
     own_value(alloc, h, o, &key)
+}
+
+/// The items of an array, in their order; a hole is undefined.
+pub fn array_items(alloc: Global, h: &Heap, o: ObjId) -> Result<Vec<Value>, Memory>
+    ensures { IfOk result (λ v. v.items ≡ array_items h.now o) }
+{
+    let count = array_len(alloc, h, o)?;
+    let mut items = Vec::new(alloc);
+    for index in 0..count {
+        let item = array_item(alloc, h, o, index)?;
+        items.push(item)?;
+    }
+    Ok(items)
 }

@@ -3,13 +3,24 @@
 //! A conversion runs no code of a text: where it would, it stops the run.
 #![tactic(auto)]
 
+ghost use Rattle.std.specs.Prelude.{◌≡◌};
+
 mod array;
 mod sum;
 mod text;
 
-pub use array::{array_len, item};
+pub use array::{array_item, array_items, array_len, own_value};
+use caja_units::Memory;
+use es3_heap::Stop;
 pub use sum::{add, to_primitive};
-pub use text::{index_key, number_text, out_of_memory, to_text};
+pub use text::{index_key, number_text, to_text};
+
+/// Want of memory stops the run.
+pub fn out_of_memory(_memory: Memory) -> Stop
+    ensures { result ≡ Stop.Memory }
+{
+    Stop::Memory
+}
 
 #[cfg(test)]
 mod tests;

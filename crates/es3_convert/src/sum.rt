@@ -4,7 +4,8 @@ ghost use Rattle.std.specs.Prelude.{◌≡◌};
 ghost use Rattle.es3_convert.specs.Answers.{Answers};
 ghost use Rattle.es3_convert.specs.Conversions.{primitive_of, plain_number, number_or_fault, sum_of_numbers, sum_of_primitives, sum_of};
 
-use crate::text::{out_of_memory, primitive_text, to_text};
+use crate::out_of_memory;
+use crate::text::{primitive_text, to_text};
 use caja_num::Whole;
 use es3_heap::{Heap, Stop, Value};
 use std::alloc::Global;

@@ -8,7 +8,8 @@ ghost use Rattle.es3_convert.specs.Answers.{Answers};
 ghost use Rattle.es3_convert.specs.Conversions.{primitive_text, converts, item_text, text_within, text_of};
 ghost use Rattle.es3_convert.specs.Texts.{separator, array_text, object_text};
 
-use crate::array::{array_len, item};
+use crate::array::{array_item, array_len};
+use crate::out_of_memory;
 use caja_num::Whole;
 use caja_units::{Memory, Units};
 use es3_heap::{Class, Heap, ObjId, Stop, Value};
@@ -19,13 +20,6 @@ const MOST_NESTED: u32 = 32;
 
 /// What stands between two items.
 const COMMA: u16 = b',' as u16;
-
-/// Want of memory stops the run.
-pub fn out_of_memory(_memory: Memory) -> Stop
-    ensures { result ≡ Stop.Memory }
-{
-    Stop::Memory
-}
 
 /// The text of a number (ES3 9.8.1).
 pub fn number_text(alloc: Global, n: Whole) -> Result<Units, Memory>
@@ -95,7 +89,7 @@ fn push_item(units: &mut Vec<u16>, index: u64, text: &Units) -> Result<(), Memor
 fn item_text(alloc: Global, nested: u32, h: &Heap, o: ObjId, index: u64) -> Result<Units, Stop>
     ensures { Answers result (item_text (text_within nested h.now) (value_of (own h.now o (number_units index)))) }
 {
-    let item = item(alloc, h, o, index).map_err(out_of_memory)?;
+    let item = array_item(alloc, h, o, index).map_err(out_of_memory)?;
     match item {
         Value::Undefined | Value::Null => Units::from_ascii(alloc, b"").map_err(out_of_memory),
         _ => text_within(alloc, nested, h, &item),

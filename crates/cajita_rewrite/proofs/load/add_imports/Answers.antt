@@ -1,0 +1,14 @@
+use Rattle.std.proofs.Common.{◌+◌, List, drop, sym, ap, ◌∙◌, arith}
+use Rattle.es3_tree.specs.Tree as tree
+use Rattle.es3_tree.specs.View.{of_stmts}
+use Rattle.cajita_rewrite.specs.Rewrite.{import_stmts, joined}
+use Rattle.cajita_rewrite.proofs.Joined.{imports-turn, imports-end}
+use Rattle.cajita_rewrite.proofs.load.add_imports.Goals as goal
+
+pub loop-name-preserved : goal.loop-name-preserved
+loop-name-preserved c =
+    imports-turn c.args.imports.now c.loop-name.name-index c.name-item.result c.loop-name.out.items _ c.in_ok-import.field-0 (omega arith) c.name-item.is c.in_ok-import.ensures c.in_ok-push.ensures.items
+    ∙ c.loop-name.invariant
+
+pub returns : goal.returns
+returns c = sym (imports-end c.args.imports.now c.loop-name.name-index c.loop-name.out.items (omega arith)) ∙ c.loop-name.invariant

@@ -1,0 +1,12 @@
+use Rattle.std.proofs.Common.{[], ◌∷◌, ◌++◌, sym, ap, ◌∙◌, arith}
+use Rattle.es3_tree.specs.declared.Expr.TheVariants as e
+use Rattle.cajita_rewrite.proofs.Joined.{fields-turn, fields-end}
+use Rattle.cajita_rewrite.proofs.walk.+rewrite.Goals as goal
+
+pub rewrite_fields-loop-key-preserved : goal.rewrite_fields-loop-key-preserved
+rewrite_fields-loop-key-preserved m c =
+    fields-turn c.args.fields.now c.loop-key.key-index c.loop-key-item.result c.loop-key.pairs.items _ _ c.in_ok-copy.field-0 c.in_ok-rewrite_expr.field-0 (omega arith) c.loop-key-item.is c.in_ok-copy.ensures c.in_ok-rewrite_expr.ensures c.in_ok-push.ensures.items c.in_ok-push-2.ensures.items
+    ∙ c.loop-key.invariant
+
+pub rewrite_fields-returns : goal.rewrite_fields-returns
+rewrite_fields-returns m c = sym (fields-end c.args.fields.now c.loop-key.key-index c.loop-key.pairs.items (omega arith)) ∙ c.loop-key.invariant

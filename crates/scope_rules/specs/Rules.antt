@@ -1,0 +1,26 @@
+-- Which names and keys the first language has, beside those that are barred everywhere.
+use Rattle.std.specs.Prelude.{ℕ, ◌&&◌, not, Bool, List, [], ◌∷◌, codes}
+use Rattle.std.specs.List.{list_any}
+use Rattle.caja_units.specs.Units.{same_units, is_hidden}
+
+-- the names that every module has without declaring them
+abbrev pub fixed_names : List (List ℕ)
+fixed_names =
+    codes "undefined" ∷ codes "cajita" ∷ codes "Math" ∷ codes "Error" ∷ codes "TypeError" ∷ codes "RangeError" ∷ codes "Number" ∷ codes "String" ∷ codes "Boolean"
+    ∷ codes "say" ∷ codes "later" ∷ []
+
+-- the methods that texts have (ES3 15.5.4), and their length
+abbrev pub text_keys : List (List ℕ)
+text_keys =
+    codes "charAt" ∷ codes "charCodeAt" ∷ codes "indexOf" ∷ codes "lastIndexOf" ∷ codes "slice" ∷ codes "substring" ∷ codes "split" ∷ codes "concat" ∷ codes "length" ∷ []
+
+abbrev pub is_among : List (List ℕ) → List ℕ → Bool
+is_among names x = list_any (same_units x) names
+
+-- a name that a module may declare: not one that it has already, and none that ends in two underscores
+abbrev pub is_free : List ℕ → Bool
+is_free x = not (is_hidden x) && not (is_among fixed_names x)
+
+-- a key behind a point
+abbrev pub is_member_key : List ℕ → Bool
+is_member_key k = not (is_hidden k) && not (is_among text_keys k)
