@@ -78,7 +78,7 @@ value_or_stop (Err f) s = stops f s
 -- an error that the interpreter itself throws has no name in the log (15.11.6.5)
 abbrev pub throw_error : List ℕ → Store → Plan
 throw_error message s =
-  ends (threw (Obj (length s.heap.list))) (with_heap s (with_object s.heap (error_object proto.TypeError (codes "TypeError") message)))
+    ends (threw (Obj (length s.heap.list))) (with_heap s (with_object s.heap (error_object proto.TypeError (codes "TypeError") message)))
 
 -- touches
 
@@ -168,7 +168,7 @@ on_each keep acc e s go end = end e s
 abbrev pub list : Bool → t.Tree t.stmts → Option Value → Env → Store → (Completion → Store → Plan) → Plan
 list keep t.no_stmts acc env s end = end (normal acc) s
 list keep (t.more_stmts x rest) acc env s end =
-  enter (effect_of x env) s (λ e s'. on_each keep acc e s' (λ v s''. list keep rest v env s'' end) end)
+    enter (effect_of x env) s (λ e s'. on_each keep acc e s' (λ v s''. list keep rest v env s'' end) end)
 
 abbrev pub list_rest : Bool → t.Tree t.stmts → Option Value → Env → (Completion → Store → Plan) → Completion → Store → Plan
 list_rest keep rest acc env end e s = on_each keep acc e s (λ v s'. list keep rest v env s' end) end
@@ -185,9 +185,9 @@ body_end e s = ends (gave Undefined) s
 abbrev pub open_code : Option Code → ℕ → List Value → ℕ → Store → Plan
 open_code None by vs calls s = throw_error (codes "not a function") s
 open_code (Some c) by vs calls s =
-  if nat_lt calls 1000
-  then list true c.body None (record { chain = length s.scopes ∷ c.chain; calls = calls + 1; by = by }) (with_scope (first_names c vs) s) body_end
-  else stops depth_fault s
+    if nat_lt calls 1000
+    then list true c.body None (record { chain = length s.scopes ∷ c.chain; calls = calls + 1; by = by }) (with_scope (first_names c vs) s) body_end
+    else stops depth_fault s
 
 -- 13.2.1: what a call of a function does; a function of a text runs as the module that made it
 abbrev pub apply_kind : FuncKind → ℕ → Value → List Value → Env → Store → Plan
@@ -314,7 +314,7 @@ task_plan T (value_of e env) s z = expr_plan e env s
 task_plan T (target_of e env) s z = target_plan e env s
 task_plan T (effect_of x env) s z = stmt_plan x env s
 task_plan T (native_call w this vs env) s z =
-  let turn = T.answer w env.by this vs s.heap z in reply_plan turn.reply env (with_heap s turn.heap)
+    let turn = T.answer w env.by this vs s.heap z in reply_plan turn.reply env (with_heap s turn.heap)
 
 abbrev pub task_state : {S : Type 0} → Table S → Task → Store → S → S
 task_state T (native_call w this vs env) s z = (T.answer w env.by this vs s.heap z).state

@@ -1,5 +1,5 @@
 -- References (ES3 8.7): what a name or a member stands for before it is read or written.
-use Rattle.std.specs.Prelude.{ℕ, Bool, true, false, List, [], ◌∷◌, Option, Some, None, is_some, length, slice_get, slice_set, codes, pos, if◌then◌else◌}
+use Rattle.std.specs.Prelude.{ℕ, List, [], ◌∷◌, Option, Some, None, is_some, length, slice_get, slice_set, pos, if◌then◌else◌}
 use Rattle.caja_units.specs.Units.{same_units}
 use Rattle.es3_heap.specs.declared.value.Value.{Value}
 use Rattle.es3_heap.specs.declared.value.Value.TheVariants.{Undefined, Null, Bool as Truth, Num, Text, Obj}
@@ -7,7 +7,7 @@ use Rattle.es3_heap.specs.declared.value.Proto.TheVariants as proto
 use Rattle.es3_heap.specs.Objects.{Objects}
 use Rattle.es3_heap.specs.Properties.{get, put, lookup, length_key}
 use Rattle.es3_heap.specs.Making.{proto_id}
-use Rattle.es3_meaning.specs.Store.{Scope, Store, name_value, scope_at, with_name, with_heap}
+use Rattle.es3_meaning.specs.Store.{Store, name_value, scope_at, with_name, with_heap}
 
 pub data Ref : Type 0 where
   -- a name that no scope has

@@ -1,5 +1,5 @@
 -- What a running text changes: objects, scopes, and the functions that it made (ES3 10).
-use Rattle.std.specs.Prelude.{ℕ, ◌+◌, Bool, true, false, List, [], ◌∷◌, ◌++◌, Option, Some, None, is_some, length, slice_get, slice_set, codes, pos, if◌then◌else◌}
+use Rattle.std.specs.Prelude.{ℕ, List, [], ◌∷◌, ◌++◌, Option, Some, None, is_some, length, codes, pos, if◌then◌else◌}
 use Rattle.caja_units.specs.Units.{same_units}
 use Rattle.es3_tree.specs.Tree as t
 use Rattle.es3_heap.specs.declared.value.Value.{Value}
@@ -81,8 +81,8 @@ vars_of (t.more_stmts s rest) = var_names s ++ vars_of rest
 -- 13.2: a function object for the code of a text: its `length`, and a `prototype` whose `constructor` it is
 abbrev pub new_function : ℕ → ℕ → ℕ → Objects → Objects
 new_function code params maker h =
-  let f = length h.list in
-  let counted = define (made_function (CodeKind code) maker h) f length_key (Num (pos params)) fixed_attrs in
-  let p = length counted.list in
-  let prototype = define (made class.Object (Some (proto_id proto.Object)) counted) p (codes "constructor") (Obj f) hidden_attrs in
-  define prototype f (codes "prototype") (Obj p) kept_attrs
+    let f = length h.list in
+    let counted = define (made_function (CodeKind code) maker h) f length_key (Num (pos params)) fixed_attrs in
+    let p = length counted.list in
+    let prototype = define (made class.Object (Some (proto_id proto.Object)) counted) p (codes "constructor") (Obj f) hidden_attrs in
+    define prototype f (codes "prototype") (Obj p) kept_attrs
