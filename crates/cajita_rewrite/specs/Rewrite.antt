@@ -1,5 +1,5 @@
 -- The rewriting of Cajita modules to guarded ES3 programs: each form of the source as the form that stands for it.
-use Rattle.std.specs.Prelude.{ℕ, List, [], ◌∷◌, ◌++◌, Option, Some, None, codes}
+use Rattle.std.specs.Prelude.{ℕ, List, [], ◌∷◌, None, codes}
 use Rattle.es3_tree.specs.Tree as t
 use Rattle.es3_tree.specs.Tree.{Tree}
 use Rattle.cajita_tree.specs.Tree as c

@@ -5,11 +5,10 @@
 mod boxed;
 pub mod make;
 
-pub use make::{make_binary, make_read, make_record, make_var};
-
 use caja_num::Whole;
 use caja_units::Units;
 use es3_tree::BinOp;
+pub use make::{make_binary, make_read, make_record, make_var};
 
 /// The key of a member: a settled one is its 16-bit units.
 #[derive(Drop)]

@@ -1,5 +1,5 @@
 -- The guards that a rewritten module calls: what each answers, and the objects that it leaves. Sections are those of ES3, ECMA-262 third edition.
-use Rattle.std.specs.Prelude.{ℕ, ◌+◌, Bool, true, false, ◌||◌, List, [], ◌∷◌, Option, Some, None, Result, Ok, Err, length, slice_get, unwrap_or, nat_eq, nat_lt, pos, codes, if◌then◌else◌}
+use Rattle.std.specs.Prelude.{ℕ, Bool, true, false, ◌||◌, List, [], ◌∷◌, Option, Some, None, Result, Ok, Err, length, slice_get, unwrap_or, nat_eq, nat_lt, pos, codes, if◌then◌else◌}
 use Rattle.plans.specs.Plans.{Fault}
 use Rattle.caja_units.specs.Units.{same_units, is_hidden}
 use Rattle.caja_units.specs.Index.{array_index}

@@ -34,8 +34,7 @@ fn outcome(alloc: Global, h: &mut Heap, row: u32, by: u32, args: &[Value]) -> Re
 }
 
 /// A call of the guard of a number, while the module `by` runs: 5 is `initializeMap`, 7 is `readPub`, and another throws
-/// a TypeError `not a function`. An absent argument is undefined, and what an error or a record is made for takes the
-/// module's next name.
+/// a TypeError `not a function`. An absent argument is undefined, and a new error or record takes the module's next name.
 pub fn guard_row(alloc: Global, h: &mut Heap, row: u32, by: u32, args: &[Value]) -> Guarded
     ensures { GuardAnswers (guard row by args.now h.old) result h.new }
 {

@@ -1,7 +1,4 @@
-use Rattle.std.proofs.Common.{◌+◌, List, drop, sym, ap, ◌∙◌, arith}
-use Rattle.es3_tree.specs.Tree as tree
-use Rattle.es3_tree.specs.View.{of_stmts}
-use Rattle.cajita_rewrite.specs.Rewrite.{import_stmts, joined}
+use Rattle.std.proofs.Common.{sym, ◌∙◌, arith}
 use Rattle.cajita_rewrite.proofs.Joined.{imports-turn, imports-end}
 use Rattle.cajita_rewrite.proofs.load.add_imports.Goals as goal
 

@@ -1,5 +1,4 @@
-use Rattle.std.proofs.Common.{[], ◌∷◌, ◌++◌, sym, ap, ◌∙◌, arith}
-use Rattle.es3_tree.specs.declared.Expr.TheVariants as e
+use Rattle.std.proofs.Common.{sym, ◌∙◌, arith}
 use Rattle.cajita_rewrite.proofs.Joined.{fields-turn, fields-end}
 use Rattle.cajita_rewrite.proofs.walk.+rewrite.Goals as goal
 

@@ -1,0 +1,6 @@
+pub mod Where
+pub mod Known
+pub mod Code
+pub mod Texts
+pub mod Moves
+pub mod Answers

@@ -1,0 +1,16 @@
+//! The machine that runs ES3 texts (ECMA-262 third edition, 10 to 14), with explicit frames: a run needs no deep stack.
+#![tactic(auto)]
+
+mod call;
+mod engine;
+mod enter;
+mod function;
+mod load;
+mod machine;
+mod note;
+mod reference;
+mod resume;
+#[cfg(test)]
+mod tests;
+
+pub use machine::Machine;

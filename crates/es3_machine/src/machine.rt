@@ -1,0 +1,129 @@
+//! The machine, as its users see it.
+
+ghost use Rattle.std.specs.Prelude.{◌≡◌, ◌-◌, ◌≤◌, IfOk, OnOk, None, Some, []};
+ghost use Rattle.es3_tree.specs.View as v;
+ghost use Rattle.es3_heap.specs.Objects.{Objects};
+ghost use Rattle.es3_meaning.specs.Store.{Store};
+ghost use Rattle.es3_control.specs.Where.{plain_flow};
+ghost use Rattle.es3_machine.specs.Machine.{completed, run_started, Ran};
+ghost use Rattle.es3_machine.specs.Held.{started_of, store_in, new_store};
+ghost use Rattle.es3_machine.specs.Outcome.{answer_of};
+
+use crate::engine::{Engine, Outcome};
+use crate::load::load_stmts;
+use caja_units::Memory;
+use es3_control::code::StmtCode;
+use es3_control::frame::{Fault, Flow};
+use es3_control::natives::{Completion, Natives};
+use es3_control::texts::Texts;
+use es3_heap::{Heap, ObjId, Stop, Value};
+use es3_tree::Program;
+use std::alloc::Global;
+use std::marker::Model;
+use std::rc::Rc;
+
+/// What is to be run: the statements of a program, and the module that they are run as.
+#[derive(Drop)]
+pub struct Start {
+    program: Rc<Vec<Rc<StmtCode>>>,
+    by: u32,
+}
+
+/// A machine: what was started and is still to be run, and what the texts that ran made.
+#[derive(Drop)]
+pub struct Machine {
+    engine: Engine,
+    started: Option<Start>,
+}
+
+impl Model for Machine {
+    ghost use Rattle.es3_machine.specs.Held.{Held};
+    ghost use Rattle.std.specs.Coded.{codes};
+    ghost use Rattle.es3_control.specs.contracts.code.StmtCode as statement;
+    ghost use Rattle.es3_control.specs.contracts.frame.Chain as chain;
+
+    ghost Value = { Held };
+
+    ghost coded = { Prim.hlevel (codes, statement.the_row.coded, chain.the_row.coded) };
+
+    ghost view = { λ m. record { started = m.started; texts = m.engine.texts } };
+}
+
+impl Machine {
+    /// A machine whose texts have a global object (ES3 10.1.5). Nothing is started.
+    pub fn new(alloc: Global, globals: ObjId) -> Result<Machine, Memory>
+        ensures nothing { IfOk result (λ m. started_of m ≡ None) }
+        ensures store { IfOk result (λ m. (h : Objects) → store_in h m ≡ new_store h globals) }
+    {
+        let engine = Engine {
+            alloc,
+            frames: Vec::new(alloc),
+            texts: Texts::new(alloc, globals),
+            left: 0,
+        };
+        Ok(Machine {
+            engine,
+            started: None,
+        })
+    }
+
+    /// Starts a program as a module, in place of what was started before and not run (ES3 14).
+    pub fn start_program(&mut self, p: Program, by: u32) -> Result<(), Memory>
+        ensures started { OnOk result (started_of self.new ≡ Some (v.program p, by)) }
+        ensures store { (h : Objects) → store_in h self.new ≡ store_in h self.old }
+    {
+        let Program { body } = p;
+        let program = load_stmts(self.engine.alloc, body)?;
+        self.started = Some(Start { program, by });
+        Ok(())
+    }
+
+    /// Runs what was started, with so many steps at most. The answer is what it came to and the steps that it took, or
+    /// why it stopped for good; after it nothing is started. Where memory is wanting, nothing is told of the run.
+    pub fn run<N: Natives>(
+        &mut self,
+        h: &mut Heap,
+        natives: &mut N,
+        steps: u64,
+    ) -> Result<(Completion, u64), Stop>
+        ensures ran { Ran result (run_started N.table (started_of self.old) (store_in h.old self.old) (N.state natives.old) steps) steps (store_in h.new self.new) (N.state natives.new) }
+        ensures nothing { started_of self.new ≡ None }
+    {
+        let Some(start) = self.started.take() else {
+            return Ok((Completion::Normal(Value::Undefined), 0));
+        };
+        let Start { program, by } = start;
+        match self.engine.run(program, by, h, natives, steps) {
+            Ok(outcome) => answer(outcome, steps, self.engine.left),
+            Err(Memory) => Err(Stop::Memory),
+        }
+    }
+}
+
+/// What a run that ended so answers.
+fn answer(outcome: Outcome, steps: u64, left: u64) -> Result<(Completion, u64), Stop>
+    requires { left ≤ steps }
+    ensures { result ≡ answer_of outcome steps left }
+{
+    match outcome {
+        Outcome::Ended(flow) => Ok((complete(flow), steps - left)),
+        Outcome::Stopped(Fault::Number) => Err(Stop::Number),
+        Outcome::Stopped(Fault::Depth) => Err(Stop::Depth),
+        Outcome::Stopped(Fault::Convert) => Err(Stop::Convert),
+        Outcome::Spent => Err(Stop::Steps),
+    }
+}
+
+/// What a program came to (ES3 14).
+fn complete(flow: Flow) -> Completion
+    ensures { result ≡ completed (plain_flow flow) }
+{
+    match flow {
+        Flow::Normal(None) => Completion::Normal(Value::Undefined),
+        Flow::Normal(Some(v)) => Completion::Normal(v),
+        Flow::Threw(v) => Completion::Thrown(v),
+        Flow::Returned(v) => Completion::Normal(v),
+        Flow::Gave(v) => Completion::Normal(v),
+        Flow::Found(_reference) => Completion::Normal(Value::Undefined),
+    }
+}
