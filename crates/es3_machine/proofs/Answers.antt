@@ -1,19 +1,19 @@
 -- What a run answers.
 use Rattle.std.specs.Prelude.{option_map}
-use Rattle.std.proofs.Common.{◌≡◌, Some, ℕ, zero, suc, ◌+◌, ◌-◌, ◌≤◌, refl, sym, ap, ◌∙◌, subst, arith}
+use Rattle.std.proofs.Common.{◌≡◌, Some, ℕ, zero, suc, ◌≤◌, refl, sym, ap, ◌∙◌, subst, arith}
 use Rattle.plans.specs.Plans.{Plan, ends, stops, enter, tick, told, Language, bind, Run, over, stopped, out, run, count_of}
 use Rattle.plans.proofs.Laws.{run_count}
 use Rattle.es3_tree.specs.Tree as t
 use Rattle.es3_meaning.specs.Store.{Store}
 use Rattle.es3_meaning.specs.Natives.{Table}
-use Rattle.es3_meaning.specs.Meaning.{Run as RunOf, es3, program_plan, run_program}
+use Rattle.es3_meaning.specs.Meaning.{es3, program_plan, run_program}
 use Rattle.es3_control.specs.Where.{plain_flow}
 use Rattle.es3_control.specs.declared.frame.Fault.TheVariants.{Number, Depth, Convert}
 use Rattle.es3_control.specs.Code.{plain_stmts}
 use Rattle.es3_control.specs.Texts.{store_of}
 use Rattle.es3_control.specs.declared.texts.Texts.{Texts}
 use Rattle.es3_heap.specs.Objects.{Objects}
-use Rattle.es3_machine.specs.Machine.{completed, run_started, Ran}
+use Rattle.es3_machine.specs.Machine.{run_started, Ran}
 use Rattle.es3_machine.specs.Held.{Held, program_of, started_of, store_in}
 use Rattle.es3_machine.specs.declared.machine.Start.{Start}
 use Rattle.es3_machine.specs.Outcome.{ended, answer_of}

@@ -1,11 +1,10 @@
 -- What a call runs, by its parts.
-use Rattle.std.proofs.Common.{◌≡◌, ℕ, ◌<◌, ◌≤◌, List, Option, Some, None, length, get_or, refl, sym, ap, ◌∙◌}
+use Rattle.std.proofs.Common.{◌≡◌, ℕ, ◌<◌, ◌≤◌, List, Option, Some, None, length, get_or, refl, ap, ◌∙◌}
 use Rattle.std.specs.Prelude.{slice_get, map, option_map}
 use Rattle.std.proofs.lemmas.Option.{slice_get-map, slice_get_read, slice_get_past}
 use Rattle.es3_heap.specs.declared.value.FuncKind.{FuncKind}
 use Rattle.es3_heap.specs.Objects.{Callable}
 use Rattle.es3_heap.specs.Reading.{kind_of, maker_of}
-use Rattle.es3_meaning.specs.Store.{Code}
 use Rattle.es3_control.specs.Texts.{plain_code}
 use Rattle.es3_control.specs.declared.texts.Closure.{Closure}
 use Rattle.es3_machine.specs.Calls.{callable_parts}

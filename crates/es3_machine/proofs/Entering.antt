@@ -1,5 +1,5 @@
 -- What entering the code of a form does, in the words of the code.
-use Rattle.std.proofs.Common.{◌≡◌, List, [], Option, refl, sym, ap, ◌∙◌, Global}
+use Rattle.std.proofs.Common.{◌≡◌, List, [], sym, ap, ◌∙◌, Global}
 use Rattle.std.specs.Global.{Vec}
 use Rattle.std.specs.declared.rc.Rc.{Rc}
 use Rattle.plans.specs.Plans.{ends, enter}
@@ -19,7 +19,7 @@ use Rattle.es3_control.specs.declared.code.ExprCode.TheVariants as e
 use Rattle.es3_control.specs.declared.code.StmtCode.TheVariants as s
 use Rattle.es3_control.proofs.Rows.{view_array, view_function, view_call, view_var}
 use Rattle.es3_machine.specs.Calls.{is_name}
-use Rattle.es3_machine.proofs.Unknown.{unknown_again, unknown_target, unknown_effect_again, unknown_no_name}
+use Rattle.es3_machine.proofs.Unknown.{unknown_again, unknown_target, unknown_effect_again}
 
 pub entered_array : (x : ExprCode) (es es' : Rc (Vec (Rc ExprCode Global)) Global) (vs : List Value) (env : Env) (w : Store) → x ≡ e.Array es → es'.value ≡ es.value → vs ≡ [] → items vs (exprs_at es'.value.items 0) env w ≡ expr_plan (plain_expr x) env w
 entered_array x es es' vs env w is same none =

@@ -1,5 +1,5 @@
 -- Names that are bound at a call, one after another.
-use Rattle.std.proofs.Common.{◌≡◌, ℕ, zero, suc, ◌+◌, ◌<◌, List, [], ◌∷◌, ◌++◌, length, get_or, drop, refl, sym, ap, ◌∙◌, arith, append_assoc, Global}
+use Rattle.std.proofs.Common.{◌≡◌, ℕ, zero, suc, ◌+◌, ◌<◌, List, [], ◌∷◌, ◌++◌, length, get_or, drop, sym, ap, ◌∙◌, arith, append_assoc, Global}
 use Rattle.std.specs.Prelude.{slice_get}
 use Rattle.std.specs.declared.rc.Rc.{Rc}
 use Rattle.es3_heap.specs.declared.value.Value.{Value}

@@ -1,5 +1,5 @@
 -- Lists that are loaded from their ends.
-use Rattle.std.proofs.Common.{◌≡◌, ℕ, List, [], ◌∷◌, ◌++◌, Option, Some, None, refl, sym, ap, ◌∙◌, append_assoc, Global}
+use Rattle.std.proofs.Common.{◌≡◌, ℕ, List, [], ◌∷◌, ◌++◌, refl, sym, ap, ◌∙◌, append_assoc, Global}
 use Rattle.std.specs.Prelude.{map, reverse}
 use Rattle.std.proofs.lemmas.List.{map-append, reverse-append}
 use Rattle.std.specs.declared.rc.Rc.{Rc}
@@ -8,7 +8,7 @@ use Rattle.es3_tree.specs.View as v
 use Rattle.es3_tree.specs.declared.Expr.{Expr}
 use Rattle.es3_tree.specs.declared.Stmt.{Stmt}
 use Rattle.es3_tree.specs.declared.VarItem.{VarItem}
-use Rattle.es3_control.specs.Code.{plain_expr, plain_stmt, plain_exprs, plain_stmts, plain_vars, plain_func, maybe_expr}
+use Rattle.es3_control.specs.Code.{plain_expr, plain_stmt, plain_exprs, plain_stmts, plain_vars, maybe_expr}
 use Rattle.es3_control.specs.declared.code.ExprCode.{ExprCode}
 use Rattle.es3_control.specs.declared.code.StmtCode.{StmtCode}
 use Rattle.es3_control.specs.declared.code.VarCode.{VarCode}

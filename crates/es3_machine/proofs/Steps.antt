@@ -1,5 +1,5 @@
 -- One move of the machine leaves the rest of the run as it is, in the words of the code.
-use Rattle.std.proofs.Common.{◌≡◌, ℕ, suc, ◌-◌, ◌<◌, List, [], ◌∷◌, ◌++◌, refl, sym, ap, ◌∙◌, arith}
+use Rattle.std.proofs.Common.{◌≡◌, ℕ, suc, ◌-◌, ◌<◌, List, [], ◌∷◌, ◌++◌, sym, ap, ◌∙◌, arith}
 use Rattle.plans.specs.Plans.{ends, out, stopped, run, rest}
 use Rattle.plans.proofs.Frames.{rest_push, rest_stops, rest_told, step_out, step_into, step_enter}
 use Rattle.es3_meaning.specs.Store.{Store}

@@ -1,5 +1,5 @@
 -- Forms without a meaning yet enter themselves again.
-use Rattle.std.proofs.Common.{◌≡◌, Bool, true, false, [], None, refl}
+use Rattle.std.proofs.Common.{◌≡◌, true, false, [], None, refl}
 use Rattle.std.specs.Prelude.{IsTrue}
 use Rattle.es3_tree.specs.Tree as t
 use Rattle.es3_tree.specs.declared.BinOp.TheVariants.{Add}

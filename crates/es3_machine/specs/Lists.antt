@@ -1,7 +1,6 @@
 -- The variables of a `var` that have a value.
 use Rattle.std.specs.Prelude.{ℕ, List, Option, Some, None}
 use Rattle.es3_tree.specs.Tree as t
-use Rattle.es3_meaning.specs.Store.{Store}
 use Rattle.es3_control.specs.Code.{plain_expr, vars_at}
 use Rattle.es3_control.specs.declared.code.VarCode.{VarCode}
 use Rattle.es3_machine.specs.declared.resume.Valued.{Valued}

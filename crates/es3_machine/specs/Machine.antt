@@ -5,7 +5,6 @@ use Rattle.es3_tree.specs.Tree as t
 use Rattle.es3_heap.specs.declared.value.Value.TheVariants.{Undefined}
 use Rattle.es3_heap.specs.declared.value.Stop.{Stop}
 use Rattle.es3_heap.specs.declared.value.Stop.TheVariants.{Number, Depth, Convert, Steps, Memory}
-use Rattle.es3_heap.specs.Objects.{Objects}
 use Rattle.es3_meaning.specs.Store.{Store}
 use Rattle.es3_meaning.specs.Natives.{Table}
 use Rattle.es3_meaning.specs.Meaning.{Completion as PlainCompletion, gave, found, normal, returned, threw, Run, run_program}

@@ -1,6 +1,6 @@
 -- How a run ended, and how much is left of it.
 use Rattle.std.specs.Prelude.{ℕ, ◌+◌, ◌-◌, ◌*◌, ◌<◌, List, Result, Ok, Err, length}
-use Rattle.plans.specs.Plans.{Plan as PlanOf, over, stopped, out, run, rest}
+use Rattle.plans.specs.Plans.{over, stopped, out, run, rest}
 use Rattle.es3_heap.specs.declared.value.Stop.{Stop}
 use Rattle.es3_heap.specs.declared.value.Stop.TheVariants as stop
 use Rattle.es3_heap.specs.Objects.{Objects}

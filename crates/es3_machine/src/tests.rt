@@ -77,15 +77,20 @@ fn sum(alloc: Global) -> Result<Vec<Stmt>, Fail> {
     Ok(vec![in alloc; Stmt::Expr(sum)]?)
 }
 
+/// Whether a run came to a number.
+fn is_number(completion: &Completion, number: i64) -> bool {
+    match completion {
+        Completion::Normal(Value::Num(n)) => n.get() == number,
+        _ => false,
+    }
+}
+
 #[test]
 fn a_sum_of_two_numbers_takes_four_steps(rt: HostRuntime) -> Result<(), Fail> {
     let alloc = rt.alloc();
     let (completion, taken) = run(alloc, sum(alloc)?, 4)?;
     assert_eq!(rt; taken, 4);
-    match completion {
-        Completion::Normal(Value::Num(n)) => assert_eq!(rt; n.get(), 3),
-        _other => assert!(rt; false),
-    }
+    assert!(rt; is_number(&completion, 3));
     Ok(())
 }
 

@@ -1,5 +1,4 @@
 use Rattle.std.proofs.Common.{arith}
-use Rattle.std.proofs.lemmas.Grind.{common_steps}
 use Rattle.es3_machine.proofs.Entry.{params_more}
 use Rattle.es3_machine.proofs.call.bind.Goals as goal
 

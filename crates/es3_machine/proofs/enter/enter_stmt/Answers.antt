@@ -1,5 +1,4 @@
-use Rattle.std.proofs.Common.{arith, sym, ◌∙◌}
-use Rattle.std.proofs.lemmas.Grind.{common_steps}
+use Rattle.std.proofs.Common.{sym, ◌∙◌}
 use Rattle.es3_control.specs.Where.{plain_env}
 use Rattle.es3_machine.proofs.Entering.{entered_var, other_effect_again}
 use Rattle.es3_machine.proofs.enter.enter_stmt.Goals as goal

@@ -1,0 +1,37 @@
+-- When the program gives which answer.
+use Rattle.std.specs.Prelude.{◌≡◌, ℕ, ◌≤◌, List, Option, IfSome, IsTrue, length}
+use Rattle.caja_io.specs.Source.{IsEmptied}
+use Rattle.caja_io.specs.Sink.{Appends, AppendsPart}
+use Rattle.caja_cli.specs.Output.{output, is_command, longest_input}
+use Rattle.caja_cli.specs.declared.status.Status.{Status}
+use Rattle.caja_cli.specs.declared.status.Status.TheVariants.{ReadFault, WriteFault, Memory, NoRoom}
+
+-- what the source had left, as far as it tells
+abbrev pub IsLeft : Option (List ℕ) → List ℕ → Type 0
+IsLeft left input = IfSome left (λ all. all ≡ input)
+
+-- the source was read to its end, but where the words are no command or the input is too long
+abbrev pub IsRead : List (List ℕ) → List ℕ → Option (List ℕ) → Option (List ℕ) → Type 0
+IsRead words input old new = IsTrue (is_command words) → length input ≤ longest_input → IsEmptied old new
+
+-- the answer is none of the four that speak of the source, the sink or memory
+abbrev pub IsAnswer : Status → Type 0
+IsAnswer ReadFault = ⊥
+IsAnswer WriteFault = ⊥
+IsAnswer NoRoom = ⊥
+IsAnswer Memory = ⊥
+IsAnswer status = Unit {0}
+
+-- all was written, and the status is the defined one
+pub record Wrote (words : List (List ℕ)) (status : Status) (left left' written written' : Option (List ℕ)) : Type 0 where
+  pub input : List ℕ
+  pub of_source : IsTrue (is_command words) → IsLeft left input
+  pub read : IsRead words input left left'
+  pub bytes : Appends written written' (output words input).0
+  pub result : (output words input).1 ≡ status
+
+-- what was written is a front of the defined output
+pub record WrotePart (words : List (List ℕ)) (left written written' : Option (List ℕ)) : Type 0 where
+  pub input : List ℕ
+  pub of_source : IsTrue (is_command words) → IsLeft left input
+  pub bytes : AppendsPart written written' (output words input).0

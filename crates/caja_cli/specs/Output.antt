@@ -1,0 +1,65 @@
+-- What the program writes for its words and its input, and the status that it ends with.
+use Rattle.std.specs.Prelude.{ℕ, ◌++◌, Bool, false, List, [], ◌∷◌, Option, Some, None, length, nat_lt, codes, if◌then◌else◌}
+use Rattle.std.specs.Str.{bytes_eq}
+use Rattle.caja_units.specs.Index.{number_units}
+use Rattle.es3_tree.specs.Tree as t
+use Rattle.es3_printer.specs.Tokens.{printed}
+use Rattle.page_cajole.specs.Cajoled.{cajoled}
+use Rattle.page_runner.specs.declared.End.{End}
+use Rattle.page_runner.specs.declared.End.TheVariants as the_end
+use Rattle.page_runner.specs.Log.{main_name, line_end, page_log, page_end}
+use Rattle.caja_cli.specs.declared.status.Status.{Status}
+use Rattle.caja_cli.specs.declared.status.Status.TheVariants as status
+
+-- the longest input, in bytes: 4 MiB
+abbrev pub longest_input : ℕ
+longest_input = 4194304
+
+-- the steps of a page: 64 ES3 steps for each of 1,000,000 direct ones
+abbrev pub page_steps : ℕ
+page_steps = 64000000
+
+-- the words are a command
+abbrev pub is_command : List (List ℕ) → Bool
+is_command (w ∷ []) = bytes_eq w (codes "solo")
+is_command words = false
+
+-- `refused main STAGE 1 0`
+abbrev pub refusal : List ℕ → List ℕ
+refusal stage = codes "refused " ++ main_name ++ codes " " ++ stage ++ codes " 1 0" ++ line_end
+
+-- `module main LENGTH`, and the text
+abbrev pub module_part : List ℕ → List ℕ
+module_part text = codes "module " ++ main_name ++ codes " " ++ number_units (length text) ++ line_end ++ text ++ line_end
+
+abbrev pub end_word : End → List ℕ
+end_word the_end.Done = codes "done"
+end_word the_end.Number = codes "number"
+end_word the_end.Depth = codes "depth"
+end_word the_end.Convert = codes "convert"
+end_word the_end.Steps = codes "steps"
+
+abbrev pub end_line : End → List ℕ
+end_line e = codes "end " ++ end_word e ++ line_end
+
+abbrev pub end_status : End → Status
+end_status the_end.Done = status.Done
+end_status the_end.Number = status.Number
+end_status the_end.Depth = status.Depth
+end_status the_end.Convert = status.Convert
+end_status the_end.Steps = status.Steps
+
+-- the printed program, the log of the interpreter's meaning of that program, and how that ends
+abbrev pub solo_parts : t.Tree t.program → List ℕ
+solo_parts p = module_part (printed p) ++ page_log p page_steps ++ end_line (page_end p page_steps)
+
+abbrev pub program_output : Option (t.Tree t.program) → List ℕ × Status
+program_output None = (refusal (codes "read"), status.Refused)
+program_output (Some p) = (solo_parts p, end_status (page_end p page_steps))
+
+abbrev pub solo_output : List ℕ → List ℕ × Status
+solo_output input = if nat_lt longest_input (length input) then (refusal (codes "input"), status.Refused) else program_output (cajoled input)
+
+-- what is written, and the status
+abbrev pub output : List (List ℕ) → List ℕ → List ℕ × Status
+output words input = if is_command words then solo_output input else (codes "usage" ++ line_end, status.Usage)

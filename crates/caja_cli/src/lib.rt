@@ -1,0 +1,96 @@
+//! The top call of Caja: words, an input, an output and a status.
+#![tactic(auto)]
+
+ghost use Rattle.std.specs.Prelude.{◌≡◌, ◌≢◌, ◌+◌, ◌≤◌, map, string_bytes, false, IsTrue};
+ghost use Rattle.caja_io.specs.Count.{Rose};
+ghost use Rattle.caja_io.specs.Source.{TakesUpTo};
+ghost use Rattle.caja_io.specs.Sink.{Appends, AppendsPart};
+ghost use Rattle.caja_cli.specs.Output.{is_command, longest_input};
+ghost use Rattle.caja_cli.specs.Answered.{IsAnswer, Wrote, WrotePart};
+
+#[cfg(test)]
+mod page_tests;
+mod solo;
+mod status;
+#[cfg(test)]
+mod tests;
+
+use caja_io::{InputFault, OutputFault, Sink, Source, read_all, write_all};
+pub use status::Status;
+use std::alloc::Global;
+
+/// The longest input, in bytes: 4 MiB.
+const LONGEST_INPUT: usize = 4_194_304;
+
+/// Reads the words and then the whole input, cajoles and runs it, and gives all that is written to the sink at once.
+///
+/// The words are those behind the program's name. The one command is `solo`: the input is the source of a module, and
+/// the output is its cajoled text and the log of its load. Where the words are no command, nothing is read, and the
+/// line `usage` is written.
+pub fn caja<S: Source, K: Sink>(
+    words: &[String],
+    source: &mut S,
+    sink: &mut K,
+    alloc: Global,
+) -> Status
+    // The whole output was written, and the status is the defined one.
+    ensures answer { IsAnswer result
+        → Wrote (map string_bytes words.now) result (S.left source.old) (S.left source.new) (K.written sink.old) (K.written sink.new) }
+
+    // Each of the other four, and its cause.
+    ensures read_fault { result ≡ Status.ReadFault
+        → IsTrue (is_command (map string_bytes words.now)) × Rose (S.faults source.old) (S.faults source.new) × (sink.new ≡ sink.old) }
+    ensures write_fault { result ≡ Status.WriteFault
+        → Rose (K.faults sink.old) (K.faults sink.new) × WrotePart (map string_bytes words.now) (S.left source.old) (K.written sink.old) (K.written sink.new) }
+    ensures no_room { result ≡ Status.NoRoom
+        → Rose (K.empty_writes sink.old) (K.empty_writes sink.new) × WrotePart (map string_bytes words.now) (S.left source.old) (K.written sink.old) (K.written sink.new) }
+    ensures memory { result ≡ Status.Memory
+        → IsTrue (is_command (map string_bytes words.now)) × (sink.new ≡ sink.old) }
+
+    // With any answer: what was read is the first of what was left, and nothing is read where the words are no command.
+    ensures takes { TakesUpTo (longest_input + 1) (S.left source.old) (S.left source.new) }
+    ensures unread { is_command (map string_bytes words.now) ≡ false → source.new ≡ source.old }
+    ensures faults_never_fall { S.faults source.old ≤ S.faults source.new }
+{
+    if !is_solo(words) {
+        return finish(sink, b"usage\n", Status::Usage);
+    }
+    match read_all(alloc, source, LONGEST_INPUT) {
+        Err(InputFault::Failed) => Status::ReadFault,
+        Err(InputFault::Memory) => Status::Memory,
+        Err(InputFault::TooLong) => finish(sink, b"refused main input 1 0\n", Status::Refused),
+        Ok(input) => match solo::solo(alloc, &input) {
+            Err(_memory) => Status::Memory,
+            Ok((text, status)) => finish(sink, &text, status),
+        },
+    }
+}
+
+/// Whether the words are the one command.
+fn is_solo(words: &[String]) -> bool
+    ensures { result ≡ is_command (map string_bytes words.now) }
+{
+    match words {
+        [word] => word.as_str() == "solo",
+        _ => false,
+    }
+}
+
+/// Writes the whole output, and answers its status or the fault of the write.
+fn finish<K: Sink>(sink: &mut K, output: &[u8], status: Status) -> Status
+    requires { IsAnswer status }
+    ensures answer { IsAnswer result
+        → Appends (K.written sink.old) (K.written sink.new) output.now × (result ≡ status) }
+    ensures write_fault { result ≡ Status.WriteFault
+        → Rose (K.faults sink.old) (K.faults sink.new) × AppendsPart (K.written sink.old) (K.written sink.new) output.now }
+    ensures no_room { result ≡ Status.NoRoom
+        → Rose (K.empty_writes sink.old) (K.empty_writes sink.new) × AppendsPart (K.written sink.old) (K.written sink.new) output.now }
+    ensures no_read_fault { result ≢ Status.ReadFault }
+    ensures no_memory { result ≢ Status.Memory }
+{
+    match write_all(sink, output) {
+        Ok(()) => status,
+        Err(OutputFault::Failed) => Status::WriteFault,
+        Err(OutputFault::NoRoom) => Status::NoRoom,
+    }
+}

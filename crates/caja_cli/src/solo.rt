@@ -1,0 +1,90 @@
+// The command `solo`: one module, without grants, events and document.
+
+ghost use Rattle.std.specs.Prelude.{◌≡◌, IfOk, codes};
+ghost use Rattle.page_cajole.specs.Cajoled.{cajoled};
+ghost use Rattle.es3_tree.specs.View.{program};
+ghost use Rattle.es3_printer.specs.Tokens.{printed};
+ghost use Rattle.caja_cli.specs.Output.{program_output, solo_parts, end_line as end_line_of, end_status as end_status_of, module_part, refusal, page_steps};
+ghost use Rattle.page_runner.specs.Log.{page_log, page_end};
+
+use crate::status::Status;
+use caja_units::Memory;
+use page_cajole::{CajoledModule, cajole};
+use page_runner::{End, run_page};
+use std::alloc::Global;
+
+/// The ES3 steps of a page: 64 for each of 1,000,000 direct ones.
+const PAGE_STEPS: u64 = 64_000_000;
+
+/// What is written for an input, and the status.
+pub fn solo(alloc: Global, input: &[u8]) -> Result<(Vec<u8>, Status), Memory>
+    ensures text { IfOk result (λ r. r.0.items ≡ (program_output (cajoled input.now)).0) }
+    ensures status { IfOk result (λ r. r.1 ≡ (program_output (cajoled input.now)).1) }
+{
+    match cajole(alloc, input)? {
+        None => refused(alloc),
+        Some(main) => run(alloc, main),
+    }
+}
+
+/// What is written for an input that is no module.
+fn refused(alloc: Global) -> Result<(Vec<u8>, Status), Memory>
+    ensures text { IfOk result (λ r. r.0.items ≡ refusal (codes "read")) }
+    ensures status { IfOk result (λ r. r.1 ≡ Status.Refused) }
+{
+    let line = Vec::from_slice(alloc, b"refused main read 1 0\n")?;
+    Ok((line, Status::Refused))
+}
+
+/// The parts that are written for a module: its text, the log of its load, and how that ended.
+fn run(alloc: Global, main: CajoledModule) -> Result<(Vec<u8>, Status), Memory>
+    requires { main.text.items ≡ printed (program main.program) }
+    ensures text { IfOk result (λ r. r.0.items ≡ solo_parts (program main.program)) }
+    ensures status { IfOk result (λ r. r.1 ≡ end_status_of (page_end (program main.program) page_steps)) }
+{
+    let CajoledModule { text, program } = main;
+    let mut output = begin(alloc, &text)?;
+    let outcome = run_page(alloc, program, PAGE_STEPS)?;
+    output.extend_from_slice(&outcome.log)?;
+    output.extend_from_slice(end_line(outcome.end))?;
+    Ok((output, end_status(outcome.end)))
+}
+
+/// `module main LENGTH`, and the text.
+fn begin(alloc: Global, text: &[u8]) -> Result<Vec<u8>, Memory>
+    ensures { IfOk result (λ v. v.items ≡ module_part text.now) }
+{
+    let mut output = Vec::from_slice(alloc, b"module main ")?;
+    let length = text.len().to_string(alloc)?;
+    output.extend_from_slice(length.as_bytes())?;
+    output.push(b'\n')?;
+    output.extend_from_slice(text)?;
+    output.push(b'\n')?;
+    Ok(output)
+}
+
+/// The last line.
+fn end_line(end: End) -> &'static [u8]
+    ensures { result.now ≡ end_line_of end }
+{
+    match end {
+        End::Done => b"end done\n",
+        End::Number => b"end number\n",
+        End::Depth => b"end depth\n",
+        End::Convert => b"end convert\n",
+        End::Steps => b"end steps\n",
+    }
+}
+
+/// The status of a page that ended so.
+fn end_status(end: End) -> Status
+    ensures { result ≡ end_status_of end }
+{
+    match end {
+        End::Done => Status::Done,
+        End::Number => Status::Number,
+        End::Depth => Status::Depth,
+        End::Convert => Status::Convert,
+        End::Steps => Status::Steps,
+    }
+}

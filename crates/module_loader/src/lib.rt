@@ -1,0 +1,11 @@
+//! Opens the store of a page, and is the natives that its modules may call.
+#![tactic(auto)]
+
+mod natives;
+mod opening;
+
+pub use natives::PageNatives;
+pub use opening::{Opened, open};
+
+#[cfg(test)]
+mod tests;

@@ -1,0 +1,2 @@
+pub mod Cajoled
+pub mod Answers

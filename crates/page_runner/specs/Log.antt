@@ -1,0 +1,95 @@
+-- The log of a page: how values are shown, a line for the load of a module, and how the page ended.
+use Rattle.std.specs.Prelude.{ℕ, ℤ, Bool, List, [], ◌∷◌, ◌++◌, Option, Some, None, codes, if◌then◌else◌}
+use Rattle.plans.specs.Plans.{Fault, number_fault, depth_fault, convert_fault, over, stopped, out}
+use Rattle.caja_units.specs.Index.{number_units}
+use Rattle.caja_units.specs.Number.{number_text}
+use Rattle.caja_units.specs.Literal.{literal}
+use Rattle.caja_units.specs.Utf8.{utf8_of}
+use Rattle.es3_tree.specs.Tree as t
+use Rattle.es3_heap.specs.declared.value.Value.{Value}
+use Rattle.es3_heap.specs.declared.value.Value.TheVariants as v
+use Rattle.es3_heap.specs.declared.value.Class.{Class}
+use Rattle.es3_heap.specs.declared.value.Class.TheVariants as class
+use Rattle.es3_heap.specs.declared.value.Tag.{Tag}
+use Rattle.es3_heap.specs.declared.value.Tag.TheVariants as tag
+use Rattle.es3_heap.specs.Objects.{Objects, object_at, class_of, tag_of}
+use Rattle.es3_heap.specs.Properties.{own, value_of}
+use Rattle.es3_meaning.specs.Meaning.{Run}
+use Rattle.es3_control.specs.declared.natives.Completion.{Completion}
+use Rattle.es3_control.specs.declared.natives.Completion.TheVariants.{Normal, Thrown}
+use Rattle.es3_machine.specs.Machine.{completed}
+use Rattle.module_loader.specs.Page.{Kept, module_run}
+use Rattle.page_runner.specs.declared.End.{End}
+use Rattle.page_runner.specs.declared.End.TheVariants.{Done, Number, Depth, Convert, Steps}
+
+-- the name of the module that a page of one module has
+abbrev pub main_name : List ℕ
+main_name = codes "main"
+
+-- the name of an object: its maker and its number there; `?` where no guard has named it
+abbrev pub object_name : Tag → List ℕ
+object_name (tag.Made m n) = main_name ++ codes "#" ++ number_units n
+object_name g = codes "?"
+
+abbrev pub text_units : Value → List ℕ
+text_units (v.Text us) = us
+text_units x = []
+
+-- what stands behind the name of an error: its own name, and its message as a literal
+abbrev pub error_text : Objects → ℕ → List ℕ
+error_text h o = codes " " ++ utf8_of (text_units (value_of (own h o (codes "name")))) ++ codes " " ++ literal (text_units (value_of (own h o (codes "message"))))
+
+abbrev pub class_text : Class → List ℕ
+class_text class.Object = codes "record "
+class_text class.Array = codes "array "
+class_text class.Function = codes "function "
+class_text class.Error = codes "error "
+class_text class.Node = codes "node "
+
+abbrev pub after_name : Class → Objects → ℕ → List ℕ
+after_name class.Error h o = error_text h o
+after_name c h o = []
+
+-- a value in the log
+abbrev pub value_text : Objects → Value → List ℕ
+value_text h v.Undefined = codes "undefined"
+value_text h v.Null = codes "null"
+value_text h (v.Bool b) = if b then codes "true" else codes "false"
+value_text h (v.Num n) = number_text n
+value_text h (v.Text us) = literal us
+value_text h (v.Obj o) = class_text (class_of (object_at h o)) ++ object_name (tag_of (object_at h o)) ++ after_name (class_of (object_at h o)) h o
+
+abbrev pub line_end : List ℕ
+line_end = 10 ∷ []
+
+-- `load main return V`, `load main throw V`
+abbrev pub load_line : List ℕ → Objects → Value → List ℕ
+load_line how h x = codes "load " ++ main_name ++ codes " " ++ how ++ codes " " ++ value_text h x ++ line_end
+
+-- the line of a load that ended
+abbrev pub completion_line : Objects → Completion → List ℕ
+completion_line h (Normal x) = load_line (codes "return") h x
+completion_line h (Thrown x) = load_line (codes "throw") h x
+
+abbrev pub end_of : Fault → End
+end_of number_fault = Number
+end_of depth_fault = Depth
+end_of convert_fault = Convert
+
+-- the log of a run, and how it ended: a load that a fault or the want of a step cut off has no line
+abbrev pub run_log : Run Kept → List ℕ
+run_log (over c s z n) = completion_line s.heap (completed c)
+run_log (stopped f s z n) = []
+run_log (out s z n) = []
+
+abbrev pub run_end : Run Kept → End
+run_end (over c s z n) = Done
+run_end (stopped f s z n) = end_of f
+run_end (out s z n) = Steps
+
+-- the log of a page whose only module has this program
+unfoldable pub page_log : t.Tree t.program → ℕ → List ℕ
+page_log p steps = run_log (module_run p 0 steps)
+
+unfoldable pub page_end : t.Tree t.program → ℕ → End
+page_end p steps = run_end (module_run p 0 steps)

@@ -1,0 +1,144 @@
+//! How values and the end of a load are shown in the log.
+
+ghost use Rattle.std.specs.Prelude.{◌≡◌, ◌++◌, IfOk, OnOk, codes};
+ghost use Rattle.caja_units.specs.Number.{number_text};
+ghost use Rattle.caja_units.specs.Literal.{literal};
+ghost use Rattle.es3_heap.specs.Objects.{object_at, class_of, tag_of};
+ghost use Rattle.es3_heap.specs.Properties.{own, value_of};
+ghost use Rattle.page_runner.specs.Log.{object_name, text_units, error_text, class_text, after_name, value_text, load_line, completion_line};
+
+use caja_num::Whole;
+use caja_units::{Memory, Units};
+use es3_control::natives::Completion;
+use es3_heap::{Class, Heap, ObjId, Tag, Value};
+use std::alloc::Global;
+
+/// Appends bytes.
+fn push(out: &mut Vec<u8>, bytes: &[u8]) -> Result<(), Memory>
+    ensures { OnOk result (out.new.items ≡ out.old.items ++ bytes.now) }
+{
+    out.extend_from_slice(bytes)?;
+    Ok(())
+}
+
+/// Appends the digits of a number.
+fn push_number(alloc: Global, out: &mut Vec<u8>, n: Whole) -> Result<(), Memory>
+    ensures { OnOk result (out.new.items ≡ out.old.items ++ number_text n) }
+{
+    let number = n.get();
+    let text = format!(in alloc; "{number}")?;
+    push(out, text.as_bytes())
+}
+
+/// Appends a text as a literal.
+fn push_literal(alloc: Global, out: &mut Vec<u8>, text: &Units) -> Result<(), Memory>
+    ensures { OnOk result (out.new.items ≡ out.old.items ++ literal text.now) }
+{
+    let literal = text.to_ascii_literal(alloc)?;
+    push(out, &literal)
+}
+
+/// Appends the name of an object.
+fn push_name(alloc: Global, out: &mut Vec<u8>, tag: Tag) -> Result<(), Memory>
+    ensures { OnOk result (out.new.items ≡ out.old.items ++ object_name tag) }
+{
+    match tag {
+        Tag::Made(_module, number) => {
+            let digits = format!(in alloc; "{number}")?;
+            push(out, b"main#")?;
+            push(out, digits.as_bytes())
+        }
+        _other => push(out, b"?"),
+    }
+}
+
+/// The text under a name of an error, which is empty where there is none.
+fn error_part(alloc: Global, heap: &Heap, o: ObjId, name: &[u8]) -> Result<Units, Memory>
+    ensures { IfOk result (λ text. text ≡ text_units (value_of (own heap.now o name.now))) }
+{
+    let key = Units::from_ascii(alloc, name)?;
+    match heap.own(o, &key) {
+        Some((Value::Text(text), _attrs)) => text.copy(alloc),
+        _ => Units::from_ascii(alloc, b""),
+    }
+}
+
+/// Appends the name and the message of an error.
+fn push_error(alloc: Global, out: &mut Vec<u8>, heap: &Heap, o: ObjId) -> Result<(), Memory>
+    ensures { OnOk result (out.new.items ≡ out.old.items ++ error_text heap.now o) }
+{
+    let name = error_part(alloc, heap, o, b"name")?;
+    let message = error_part(alloc, heap, o, b"message")?;
+    push(out, b" ")?;
+    name.push_utf8(out)?;
+    push(out, b" ")?;
+    push_literal(alloc, out, &message)
+}
+
+/// The word of a class, and a space.
+fn class_text(class: Class) -> &'static [u8]
+    ensures { result.now ≡ class_text class }
+{
+    match class {
+        Class::Object => b"record ",
+        Class::Array => b"array ",
+        Class::Function => b"function ",
+        Class::Error => b"error ",
+        Class::Node => b"node ",
+    }
+}
+
+/// Appends an object: its class, its name, and what an error says.
+fn push_object(alloc: Global, out: &mut Vec<u8>, heap: &Heap, o: ObjId) -> Result<(), Memory>
+    ensures { OnOk result (out.new.items ≡ out.old.items ++ class_text (class_of (object_at heap.now o)) ++ object_name (tag_of (object_at heap.now o)) ++ after_name (class_of (object_at heap.now o)) heap.now o) }
+{
+    let class = heap.class(o);
+    push(out, class_text(class))?;
+    push_name(alloc, out, heap.tag(o))?;
+    match class {
+        Class::Error => push_error(alloc, out, heap, o),
+        _ => Ok(()),
+    }
+}
+
+/// Appends a value.
+fn push_value(alloc: Global, out: &mut Vec<u8>, heap: &Heap, v: &Value) -> Result<(), Memory>
+    ensures { OnOk result (out.new.items ≡ out.old.items ++ value_text heap.now v.now) }
+{
+    match v {
+        Value::Undefined => push(out, b"undefined"),
+        Value::Null => push(out, b"null"),
+        Value::Bool(true) => push(out, b"true"),
+        Value::Bool(false) => push(out, b"false"),
+        Value::Num(n) => push_number(alloc, out, *n),
+        Value::Text(text) => push_literal(alloc, out, text),
+        Value::Obj(o) => push_object(alloc, out, heap, *o),
+    }
+}
+
+/// `load main`, how it ended, and a value.
+fn load_line(alloc: Global, heap: &Heap, how: &[u8], v: &Value) -> Result<Vec<u8>, Memory>
+    ensures { IfOk result (λ line. line.items ≡ load_line how.now heap.now v.now) }
+{
+    let mut line = Vec::new(alloc);
+    push(&mut line, b"load main ")?;
+    push(&mut line, how)?;
+    push(&mut line, b" ")?;
+    push_value(alloc, &mut line, heap, v)?;
+    push(&mut line, b"\n")?;
+    Ok(line)
+}
+
+/// The line of a load that came to its end.
+pub fn completion_line(
+    alloc: Global,
+    heap: &Heap,
+    completion: &Completion,
+) -> Result<Vec<u8>, Memory>
+    ensures { IfOk result (λ line. line.items ≡ completion_line heap.now completion.now) }
+{
+    match completion {
+        Completion::Normal(v) => load_line(alloc, heap, b"return", v),
+        Completion::Thrown(v) => load_line(alloc, heap, b"throw", v),
+    }
+}
