@@ -14,7 +14,7 @@ fn a_program_without_statements_returns_undefined(rt: HostRuntime) -> Result<(),
         },
         1,
     )?;
-    assert!(rt; outcome.log.as_slice() == b"load main return undefined\n");
+    assert!(rt; outcome.log.as_slice() == b"load main return undefined\n".as_slice());
     assert_eq!(rt; outcome.end, End::Done);
     Ok(())
 }
