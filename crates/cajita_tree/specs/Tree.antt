@@ -8,6 +8,7 @@ pub data Sort : Type 0 where
 pub data Tree : Sort → Type 0 where
   -- expressions
   num : ℤ → Tree expr
+  text : List ℕ → Tree expr
   name : List ℕ → Tree expr
   record_of : Tree fields → Tree expr
   read : Tree expr → Tree key → Tree expr
