@@ -15,6 +15,13 @@ pub data Item : Type 0 where
   got : ℕ → Name → Name → Item
   touched : ℕ → Name → List ℕ → Item
 
+-- the items that the log prints
+abbrev pub printed : List Item → List Item
+printed [] = []
+printed (made m n ∷ rest) = printed rest
+printed (got m n o ∷ rest) = printed rest
+printed (touched m n k ∷ rest) = printed rest
+
 -- how a form ends: an expression gives a value, a statement comes to its end with or without one, and each may throw
 pub data Completion : Type 0 where
   gave : Value → Completion

@@ -1,0 +1,33 @@
+-- Variables.
+use Rattle.std.proofs.Common.{◌≡◌, ℕ, suc, ◌≤◌, Bool, true, false, List, [], ◌∷◌, Option, Some, None, cond, refl, sym, ap, ◌∙◌, subst, arith}
+use Rattle.std.specs.Prelude.{slice_get, is_some}
+use Rattle.plans.specs.Plans.{bind}
+use Rattle.caja_units.specs.Units.{is_hidden}
+use Rattle.es3_tree.specs.Tree as t
+use Rattle.es3_meaning.specs.Store.{Store, name_value}
+use Rattle.es3_meaning.specs.References.{slot, resolve}
+use Rattle.es3_meaning.specs.Meaning as Target
+use Rattle.es3_meaning.specs.Meaning.{is_arguments}
+use Rattle.cajita_tree.specs.Tree as c
+use Rattle.cajita_meaning.specs.World.{Value, World, Pairs, value_at}
+use Rattle.cajita_meaning.specs.Direct as Source
+use Rattle.cajita_meaning.specs.Direct.{Item, lookup, first_of, scope_at}
+use Rattle.module_loader.specs.Page.{Kept}
+use Rattle.cajita_simulation.specs.Guest.{is_among, GuestName}
+use Rattle.cajita_simulation.proofs.Relation.{EsValue, Val, Here, env_of, Temps, Found, Rel}
+use Rattle.cajita_simulation.proofs.Scopes.{BothFind, both_find}
+use Rattle.cajita_simulation.proofs.Laws.{ValueBody, NextValue, Cont, Cont', M, give}
+
+-- the plan of a name that is found
+pub name_plan : (x : List ℕ) (env : Target.Env) (s : Store) (e : EsValue) → is_arguments x ≡ false → Found env.chain s x e → Target.name_value_plan x env s ≡ Target.give e s
+name_plan x env s e own f = rw (own, f.at, f.value) refl
+
+pub name_body : {H : Here} {d : ℕ} (x : List ℕ) → is_among H.vars x ≡ true → GuestName x → ValueBody H d (c.name x) (t.name x)
+name_body {H = H} x known guest = record { on = λ lt r next.
+    let b = r.variables.bound x known in
+    ends lt b.1 (both_find H.env.chain _ _ x b.0 r.variables.scopes guest.open_name b.1) r next }
+  where
+    ends : {T : Temps} {d a k : ℕ} {w : World} {z : List Item} {n : ℕ} {s : Store} {y : Kept} {m : ℕ} {v : Value} {next : Cont} {next' : Cont'} → Rattle.std.proofs.Common.◌<◌ a d → lookup H.env.chain (w.scopes H.env.by) x ≡ Some v → BothFind H.env.chain (w.scopes H.env.by) s x v → Rel H T (suc k) w z n s y m → NextValue H T a (suc k) s.heap m next next' → M H a (bind (Source.expr_plan (c.name x) H.env w) next) z n (bind (Target.expr_plan (t.name x) (env_of H) s) next') y m
+    ends {a = a} {w = w} {z = z} {n = n} {s = s} {y = y} {m = m} {v = v} {next = next} {next' = next'} lt is f r x1 =
+        subst (λ o. M H a (bind (Source.value_or_unknown o x H.env w) next) z n (bind (Target.expr_plan (t.name x) (env_of H) s) next') y m) (sym is)
+        (subst (λ p. M H a (next (Source.gave v) w) z n (bind p next') y m) (sym (name_plan x (env_of H) s f.value guest.own_name f.found)) (give (omega arith) (omega arith) x1 f.same r))

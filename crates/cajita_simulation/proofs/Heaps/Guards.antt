@@ -1,0 +1,65 @@
+-- The guards of the runtime's object: what a call of one of them comes to.
+use Rattle.std.proofs.Common.{◌≡◌, ℕ, ◌<◌, Bool, true, false, List, Some, cond, refl, lit<}
+use Rattle.std.specs.Prelude.{codes}
+use Rattle.plans.specs.Plans.{enter, ends}
+use Rattle.caja_units.specs.Units.{is_hidden}
+use Rattle.es3_heap.specs.declared.value.Value.{Value}
+use Rattle.es3_heap.specs.declared.value.Value.TheVariants.{Obj}
+use Rattle.es3_heap.specs.declared.value.FuncKind.TheVariants.{Simple}
+use Rattle.es3_heap.specs.declared.value.Tag.TheVariants as tag
+use Rattle.es3_heap.specs.Objects.{Objects, hidden_attrs, object_at, callable_of, tag_of}
+use Rattle.es3_heap.specs.Properties.{own}
+use Rattle.es3_heap.specs.Reading.{property}
+use Rattle.es3_meaning.specs.Store.{Store}
+use Rattle.es3_meaning.specs.References.{member, get_member}
+use Rattle.es3_meaning.specs.Meaning.{Env, Plan, native_call, do_call}
+use Rattle.module_loader.specs.Opened.{opened, runtime_id}
+use Rattle.cajita_simulation.proofs.Heaps.Opened.{IsOpened, get_first}
+
+-- a member of the runtime's object is the function of a row of the guards, which has no name in the log
+pub record IsGuard (guard : List ℕ) (row : ℕ) : Type 0 where
+  pub object : ℕ
+  pub within : object < 16
+  pub member : own opened runtime_id guard ≡ Some (property guard (Obj object) hidden_attrs)
+  pub callable : callable_of (object_at opened object) ≡ Some (record { kind = Simple row; maker = 0 })
+  pub unnamed : tag_of (object_at opened object) ≡ tag.None
+
+pub load_module-guard : IsGuard (codes "loadModule") 0
+unfolding opened
+load_module-guard = record { object = 13; within = lit< tt; member = refl; callable = refl; unnamed = refl }
+
+pub initialize_map-guard : IsGuard (codes "initializeMap") 5
+unfolding opened
+initialize_map-guard = record { object = 14; within = lit< tt; member = refl; callable = refl; unnamed = refl }
+
+pub read_pub-guard : IsGuard (codes "readPub") 7
+unfolding opened
+read_pub-guard = record { object = 15; within = lit< tt; member = refl; callable = refl; unnamed = refl }
+
+runtime_unnamed : tag_of (object_at opened runtime_id) ≡ tag.None
+unfolding opened
+runtime_unnamed = refl
+
+-- the runtime's object has no name in the log
+pub runtime_tag : (h : Objects) → IsOpened h → tag_of (object_at h runtime_id) ≡ tag.None
+runtime_tag h is = rw (is.first runtime_id (lit< tt)) runtime_unnamed
+
+-- the guard is read
+pub guard_member : (guard : List ℕ) (row : ℕ) (g : IsGuard guard row) (h : Objects) → IsOpened h → get_member h (Obj runtime_id) guard ≡ Obj g.object
+guard_member guard row g h is = get_first h runtime_id guard _ is (lit< tt) g.member
+
+pub guard_callable : (guard : List ℕ) (row : ℕ) (g : IsGuard guard row) (h : Objects) → IsOpened h → callable_of (object_at h g.object) ≡ Some (record { kind = Simple row; maker = 0 })
+guard_callable guard row g h is = rw (is.first g.object g.within) g.callable
+
+pub guard_tag : (guard : List ℕ) (row : ℕ) (g : IsGuard guard row) (h : Objects) → IsOpened h → tag_of (object_at h g.object) ≡ tag.None
+guard_tag guard row g h is = rw (is.first g.object g.within) g.unnamed
+
+either_way : {X : Type 0} (b : Bool) (x : X) → cond b x x ≡ x
+either_way true x = refl
+either_way false x = refl
+
+-- 11.2.3: a call of the guard enters it, with the runtime's object as its receiver, and nothing is recorded
+pub guard_call : (guard : List ℕ) (row : ℕ) → IsGuard guard row → (vs : List Value) (env : Env) (s : Store) → IsOpened s.heap → do_call (member (Obj runtime_id) guard) vs env s ≡ enter (native_call row (Obj runtime_id) vs env) s ends
+guard_call guard row g vs env s is =
+    let entered : Plan = enter (native_call row (Obj runtime_id) vs env) s ends in
+    rw (guard_member guard row g s.heap is, runtime_tag s.heap is, guard_callable guard row g s.heap is, guard_tag guard row g s.heap is) (either_way (is_hidden guard) entered)

@@ -1,0 +1,7 @@
+pub mod Heaps
+pub mod Relation
+pub mod Scopes
+pub mod Laws
+pub mod Changes
+pub mod Sums
+pub mod Forms

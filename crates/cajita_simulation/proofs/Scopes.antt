@@ -1,0 +1,154 @@
+-- Variables on both sides: where a name is found, and what an assignment leaves.
+use Rattle.std.proofs.Common.{◌≡◌, ◌≢◌, ℕ, zero, suc, ◌≤◌, ◌<◌, Bool, true, false, List, [], ◌∷◌, length, Option, Some, None, cond, refl, sym, ap, ◌∙◌, subst, arith}
+use Rattle.std.specs.Prelude.{slice_get, slice_set, is_some, codes, nat_eq}
+use Rattle.std.specs.Cmp.Lexicographic.{same_text}
+use Rattle.std.proofs.lemmas.Option.{slice_get_within, none-some}
+use Rattle.std.proofs.lemmas.Bool.Decides.{nat_tests}
+use Rattle.caja_units.specs.Units.{same_units, is_hidden}
+use Rattle.es3_heap.specs.Objects.{Objects}
+use Rattle.es3_heap.proofs.Keys.{same_key-refl}
+use Rattle.es3_meaning.specs.Store as store
+use Rattle.es3_meaning.specs.Store.{Store, name_value, with_name}
+use Rattle.es3_meaning.specs.References.{Ref, slot, unresolved, named, resolve, global_name, with_slot}
+use Rattle.cajita_meaning.specs.World.{Value, Pairs, value_at, with_value}
+use Rattle.cajita_meaning.specs.Direct.{lookup, first_of, scope_at, assigned}
+use Rattle.cajita_simulation.proofs.Heaps.Lists.{slice_get-set, slice_get-set-other}
+use Rattle.cajita_simulation.proofs.Heaps.Names.{name_value-with_name, name_value-with_name-other}
+use Rattle.cajita_simulation.proofs.Relation.{EsValue, Val, OptVal, Found, ScopeIs, names_at, val_keep, optval_keep}
+
+-- a name is at no place where it belongs to the global object, or to nothing
+global_is_no_slot : (s : Store) (x : List ℕ) (c : ℕ) → global_name s x ≡ slot c x → ⊥
+global_is_no_slot s x c e =
+    let cases = elim (is_some (Rattle.es3_heap.specs.Properties.lookup s.heap s.globals x)) as (λ b. cond b (named s.globals x) (unresolved x) ≡ slot c x → ⊥) [
+      | true ↦ λ h. cc
+      | false ↦ λ h. cc
+    ] in cases e
+
+-- a name that no scope changed is found where it was
+resolve_kept : (chain : List ℕ) (s s' : Store) (x : List ℕ) (c : ℕ) → ((n : ℕ) → name_value x (names_at s' n) ≡ name_value x (names_at s n)) → resolve chain s x ≡ slot c x → resolve chain s' x ≡ slot c x
+resolve_kept [] s s' x c same e = absurd (global_is_no_slot s x c e)
+resolve_kept (n ∷ chain) s s' x c same e =
+    let cases = elim (is_some (name_value x (names_at s n))) as (λ b. cond b (slot n x) (resolve chain s x) ≡ slot c x → cond b (slot n x) (resolve chain s' x) ≡ slot c x) [
+      | true ↦ λ h. h
+      | false ↦ λ h. resolve_kept chain s s' x c same h
+    ] in rw (same n) (cases e)
+
+pub found_kept : {chain : List ℕ} {s s' : Store} {x : List ℕ} {e : EsValue} → ((n : ℕ) → name_value x (names_at s' n) ≡ name_value x (names_at s n)) → Found chain s x e → Found chain s' x e
+found_kept {chain = chain} {s = s} {s' = s'} {x = x} same f = record { place = f.place; at = resolve_kept chain s s' x f.place same f.at; value = same f.place ∙ f.value }
+
+-- a variable that the direct meaning finds is found at the same place, with a value that corresponds
+pub record BothFind (chain : List ℕ) (scopes : List Pairs) (s : Store) (x : List ℕ) (v : Value) : Type 0 where
+  pub value : EsValue
+  pub found : Found chain s x value
+  pub same : Val s.heap v value
+  pub here : value_at x (scope_at (slice_get scopes found.place)) ≡ Some v
+  pub assigns : (u : Value) → assigned chain x u scopes ≡ slice_set scopes found.place (with_value x u (scope_at (slice_get scopes found.place)))
+
+found_here : (n : ℕ) (chain : List ℕ) (scopes : List Pairs) (s : Store) (x : List ℕ) (v : Value) (o : Option Value) (o' : Option EsValue) → value_at x (scope_at (slice_get scopes n)) ≡ o → name_value x (names_at s n) ≡ o' → OptVal s.heap o o' → first_of o (lookup chain scopes x) ≡ Some v → (lookup chain scopes x ≡ Some v → BothFind chain scopes s x v) → BothFind (n ∷ chain) scopes s x v
+found_here n chain scopes s x v (Some u) (Some u') is is' same e further =
+    let value : u ≡ v = cc in
+    record { value = u'; found = record { place = n; at = rw is' refl; value = is' }; same = subst (λ q. Val s.heap q u') value same; here = is ∙ e; assigns = λ q. rw is refl }
+found_here n chain scopes s x v None None is is' same e further =
+    let rest = further e in
+    record { value = rest.value; found = record { place = rest.found.place; at = rw is' rest.found.at; value = rest.found.value }; same = rest.same; here = rest.here; assigns = λ q. rw is (rest.assigns q) }
+found_here n chain scopes s x v None (Some u') is is' same e further = absurd same
+found_here n chain scopes s x v (Some u) None is is' same e further = absurd same
+
+pub both_find : (chain : List ℕ) (scopes : List Pairs) (s : Store) (x : List ℕ) (v : Value) → ((n : ℕ) → ScopeIs s.heap (scope_at (slice_get scopes n)) (names_at s n)) → is_hidden x ≡ false → lookup chain scopes x ≡ Some v → BothFind chain scopes s x v
+both_find [] scopes s x v same guest e = cc
+both_find (n ∷ chain) scopes s x v same guest e = found_here n chain scopes s x v _ _ refl refl (same n x guest) e (both_find chain scopes s x v same guest)
+
+-- the same laws of the direct meaning's pairs
+
+pub value_at-with_value : (x : List ℕ) (v : Value) (ps : Pairs) → value_at x (with_value x v ps) ≡ Some v
+value_at-with_value x v [] = rw (same_key-refl x) refl
+value_at-with_value x v ((y, w) ∷ rest) =
+    let cases = elim (same_units x y) as (λ b. same_units x y ≡ b → value_at x (cond b ((y, v) ∷ rest) ((y, w) ∷ with_value x v rest)) ≡ Some v) [
+      | true ↦ λ is. rw is refl
+      | false ↦ λ is. rw is (value_at-with_value x v rest)
+    ] in cases refl
+
+pub value_at-with_value-other : (x y : List ℕ) (v : Value) (ps : Pairs) → same_units y x ≡ false → value_at y (with_value x v ps) ≡ value_at y ps
+value_at-with_value-other x y v [] ne = rw ne refl
+value_at-with_value-other x y v ((z, w) ∷ rest) ne =
+    let cases = elim (same_units x z) as (λ b. same_units x z ≡ b → value_at y (cond b ((z, v) ∷ rest) ((z, w) ∷ with_value x v rest)) ≡ value_at y ((z, w) ∷ rest)) [
+      | true ↦ λ is. let other : same_units y z ≡ false = ap (same_units y) (sym (same_text x z (sym is))) ∙ ne in rw other refl
+      | false ↦ λ is. ap (λ found. cond (same_units y z) (Some w) found) (value_at-with_value-other x y v rest ne)
+    ] in cases refl
+
+-- the scopes after an assignment, at each place
+
+pub same_place : (a b : ℕ) → nat_eq a b ≡ true → a ≡ b
+same_place a b h = grind (arith, nat_tests)
+
+pub other_place : (a b : ℕ) → nat_eq a b ≡ false → a ≢ b
+other_place a b h = λ e. grind (arith, nat_tests)
+
+slot_there : (names : Option store.Scope) (x : List ℕ) (e : EsValue) → name_value x (store.scope_at names) ≡ Some e → (scope : store.Scope) × (names ≡ Some scope)
+slot_there None x e h = cc
+slot_there (Some scope) x e h = (scope, refl)
+
+scope_there : (names : Option Pairs) (x : List ℕ) (v : Value) → value_at x (scope_at names) ≡ Some v → (scope : Pairs) × (names ≡ Some scope)
+scope_there None x v h = cc
+scope_there (Some scope) x v h = (scope, refl)
+
+-- the names of a scope, after a name of it was written
+pub names_at-written : (s : Store) (c : ℕ) (x : List ℕ) (e v : EsValue) → name_value x (names_at s c) ≡ Some e → names_at (with_slot c x v s) c ≡ with_name x v (names_at s c)
+names_at-written s c x e v here =
+    let there = slot_there (slice_get s.scopes c) x e here in
+    ap store.scope_at (slice_get-set s.scopes c there.0 (with_name x v (names_at s c)) there.1)
+
+pub names_at-other : (s : Store) (c n : ℕ) (x : List ℕ) (v : EsValue) → n ≢ c → names_at (with_slot c x v s) n ≡ names_at s n
+names_at-other s c n x v ne = ap store.scope_at (slice_get-set-other s.scopes c n (with_name x v (names_at s c)) ne)
+
+pub scope_at-written : (scopes : List Pairs) (c : ℕ) (x : List ℕ) (e v : Value) → value_at x (scope_at (slice_get scopes c)) ≡ Some e → scope_at (slice_get (slice_set scopes c (with_value x v (scope_at (slice_get scopes c)))) c) ≡ with_value x v (scope_at (slice_get scopes c))
+scope_at-written scopes c x e v here =
+    let there = scope_there (slice_get scopes c) x e here in
+    ap scope_at (slice_get-set scopes c there.0 (with_value x v (scope_at (slice_get scopes c))) there.1)
+
+pub scope_at-other : (scopes : List Pairs) (c n : ℕ) (names : Pairs) → n ≢ c → scope_at (slice_get (slice_set scopes c names) n) ≡ scope_at (slice_get scopes n)
+scope_at-other scopes c n names ne = ap scope_at (slice_get-set-other scopes c n names ne)
+
+-- another name is what it was, in each scope
+pub slot_kept : (s : Store) (c n : ℕ) (x y : List ℕ) (e v : EsValue) → name_value x (names_at s c) ≡ Some e → same_units y x ≡ false → name_value y (names_at (with_slot c x v s) n) ≡ name_value y (names_at s n)
+slot_kept s c n x y e v here ne =
+    let cases = elim (nat_eq n c) as (λ b. nat_eq n c ≡ b → name_value y (names_at (with_slot c x v s) n) ≡ name_value y (names_at s n)) [
+      | true ↦ λ is. subst (λ k. name_value y (names_at (with_slot c x v s) k) ≡ name_value y (names_at s k)) (sym (same_place n c is)) (ap (name_value y) (names_at-written s c x e v here) ∙ name_value-with_name-other x y v (names_at s c) ne)
+      | false ↦ λ is. ap (name_value y) (names_at-other s c n x v (other_place n c is))
+    ] in cases refl
+
+pub variable_kept : (scopes : List Pairs) (c n : ℕ) (x y : List ℕ) (e v : Value) → value_at x (scope_at (slice_get scopes c)) ≡ Some e → same_units y x ≡ false → value_at y (scope_at (slice_get (slice_set scopes c (with_value x v (scope_at (slice_get scopes c)))) n)) ≡ value_at y (scope_at (slice_get scopes n))
+variable_kept scopes c n x y e v here ne =
+    let after = slice_set scopes c (with_value x v (scope_at (slice_get scopes c))) in
+    let cases = elim (nat_eq n c) as (λ b. nat_eq n c ≡ b → value_at y (scope_at (slice_get after n)) ≡ value_at y (scope_at (slice_get scopes n))) [
+      | true ↦ λ is. subst (λ k. value_at y (scope_at (slice_get after k)) ≡ value_at y (scope_at (slice_get scopes k))) (sym (same_place n c is)) (ap (value_at y) (scope_at-written scopes c x e v here) ∙ value_at-with_value-other x y v (scope_at (slice_get scopes c)) ne)
+      | false ↦ λ is. ap (value_at y) (scope_at-other scopes c n _ (other_place n c is))
+    ] in cases refl
+
+-- after an assignment on both sides the scopes correspond
+pub scopes_assigned : (scopes : List Pairs) (s : Store) (c : ℕ) (x : List ℕ) (u v : Value) (e f : EsValue) → ((n : ℕ) → ScopeIs s.heap (scope_at (slice_get scopes n)) (names_at s n)) → value_at x (scope_at (slice_get scopes c)) ≡ Some u → name_value x (names_at s c) ≡ Some e → Val s.heap v f → (n : ℕ) → ScopeIs s.heap (scope_at (slice_get (slice_set scopes c (with_value x v (scope_at (slice_get scopes c)))) n)) (names_at (with_slot c x f s) n)
+scopes_assigned scopes s c x u v e f same here here' is n y guest =
+    let after = slice_set scopes c (with_value x v (scope_at (slice_get scopes c))) in
+    let written : y ≡ x → OptVal s.heap (value_at y (scope_at (slice_get after n))) (name_value y (names_at (with_slot c x f s) n)) =
+    λ alike. elim (nat_eq n c) as (λ b. nat_eq n c ≡ b → OptVal s.heap (value_at y (scope_at (slice_get after n))) (name_value y (names_at (with_slot c x f s) n))) [
+      | true ↦ λ at. subst (λ k. OptVal s.heap (value_at y (scope_at (slice_get after k))) (name_value y (names_at (with_slot c x f s) k))) (sym (same_place n c at)) (subst (λ q. OptVal s.heap (value_at q (scope_at (slice_get after c))) (name_value q (names_at (with_slot c x f s) c))) (sym alike) (rw (scope_at-written scopes c x u v here, names_at-written s c x e f here', value_at-with_value x v (scope_at (slice_get scopes c)), name_value-with_name x f (names_at s c)) is))
+      | false ↦ λ at. rw (scope_at-other scopes c n (with_value x v (scope_at (slice_get scopes c))) (other_place n c at), names_at-other s c n x f (other_place n c at)) (same n y guest)
+    ] refl in
+    let cases = elim (same_units y x) as (λ b. same_units y x ≡ b → OptVal s.heap (value_at y (scope_at (slice_get after n))) (name_value y (names_at (with_slot c x f s) n))) [
+      | true ↦ λ is1. written (same_text y x (sym is1))
+      | false ↦ λ is1. rw (variable_kept scopes c n x y u v here is1, slot_kept s c n x y e f here' is1) (same n y guest)
+    ] in cases refl
+
+-- a variable that has a value keeps one
+pub lookup_assigned : (chain : List ℕ) (scopes after : List Pairs) (y : List ℕ) → ((n : ℕ) (v : Value) → value_at y (scope_at (slice_get scopes n)) ≡ Some v → (u : Value) × (value_at y (scope_at (slice_get after n)) ≡ Some u)) → (v : Value) → lookup chain scopes y ≡ Some v → (u : Value) × (lookup chain after y ≡ Some u)
+lookup_assigned [] scopes after y keep v e = cc
+lookup_assigned (n ∷ chain) scopes after y keep v e =
+    let here = keep n in
+    let rest = lookup_assigned chain scopes after y keep v in
+    let cases = elim (value_at y (scope_at (slice_get after n))) as (λ o'. value_at y (scope_at (slice_get after n)) ≡ o' → (u : Value) × (first_of o' (lookup chain after y) ≡ Some u)) [
+      | Some u ↦ λ is'. (u, refl)
+      | None ↦ λ is'. elim (value_at y (scope_at (slice_get scopes n))) as (λ o. value_at y (scope_at (slice_get scopes n)) ≡ o → first_of o (lookup chain scopes y) ≡ Some v → (u : Value) × (lookup chain after y ≡ Some u)) [
+        | Some q ↦ λ is h. let new = here q is in absurd (none-some new.0 (sym is' ∙ new.1))
+        | None ↦ λ is h. rest h
+      ] refl e
+    ] in cases refl

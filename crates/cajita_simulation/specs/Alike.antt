@@ -1,0 +1,23 @@
+-- When the run of a rewritten module is alike to the direct run of its source.
+use Rattle.std.specs.Prelude.{◌≡◌, ℕ, Bool, List, [], ◌++◌, Option, Some, None, slice_get, codes}
+use Rattle.plans.specs.Plans.{Fault, number_fault, depth_fault, convert_fault}
+use Rattle.es3_heap.specs.declared.value.Value as es_value
+use Rattle.es3_heap.specs.declared.value.Value.TheVariants as es
+use Rattle.es3_heap.specs.declared.value.Tag.TheVariants as tag
+use Rattle.es3_heap.specs.Objects.{Objects, object_at, tag_of}
+use Rattle.module_loader.specs.Page.{Kept}
+use Rattle.cajita_meaning.specs.Direct.{Item}
+
+-- the items that the log prints, of those that the natives of a page keep: none are kept yet
+abbrev pub shown : Kept → List Item
+shown y = []
+
+pub record IsPrefix (xs ys : List Item) : Type 0 where
+  pub rest : List Item
+  pub is : ys ≡ xs ++ rest
+
+-- the faults that a Cajita module may end by
+abbrev pub GuestFault : Fault → Type 0
+GuestFault number_fault = Unit {0}
+GuestFault depth_fault = Unit {0}
+GuestFault convert_fault = ⊥

@@ -1,0 +1,59 @@
+-- What is known of a module that was accepted: its names are declared, and no name or key is one that the rewriting or the interpreter uses itself.
+use Rattle.std.specs.Prelude.{◌≡◌, ℕ, Bool, true, false, List, [], ◌∷◌, ◌++◌, codes}
+use Rattle.std.specs.List.{list_any}
+use Rattle.caja_units.specs.Units.{same_units, is_hidden}
+use Rattle.es3_meaning.specs.Meaning.{is_arguments}
+use Rattle.cajita_tree.specs.Tree as c
+
+abbrev pub is_among : List (List ℕ) → List ℕ → Bool
+is_among names x = list_any (same_units x) names
+
+-- a name that a module may declare
+pub record GuestName (x : List ℕ) : Type 0 where
+  pub open_name : is_hidden x ≡ false
+  pub own_name : is_arguments x ≡ false
+
+-- a key that a record may have
+pub record GuestKey (k : List ℕ) : Type 0 where
+  pub open_key : is_hidden k ≡ false
+  pub no_text : same_units (codes "toString") k ≡ false
+  pub no_value : same_units (codes "valueOf") k ≡ false
+
+-- a part over names that are declared
+abbrev pub Guest : List (List ℕ) → (s : c.Sort) → c.Tree s → Type 0
+Guest names _ (c.num n) = Unit {0}
+Guest names _ (c.text us) = Unit {0}
+Guest names _ (c.name x) = (is_among names x ≡ true) × GuestName x
+Guest names _ (c.record_of fs) = Guest names _ fs
+Guest names _ (c.read e k) = Guest names _ e
+Guest names _ (c.binary op a b) = Guest names _ a × Guest names _ b
+Guest names _ c.no_fields = Unit {0}
+Guest names _ (c.more_fields k e rest) = GuestKey k × Guest names _ e × Guest names _ rest
+Guest names _ (c.fixed k) = Unit {0}
+Guest names _ c.no_expr = Unit {0}
+Guest names _ (c.some_expr e) = Guest names _ e
+Guest names _ (c.var is) = Guest names _ is
+Guest names _ (c.expression e) = Guest names _ e
+Guest names _ c.no_items = Unit {0}
+Guest names _ (c.more_items x e rest) = (is_among names x ≡ true) × GuestName x × Guest names _ e × Guest names _ rest
+Guest names _ c.no_stmts = Unit {0}
+Guest names _ (c.more_stmts s rest) = Guest names _ s × Guest names _ rest
+Guest names _ (c.block vars list) = Guest names _ list
+Guest names _ (c.a_module imports body) = Guest names _ body
+
+-- the names that statements declare by `var`
+abbrev pub item_names : c.Tree c.items → List (List ℕ)
+item_names c.no_items = []
+item_names (c.more_items x e rest) = x ∷ item_names rest
+
+abbrev pub declared_by : c.Tree c.stmt → List (List ℕ)
+declared_by (c.var is) = item_names is
+declared_by (c.expression e) = []
+
+abbrev pub declared : c.Tree c.stmts → List (List ℕ)
+declared c.no_stmts = []
+declared (c.more_stmts s rest) = declared_by s ++ declared rest
+
+-- a module that imports nothing, and whose variables are those that its statements declare
+pub data GuestModule : c.Tree c.program → Type 0 where
+  a_guest : (vars : List (List ℕ)) (list : c.Tree c.stmts) → ((x : List ℕ) → is_among vars x ≡ is_among (declared list) x) → Guest vars c.stmts list → GuestModule (c.a_module [] (c.block vars list))
