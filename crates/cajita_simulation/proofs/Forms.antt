@@ -1,3 +1,4 @@
 pub mod Literal
 pub mod Name
 pub mod Sum
+pub mod List

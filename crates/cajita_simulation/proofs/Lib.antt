@@ -5,3 +5,4 @@ pub mod Laws
 pub mod Changes
 pub mod Sums
 pub mod Forms
+pub mod Calls

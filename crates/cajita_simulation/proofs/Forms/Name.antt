@@ -22,12 +22,13 @@ use Rattle.cajita_simulation.proofs.Laws.{ValueBody, NextValue, Cont, Cont', M, 
 pub name_plan : (x : List ℕ) (env : Target.Env) (s : Store) (e : EsValue) → is_arguments x ≡ false → Found env.chain s x e → Target.name_value_plan x env s ≡ Target.give e s
 name_plan x env s e own f = rw (own, f.at, f.value) refl
 
+-- a variable's value, where the direct meaning has one
+name_end : {H : Here} {T : Temps} {d j k i : ℕ} (x : List ℕ) {w : World} {z : List Item} {n : ℕ} {s : Store} {y : Kept} {m : ℕ} (v : Value) {next : Cont} {next' : Cont'} → GuestName x → j ≤ k → i ≤ m → lookup H.env.chain (w.scopes H.env.by) x ≡ Some v → BothFind H.env.chain (w.scopes H.env.by) s x v → Rel H T k w z n s y m → NextValue H T d j s.heap i next next' → M H d (bind (Source.expr_plan (c.name x) H.env w) next) z n (bind (Target.expr_plan (t.name x) (env_of H) s) next') y m
+name_end {H = H} {d = d} x {w = w} {z = z} {n = n} {s = s} {y = y} {m = m} v {next = next} {next' = next'} guest less few is f r x1 =
+    subst (λ o. M H d (bind (Source.value_or_unknown o x H.env w) next) z n (bind (Target.expr_plan (t.name x) (env_of H) s) next') y m) (sym is)
+    (subst (λ p. M H d (next (Source.gave v) w) z n (bind p next') y m) (sym (name_plan x (env_of H) s f.value guest.own_name f.found)) (give less few x1 f.same r))
+
 pub name_body : {H : Here} {d : ℕ} (x : List ℕ) → is_among H.vars x ≡ true → GuestName x → ValueBody H d (c.name x) (t.name x)
 name_body {H = H} x known guest = record { on = λ lt r next.
     let b = r.variables.bound x known in
-    ends lt b.1 (both_find H.env.chain _ _ x b.0 r.variables.scopes guest.open_name b.1) r next }
-  where
-    ends : {T : Temps} {d a k : ℕ} {w : World} {z : List Item} {n : ℕ} {s : Store} {y : Kept} {m : ℕ} {v : Value} {next : Cont} {next' : Cont'} → Rattle.std.proofs.Common.◌<◌ a d → lookup H.env.chain (w.scopes H.env.by) x ≡ Some v → BothFind H.env.chain (w.scopes H.env.by) s x v → Rel H T (suc k) w z n s y m → NextValue H T a (suc k) s.heap m next next' → M H a (bind (Source.expr_plan (c.name x) H.env w) next) z n (bind (Target.expr_plan (t.name x) (env_of H) s) next') y m
-    ends {a = a} {w = w} {z = z} {n = n} {s = s} {y = y} {m = m} {v = v} {next = next} {next' = next'} lt is f r x1 =
-        subst (λ o. M H a (bind (Source.value_or_unknown o x H.env w) next) z n (bind (Target.expr_plan (t.name x) (env_of H) s) next') y m) (sym is)
-        (subst (λ p. M H a (next (Source.gave v) w) z n (bind p next') y m) (sym (name_plan x (env_of H) s f.value guest.own_name f.found)) (give (omega arith) (omega arith) x1 f.same r))
+    name_end x b.0 guest (omega arith) (omega arith) b.1 (both_find H.env.chain _ _ x b.0 r.variables.scopes guest.open_name b.1) r next }
