@@ -12,7 +12,8 @@ use Rattle.es3_heap.specs.Objects.{Objects}
 use Rattle.es3_heap.specs.Making.{count_at, raised}
 use Rattle.es3_meaning.specs.Store as store
 use Rattle.es3_meaning.specs.Store.{Store, name_value, with_heap}
-use Rattle.es3_meaning.specs.References.{with_slot}
+use Rattle.es3_meaning.specs.References.{slot, resolve, with_slot}
+use Rattle.cajita_simulation.proofs.Heaps.Names.{name_value-with_name}
 use Rattle.cajita_meaning.specs.World as World
 use Rattle.cajita_meaning.specs.World.{Value, Pairs, Object, value_at, with_value, with_last, with_object, next_name, World as State}
 use Rattle.cajita_meaning.specs.Direct.{Item, printed, scope_at, lookup, assigned, assign}
@@ -21,7 +22,7 @@ use Rattle.cajita_simulation.specs.Guest.{is_among}
 use Rattle.cajita_simulation.proofs.Heaps.Made.{tagged, with_named}
 use Rattle.cajita_simulation.proofs.Heaps.Lists.{slice_get-set, slice_get-push, slice_get-push-other}
 use Rattle.cajita_simulation.proofs.Relation.{EsValue, Named, Val, OptVal, Is, Stands, Here, Temps, Slot, unknown, holds, SlotIs, Found, ScopeIs, names_at, ObjectsAre, VariablesAre, Rel, Keeps, keeps_refl, val_keep, optval_keep, is_keep}
-use Rattle.cajita_simulation.proofs.Scopes.{BothFind, found_kept, scopes_assigned, slot_kept, variable_kept, lookup_assigned, value_at-with_value, names_at-written}
+use Rattle.cajita_simulation.proofs.Scopes.{BothFind, found_kept, resolve_same, written_same, scopes_assigned, slot_kept, variable_kept, lookup_assigned, value_at-with_value, names_at-written}
 use Rattle.cajita_simulation.proofs.Laws.{hold, result_name}
 
 -- lists with a new last element
@@ -132,8 +133,8 @@ variables_keep {H = H} {T = T} {s = s} g k r = record {
   scopes = λ c x guest. optval_keep k _ _ (r.scopes c x guest);
   temps = λ x hidden. slot_keep H.env.chain s g x (T x) k (r.temps x hidden);
   runtime = found_kept (λ n. refl) r.runtime;
-  result = (r.result.0, found_kept (λ n. refl) r.result.1);
-  bound = r.bound;
+  result = (r.result.0, found_kept (λ n. refl) r.result.1, r.result.2);
+  bound = λ x known. let b = r.bound x known in (b.0, b.1, resolve_same H.env.chain s (with_heap s g) x (H.place x) (λ n. refl) b.2);
 }
 
 -- an item that the log doesn't print
@@ -189,8 +190,8 @@ variables_assigned {H = H} {T = T} {scopes = scopes} {s = s} x v u e f guest is 
       scopes = scopes_assigned scopes s p x u v f.value e r.scopes f.here f.found.value is;
       temps = λ y hidden. slot_assigned H.env.chain s (with_slot p x e s) y (T y) refl (λ n. slot_kept s p n x y f.value e f.found.value (differs x y hidden guest)) (r.temps y hidden);
       runtime = found_kept (λ n. slot_kept s p n x (codes "___") f.value e f.found.value (differs x (codes "___") refl guest)) r.runtime;
-      result = (r.result.0, found_kept (λ n. slot_kept s p n x (codes "moduleResult___") f.value e f.found.value (differs x (codes "moduleResult___") refl guest)) r.result.1);
-      bound = λ y known. let b = r.bound y known in lookup_assigned H.env.chain scopes after y (stays y) b.0 b.1;
+      result = (r.result.0, found_kept (λ n. slot_kept s p n x (codes "moduleResult___") f.value e f.found.value (differs x (codes "moduleResult___") refl guest)) r.result.1, r.result.2);
+      bound = λ y known. let b = r.bound y known in let l = lookup_assigned H.env.chain scopes after y (stays y) b.0 b.1 in (l.0, l.1, resolve_same H.env.chain s (with_slot p x e s) y (H.place y) (λ n. written_same s p n x y f.value e f.found.value) b.2);
     })
   where
     written : (y : List ℕ) (n : ℕ) (q : Value) → y ≡ x → value_at y (scope_at (slice_get scopes n)) ≡ Some q → (w : Value) × (value_at y (scope_at (slice_get (slice_set scopes f.found.place (with_value x v (scope_at (slice_get scopes f.found.place)))) n)) ≡ Some w)
@@ -207,4 +208,36 @@ variables_assigned {H = H} {T = T} {scopes = scopes} {s = s} x v u e f guest is 
         let cases = elim (same_units y x) as (λ b. same_units y x ≡ b → (w : Value) × (value_at y (scope_at (slice_get after n)) ≡ Some w)) [
           | true ↦ λ alike. written y n q (same_text y x (sym alike)) there
           | false ↦ λ other. (q, variable_kept scopes f.found.place n x y u v f.here other ∙ there)
+        ] in cases refl
+
+-- the module's result, on the interpreter's side alone
+pub variables_held : {H : Here} {T : Temps} {scopes : List Pairs} {s : Store} (v : Value) (e u : EsValue) (f : Found H.env.chain s result_name u) → f.place ≡ H.place result_name → Val s.heap v e → VariablesAre H T scopes s → VariablesAre H (hold result_name v T) scopes (with_slot (H.place result_name) result_name e s)
+variables_held {H = H} {T = T} {scopes = scopes} {s = s} v e u f place is r =
+    let p = H.place result_name in
+    let after = with_slot p result_name e s in
+    let here : name_value result_name (names_at s p) ≡ Some u = subst (λ q. name_value result_name (names_at s q) ≡ Some u) place f.value in
+    let found : Found H.env.chain after result_name e = record {
+      place = p;
+      at = resolve_same H.env.chain s after result_name p (λ n. written_same s p n result_name result_name u e here) (subst (λ q. resolve H.env.chain s result_name ≡ slot q result_name) place f.at);
+      value = ap (name_value result_name) (names_at-written s p result_name u e here) ∙ name_value-with_name result_name e (names_at s p);
+    } in record {
+      scopes = λ c x guest. subst (λ o. OptVal s.heap (value_at x (scope_at (slice_get scopes c))) o) (sym (slot_kept s p c result_name x u e here (other_name x guest))) (r.scopes c x guest);
+      temps = λ x hidden. held x hidden here found;
+      runtime = found_kept (λ n. slot_kept s p n result_name (codes "___") u e here refl) r.runtime;
+      result = (e, found, refl);
+      bound = λ y known. let b = r.bound y known in (b.0, b.1, resolve_same H.env.chain s after y (H.place y) (λ n. written_same s p n result_name y u e here) b.2);
+    }
+  where
+    other_name : (x : List ℕ) → is_hidden x ≡ false → same_units x result_name ≡ false
+    other_name x guest =
+        let cases = elim (same_units x result_name) as (λ b. same_units x result_name ≡ b → b ≡ false) [
+          | true ↦ λ same. cc (sym guest ∙ ap is_hidden (same_text x result_name (sym same)))
+          | false ↦ λ same. refl
+        ] in cases refl
+    held : (x : List ℕ) → is_hidden x ≡ true → name_value result_name (names_at s (H.place result_name)) ≡ Some u → Found H.env.chain (with_slot (H.place result_name) result_name e s) result_name e → SlotIs H.env.chain (with_slot (H.place result_name) result_name e s) x (hold result_name v T x)
+    held x hidden here found =
+        let after = with_slot (H.place result_name) result_name e s in
+        let cases = elim (same_units x result_name) as (λ b. same_units x result_name ≡ b → SlotIs H.env.chain after x (cond b (holds v) (T x))) [
+          | true ↦ λ same. subst (λ y. SlotIs H.env.chain after y (holds v)) (sym (same_text x result_name (sym same))) (e, found, is)
+          | false ↦ λ same. slot_assigned H.env.chain s after x (T x) refl (λ n. slot_kept s (H.place result_name) n result_name x u e here same) (r.temps x hidden)
         ] in cases refl

@@ -97,10 +97,11 @@ pub record Stands (objects : List Object) (h : Objects) (number i : ℕ) : Type 
   pub there : heap.object_at h i ≡ Some stored
   pub is : Is h object stored
 
--- where a form stands: the running module, its variables, and how many calls are open
+-- where a form stands: its surroundings, the variables that it may name, and the scope that each name is found in, which never changes
 pub record Here : Type 0 where
   pub env : Source.Env
   pub vars : List (List ℕ)
+  pub place : List ℕ → ℕ
 
 abbrev pub env_of : Here → Target.Env
 env_of H = record { chain = H.env.chain; calls = H.env.calls; by = H.env.by }
@@ -144,8 +145,8 @@ pub record VariablesAre (H : Here) (T : Temps) (list : List Pairs) (s : Store) :
   pub scopes : (c : ℕ) → ScopeIs s.heap (scope_at (slice_get list c)) (names_at s c)
   pub temps : (x : List ℕ) → is_hidden x ≡ true → SlotIs H.env.chain s x (T x)
   pub runtime : Found H.env.chain s (codes "___") (es.Obj runtime_id)
-  pub result : (e : EsValue) × Found H.env.chain s (codes "moduleResult___") e
-  pub bound : (x : List ℕ) → is_among H.vars x ≡ true → (v : Value) × (lookup H.env.chain list x ≡ Some v)
+  pub result : (e : EsValue) × (f : Found H.env.chain s (codes "moduleResult___") e) × (f.place ≡ H.place (codes "moduleResult___"))
+  pub bound : (x : List ℕ) → is_among H.vars x ≡ true → (v : Value) × (lookup H.env.chain list x ≡ Some v) × (resolve H.env.chain s x ≡ slot (H.place x) x)
 
 -- the items that the log prints are the same; k steps of the interpreter are in hand
 pub record Rel (H : Here) (T : Temps) (k : ℕ) (w : State) (z : List Item) (n : ℕ) (s : Store) (y : Kept) (m : ℕ) : Type 0 where

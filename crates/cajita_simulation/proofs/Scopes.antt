@@ -24,17 +24,18 @@ global_is_no_slot s x c e =
       | false ↦ λ h. cc
     ] in cases e
 
--- a name that no scope changed is found where it was
-resolve_kept : (chain : List ℕ) (s s' : Store) (x : List ℕ) (c : ℕ) → ((n : ℕ) → name_value x (names_at s' n) ≡ name_value x (names_at s n)) → resolve chain s x ≡ slot c x → resolve chain s' x ≡ slot c x
-resolve_kept [] s s' x c same e = absurd (global_is_no_slot s x c e)
-resolve_kept (n ∷ chain) s s' x c same e =
+-- a name that no scope lost or won is found where it was
+pub resolve_same : (chain : List ℕ) (s s' : Store) (x : List ℕ) (c : ℕ) → ((n : ℕ) → is_some (name_value x (names_at s' n)) ≡ is_some (name_value x (names_at s n))) → resolve chain s x ≡ slot c x → resolve chain s' x ≡ slot c x
+resolve_same [] s s' x c same e = absurd (global_is_no_slot s x c e)
+resolve_same (n ∷ chain) s s' x c same e =
     let cases = elim (is_some (name_value x (names_at s n))) as (λ b. cond b (slot n x) (resolve chain s x) ≡ slot c x → cond b (slot n x) (resolve chain s' x) ≡ slot c x) [
       | true ↦ λ h. h
-      | false ↦ λ h. resolve_kept chain s s' x c same h
+      | false ↦ λ h. resolve_same chain s s' x c same h
     ] in rw (same n) (cases e)
 
-pub found_kept : {chain : List ℕ} {s s' : Store} {x : List ℕ} {e : EsValue} → ((n : ℕ) → name_value x (names_at s' n) ≡ name_value x (names_at s n)) → Found chain s x e → Found chain s' x e
-found_kept {chain = chain} {s = s} {s' = s'} {x = x} same f = record { place = f.place; at = resolve_kept chain s s' x f.place same f.at; value = same f.place ∙ f.value }
+-- and has the value that it had, where no scope changed it
+abbrev pub found_kept : {chain : List ℕ} {s s' : Store} {x : List ℕ} {e : EsValue} → ((n : ℕ) → name_value x (names_at s' n) ≡ name_value x (names_at s n)) → Found chain s x e → Found chain s' x e
+found_kept {chain = chain} {s = s} {s' = s'} {x = x} same f = record { place = f.place; at = resolve_same chain s s' x f.place (λ n. ap is_some (same n)) f.at; value = same f.place ∙ f.value }
 
 -- a variable that the direct meaning finds is found at the same place, with a value that corresponds
 pub record BothFind (chain : List ℕ) (scopes : List Pairs) (s : Store) (x : List ℕ) (v : Value) : Type 0 where
@@ -151,4 +152,15 @@ lookup_assigned (n ∷ chain) scopes after y keep v e =
         | Some q ↦ λ is h. let new = here q is in absurd (none-some new.0 (sym is' ∙ new.1))
         | None ↦ λ is h. rest h
       ] refl e
+    ] in cases refl
+
+-- each scope has the names that it had, after a name that it has was written
+pub written_same : (s : Store) (c n : ℕ) (x y : List ℕ) (e v : EsValue) → name_value x (names_at s c) ≡ Some e → is_some (name_value y (names_at (with_slot c x v s) n)) ≡ is_some (name_value y (names_at s n))
+written_same s c n x y e v here =
+    let cases = elim (same_units y x) as (λ b. same_units y x ≡ b → is_some (name_value y (names_at (with_slot c x v s) n)) ≡ is_some (name_value y (names_at s n))) [
+      | true ↦ λ alike. elim (nat_eq n c) as (λ b. nat_eq n c ≡ b → is_some (name_value y (names_at (with_slot c x v s) n)) ≡ is_some (name_value y (names_at s n))) [
+        | true ↦ λ at. rw (same_place n c at, same_text y x (sym alike), names_at-written s c x e v here, name_value-with_name x v (names_at s c), here) refl
+        | false ↦ λ at. ap (λ names. is_some (name_value y names)) (names_at-other s c n x v (other_place n c at))
+      ] refl
+      | false ↦ λ other. ap is_some (slot_kept s c n x y e v here other)
     ] in cases refl
