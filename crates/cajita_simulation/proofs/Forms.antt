@@ -2,3 +2,4 @@ pub mod Literal
 pub mod Name
 pub mod Sum
 pub mod List
+pub mod Read
