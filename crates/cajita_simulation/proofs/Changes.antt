@@ -241,3 +241,20 @@ variables_held {H = H} {T = T} {scopes = scopes} {s = s} v e u f place is r =
           | true ↦ λ same. subst (λ y. SlotIs H.env.chain after y (holds v)) (sym (same_text x result_name (sym same))) (e, found, is)
           | false ↦ λ same. slot_assigned H.env.chain s after x (T x) refl (λ n. slot_kept s (H.place result_name) n result_name x u e here same) (r.temps x hidden)
         ] in cases refl
+
+-- the relation after an assignment to a guest's variable
+pub rel_assigned : {H : Here} {T : Temps} {k : ℕ} {w : State} {z : List Item} {n : ℕ} {s : Store} {y : Kept} {m : ℕ} (x : List ℕ) (v u : Value) (e : EsValue) → is_hidden x ≡ false → (f : BothFind H.env.chain (w.scopes H.env.by) s x u) → resolve H.env.chain s x ≡ slot (H.place x) x → Val s.heap v e → Rel H T k w z n s y m → Rel H T k (assign H.env x v w) z n (with_slot (H.place x) x e s) y m
+rel_assigned {H = H} {T = T} {w = w} {s = s} x v u e guest f at is r =
+    let place : f.found.place ≡ H.place x = same_slot f.found.place (H.place x) (sym f.found.at ∙ at) in
+    record {
+      steps = r.steps;
+      items = r.items;
+      objects = r.objects;
+      variables = subst (λ q. VariablesAre H T (World.with_list H.env.by (assigned H.env.chain x v (w.scopes H.env.by)) w.scopes H.env.by) (with_slot q x e s)) place (subst (λ l. VariablesAre H T l (with_slot f.found.place x e s)) (sym (list_there (assigned H.env.chain x v (w.scopes H.env.by)))) (variables_assigned x v u e f guest is r.variables));
+      kept = r.kept;
+    }
+  where
+    same_slot : (a b : ℕ) → slot a x ≡ slot b x → a ≡ b
+    same_slot a b e = cc
+    list_there : (xs : List Pairs) → World.with_list H.env.by xs w.scopes H.env.by ≡ xs
+    list_there xs = rw (same_module H.env.by) refl

@@ -3,3 +3,5 @@ pub mod Name
 pub mod Sum
 pub mod List
 pub mod Read
+pub mod Record
+pub mod Statement

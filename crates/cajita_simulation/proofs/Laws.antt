@@ -129,6 +129,12 @@ value_from le less keep x = record { gives = gives_from le less keep x.gives; th
 pub value_since : {H : Here} {T : Temps} {d c k : ℕ} {a b : Objects} {i l : ℕ} {next : Cont} {next' : Cont'} → c ≤ d → Keeps a (suc i) b l → NextValue H T d k a i next next' → NextValue H T c k b l next next'
 value_since {k = k} le keep x = value_from {j = k} {k = k} le (omega arith) (keeps_before keep) x
 
+pub effect_since : {H : Here} {T : Temps} {d c k : ℕ} {a b : Objects} {i l : ℕ} {next : Cont} {next' : Cont'} → c ≤ d → Keeps a (suc i) b l → NextEffect H T d k a i next next' → NextEffect H T c k b l next next'
+effect_since {k = k} le keep x = record {
+  finishes = record { on = λ c' le' p q w z n s y m r1 k1. x.finishes.on c' (omega arith) p q w z n s y m r1 (keeps_trans (keeps_before keep) k1) };
+  throws = throws_from {j = k} {k = k} le (omega arith) (keeps_before keep) x.throws;
+}
+
 -- the law of an expression with fewer than d tasks: from k steps in hand to one more
 pub record ValueLaw (H : Here) (d : ℕ) (e : c.Tree c.expr) (e' : t.Tree t.expr) : Type 0 where
   pub on : {T : Temps} {a k : ℕ} {w : World} {z : List Item} {n : ℕ} {s : Store} {y : Kept} {m : ℕ} {next : Cont} {next' : Cont'} → a < d → Rel H T k w z n s y m → NextValue H T a (suc k) s.heap (suc m) next next' → M H a (enter (Source.value_of e H.env) w next) z n (enter (Target.value_of e' (env_of H)) s next') y m

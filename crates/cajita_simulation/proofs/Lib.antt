@@ -7,3 +7,4 @@ pub mod Sums
 pub mod Forms
 pub mod Calls
 pub mod Rows
+pub mod Simulation

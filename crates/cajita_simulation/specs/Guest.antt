@@ -3,6 +3,7 @@ use Rattle.std.specs.Prelude.{◌≡◌, ℕ, Bool, true, false, List, [], ◌�
 use Rattle.std.specs.List.{list_any}
 use Rattle.caja_units.specs.Units.{same_units, is_hidden}
 use Rattle.es3_meaning.specs.Meaning.{is_arguments}
+use Rattle.es3_tree.specs.declared.BinOp.TheVariants.{Add}
 use Rattle.cajita_tree.specs.Tree as c
 
 abbrev pub is_among : List (List ℕ) → List ℕ → Bool
@@ -26,7 +27,7 @@ Guest names _ (c.text us) = Unit {0}
 Guest names _ (c.name x) = (is_among names x ≡ true) × GuestName x
 Guest names _ (c.record_of fs) = Guest names _ fs
 Guest names _ (c.read e k) = Guest names _ e
-Guest names _ (c.binary op a b) = Guest names _ a × Guest names _ b
+Guest names _ (c.binary op a b) = (op ≡ Add) × Guest names _ a × Guest names _ b
 Guest names _ c.no_fields = Unit {0}
 Guest names _ (c.more_fields k e rest) = GuestKey k × Guest names _ e × Guest names _ rest
 Guest names _ (c.fixed k) = Unit {0}

@@ -1,0 +1,40 @@
+-- The law of each form of a guest's module, one line a form.
+use Rattle.std.proofs.Common.{ℕ, zero, suc, sym, subst}
+use Rattle.es3_tree.specs.Tree as t
+use Rattle.es3_tree.specs.declared.BinOp.TheVariants.{Add}
+use Rattle.cajita_tree.specs.Tree as c
+use Rattle.cajita_rewrite.specs.Rewrite.{rewritten}
+use Rattle.cajita_simulation.specs.Guest.{Guest}
+use Rattle.cajita_simulation.proofs.Relation.{Here}
+use Rattle.cajita_simulation.proofs.Laws.{ValueLaw, ValueBody, EffectLaw, EffectBody, value_law, effect_law, value_zero, effect_zero}
+use Rattle.cajita_simulation.proofs.Forms.Literal.{number_body, text_body}
+use Rattle.cajita_simulation.proofs.Forms.Name.{name_body}
+use Rattle.cajita_simulation.proofs.Forms.Sum.{sum_body}
+use Rattle.cajita_simulation.proofs.Forms.Read.{read_body}
+use Rattle.cajita_simulation.proofs.Forms.Record.{record_body}
+use Rattle.cajita_simulation.proofs.Forms.Statement.{expression_body, var_body}
+
+abbrev Values : Here → ℕ → Type 0
+Values H d = (e : c.Tree c.expr) → Guest H.vars c.expr e → ValueLaw H d e (rewritten c.expr e)
+
+value_body : {H : Here} {d : ℕ} → Values H d → (e : c.Tree c.expr) → Guest H.vars c.expr e → ValueBody H d e (rewritten c.expr e)
+unfolding rewritten
+value_body law (c.num n) g = number_body n
+value_body law (c.text us) g = text_body us
+value_body law (c.name x) g = name_body x g.0 g.1
+value_body law (c.record_of fs) g = record_body law fs g
+value_body law (c.read e (c.fixed k)) g = read_body k (law e g)
+value_body {H = H} {d = d} law (c.binary op a b) g = subst (λ o. ValueBody H d (c.binary o a b) (t.binary o (rewritten c.expr a) (rewritten c.expr b))) (sym g.0) (sum_body (law a g.1) (law b g.2))
+
+effect_body : {H : Here} {d : ℕ} → Values H d → (x : c.Tree c.stmt) → Guest H.vars c.stmt x → EffectBody H d x (rewritten c.stmt x)
+unfolding rewritten
+effect_body law (c.expression e) g = expression_body (law e g)
+effect_body law (c.var is) g = var_body law is g
+
+values : (H : Here) (d : ℕ) → Values H d
+values H zero e g = value_zero
+values H (suc d) e g = value_law (value_body (values H d) e g)
+
+pub effects : (H : Here) (d : ℕ) (x : c.Tree c.stmt) → Guest H.vars c.stmt x → EffectLaw H d x (rewritten c.stmt x)
+effects H zero x g = effect_zero
+effects H (suc d) x g = effect_law (effect_body (values H d) x g)
