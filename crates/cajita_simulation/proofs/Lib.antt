@@ -6,3 +6,4 @@ pub mod Changes
 pub mod Sums
 pub mod Forms
 pub mod Calls
+pub mod Load
