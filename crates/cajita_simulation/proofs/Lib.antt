@@ -8,3 +8,4 @@ pub mod Forms
 pub mod Calls
 pub mod Rows
 pub mod Simulation
+pub mod Load

@@ -1,0 +1,118 @@
+-- The names that a module's function begins with, beside those of the direct meaning.
+use Rattle.std.proofs.Common.{◌≡◌, ℕ, Bool, true, false, List, [], ◌∷◌, ◌++◌, Option, Some, None, cond, refl, sym, ap, ◌∙◌, subst, arith}
+use Rattle.std.specs.Prelude.{is_some, codes, ◌||◌}
+use Rattle.std.specs.List.{list_any}
+use Rattle.std.specs.Cmp.Lexicographic.{same_text}
+use Rattle.std.proofs.lemmas.Option.{none-some}
+use Rattle.std.proofs.lemmas.List.{append-nil, append_assoc}
+use Rattle.caja_units.specs.Units.{same_units, is_hidden}
+use Rattle.es3_tree.specs.Tree as t
+use Rattle.es3_heap.specs.declared.value.Value.TheVariants as es
+use Rattle.es3_heap.proofs.Keys.{same_key-refl}
+use Rattle.es3_meaning.specs.Store.{Scope, name_value, with_vars, with_params, items_names, var_names, vars_of}
+use Rattle.cajita_tree.specs.Tree as c
+use Rattle.cajita_meaning.specs.World.{Value, undefined, value_at, undefined_names}
+use Rattle.cajita_rewrite.specs.Rewrite.{runtime_name, imports_name, result_name, rewritten, joined, result_stmts}
+use Rattle.module_loader.specs.Opened.{runtime_id, imports_id}
+use Rattle.cajita_simulation.specs.Guest.{is_among, item_names, declared_by, declared}
+use Rattle.cajita_simulation.proofs.Relation.{EsValue}
+
+-- one of the names has the value undefined
+abbrev pub undefined_value : {V : Type 0} → V → Bool → Option V
+undefined_value v known = cond known (Some v) None
+
+pub value_at-undefined : (x : List ℕ) (vars : List (List ℕ)) → value_at x (undefined_names vars) ≡ undefined_value undefined (is_among vars x)
+value_at-undefined x [] = refl
+value_at-undefined x (y ∷ ys) = elim (same_units x y) as (λ b. cond b (Some undefined) (value_at x (undefined_names ys)) ≡ undefined_value undefined (b || is_among ys x)) [
+  | true ↦ refl
+  | false ↦ value_at-undefined x ys
+]
+
+-- a scope with more names behind it
+
+pub name_value-before : (x : List ℕ) (scope more : Scope) (e : EsValue) → name_value x scope ≡ Some e → name_value x (scope ++ more) ≡ Some e
+name_value-before x [] more e h = cc
+name_value-before x ((z, w) ∷ rest) more e h =
+    let cases = elim (same_units x z) as (λ b. cond b (Some w) (name_value x rest) ≡ Some e → cond b (Some w) (name_value x (rest ++ more)) ≡ Some e) [
+      | true ↦ λ h. h
+      | false ↦ λ h. name_value-before x rest more e h
+    ] in cases h
+
+pub name_value-behind : (x : List ℕ) (scope more : Scope) → name_value x scope ≡ None → name_value x (scope ++ more) ≡ name_value x more
+name_value-behind x [] more h = refl
+name_value-behind x ((z, w) ∷ rest) more h =
+    let cases = elim (same_units x z) as (λ b. cond b (Some w) (name_value x rest) ≡ None → cond b (Some w) (name_value x (rest ++ more)) ≡ name_value x more) [
+      | true ↦ λ h. cc
+      | false ↦ λ h. name_value-behind x rest more h
+    ] in cases h
+
+-- a name that is bound keeps its value
+pub with_vars-bound : (x : List ℕ) (vars : List (List ℕ)) (scope : Scope) (e : EsValue) → name_value x scope ≡ Some e → name_value x (with_vars vars scope) ≡ Some e
+with_vars-bound x [] scope e h = h
+with_vars-bound x (y ∷ ys) scope e h = elim (is_some (name_value y scope)) as (λ b. name_value x (with_vars ys (cond b scope (scope ++ (y, es.Undefined) ∷ []))) ≡ Some e) [
+  | true ↦ with_vars-bound x ys scope e h
+  | false ↦ with_vars-bound x ys (scope ++ (y, es.Undefined) ∷ []) e (name_value-before x scope ((y, es.Undefined) ∷ []) e h)
+]
+
+-- another is undefined where it is declared
+pub with_vars-unbound : (x : List ℕ) (vars : List (List ℕ)) (scope : Scope) → name_value x scope ≡ None → name_value x (with_vars vars scope) ≡ undefined_value es.Undefined (is_among vars x)
+with_vars-unbound x [] scope h = h
+with_vars-unbound x (y ∷ ys) scope h =
+    let more : Scope = scope ++ (y, es.Undefined) ∷ [] in
+    let new : (b : Bool) → same_units x y ≡ b → name_value x more ≡ undefined_value es.Undefined b = λ b is. name_value-behind x scope ((y, es.Undefined) ∷ []) h ∙ ap (λ q. undefined_value es.Undefined q) is in
+    let cases = elim (same_units x y) as (λ b. same_units x y ≡ b → name_value x (with_vars ys (cond (is_some (name_value y scope)) scope more)) ≡ undefined_value es.Undefined (b || is_among ys x)) [
+      | true ↦ λ is.
+          let bare : name_value y scope ≡ None = subst (λ k. name_value k scope ≡ None) (same_text x y (sym is)) h in
+          rw bare (with_vars-bound x ys more es.Undefined (new true is))
+      | false ↦ λ is. elim (is_some (name_value y scope)) as (λ q. name_value x (with_vars ys (cond q scope more)) ≡ undefined_value es.Undefined (is_among ys x)) [
+          | true ↦ with_vars-unbound x ys scope h
+          | false ↦ with_vars-unbound x ys more (new false is)
+        ]
+    ] in cases refl
+
+-- the rewriting keeps the declared names
+
+items_kept : (is : c.Tree c.items) → items_names (rewritten c.items is) ≡ item_names is
+unfolding rewritten
+items_kept c.no_items = refl
+items_kept (c.more_items x e rest) = ap (λ (l : List (List ℕ)). x ∷ l) (items_kept rest)
+
+names_kept : (x : c.Tree c.stmt) → var_names (rewritten c.stmt x) ≡ declared_by x
+unfolding rewritten
+names_kept (c.var is) = items_kept is
+names_kept (c.expression e) = refl
+
+vars_joined : (ss : c.Tree c.stmts) (rest : t.Tree t.stmts) → vars_of (joined (rewritten c.stmts ss) rest) ≡ declared ss ++ vars_of rest
+unfolding rewritten
+vars_joined c.no_stmts rest = refl
+vars_joined (c.more_stmts x ss) rest = rw (names_kept x, vars_joined ss rest) (sym (append_assoc (declared_by x) (declared ss) (vars_of rest)))
+
+pub vars_kept : (ss : c.Tree c.stmts) → vars_of (joined (rewritten c.stmts ss) result_stmts) ≡ declared ss
+vars_kept ss = vars_joined ss result_stmts ∙ append-nil (declared ss)
+
+-- the names of the function, with the runtime's object and the imports
+
+abbrev pub own_names : Scope
+own_names = with_params (runtime_name ∷ imports_name ∷ []) (es.Obj runtime_id ∷ es.Obj imports_id ∷ []) []
+
+pub open_differs : (x y : List ℕ) → is_hidden x ≡ false → is_hidden y ≡ true → same_units x y ≡ false
+open_differs x y guest hidden =
+    let cases = elim (same_units x y) as (λ b. same_units x y ≡ b → b ≡ false) [
+      | true ↦ λ is. cc (sym hidden ∙ ap is_hidden (sym (same_text x y (sym is))) ∙ guest)
+      | false ↦ λ is. refl
+    ] in cases refl
+
+own_hidden : (x : List ℕ) → is_hidden x ≡ false → name_value x own_names ≡ None
+own_hidden x guest = rw (open_differs x runtime_name guest refl, open_differs x imports_name guest refl) refl
+
+-- each name that isn't hidden has the value undefined where the statements declare it
+pub name_declared : (ss : c.Tree c.stmts) (x : List ℕ) → is_hidden x ≡ false → name_value x (with_vars (result_name ∷ vars_of (joined (rewritten c.stmts ss) result_stmts)) own_names) ≡ undefined_value es.Undefined (is_among (declared ss) x)
+name_declared ss x guest =
+    with_vars-unbound x (result_name ∷ vars_of (joined (rewritten c.stmts ss) result_stmts)) own_names (own_hidden x guest)
+    ∙ rw (open_differs x result_name guest refl, vars_kept ss) refl
+
+pub runtime_there : (vars : List (List ℕ)) → name_value runtime_name (with_vars vars own_names) ≡ Some (es.Obj runtime_id)
+runtime_there vars = with_vars-bound runtime_name vars own_names (es.Obj runtime_id) refl
+
+pub result_there : (vars : List (List ℕ)) → name_value result_name (with_vars (result_name ∷ vars) own_names) ≡ Some es.Undefined
+result_there vars = with_vars-unbound result_name (result_name ∷ vars) own_names refl
