@@ -36,7 +36,7 @@ cases_at (y ∷ ys) x (suc i) P a b c = cases_at ys x i P (λ lt. a (omega arith
 same_module : (n : ℕ) → nat_eq n n ≡ true
 same_module n = grind (arith, nat_tests)
 
-last_there : {A : Type 0} (m : ℕ) (x : A) (lists : ℕ → List A) → with_last m x lists m ≡ lists m ++ x ∷ []
+pub last_there : {A : Type 0} (m : ℕ) (x : A) (lists : ℕ → List A) → with_last m x lists m ≡ lists m ++ x ∷ []
 last_there m x lists = rw (same_module m) refl
 
 last_kept : {A : Type 0} (m n i : ℕ) (x y : A) (lists : ℕ → List A) → slice_get (lists n) i ≡ Some y → slice_get (with_last m x lists n) i ≡ Some y

@@ -1,0 +1,148 @@
+-- The relation where the statements of a module begin.
+use Rattle.std.proofs.Common.{◌≡◌, ℕ, zero, suc, ◌+◌, ◌*◌, ◌≤◌, ◌<◌, Bool, true, false, List, [], ◌∷◌, ◌++◌, length, Option, Some, None, cond, refl, sym, ap, ◌∙◌, subst, arith}
+use Rattle.std.specs.Prelude.{slice_get, codes, replicate}
+use Rattle.std.specs.Cmp.Lexicographic.{same_text}
+use Rattle.std.proofs.lemmas.Option.{none-some}
+use Rattle.caja_units.specs.Units.{same_units, is_hidden}
+use Rattle.es3_tree.specs.Tree as t
+use Rattle.es3_heap.specs.declared.value.Value.TheVariants as es
+use Rattle.es3_heap.specs.declared.value.Tag.TheVariants as tag
+use Rattle.es3_heap.specs.Objects as heap
+use Rattle.es3_heap.specs.Objects.{Objects}
+use Rattle.es3_meaning.specs.Store as store
+use Rattle.es3_meaning.specs.Store.{Store, Code, name_value, with_vars, first_names, vars_of, new_function}
+use Rattle.es3_meaning.specs.References.{slot, resolve}
+use Rattle.cajita_tree.specs.Tree as c
+use Rattle.cajita_meaning.specs.World as World
+use Rattle.cajita_meaning.specs.World.{Value, Pairs, Object, World as State, undefined, empty_world, with_scope, undefined_names, value_at}
+use Rattle.cajita_meaning.specs.Direct.{Item, module_env, lookup, scope_at}
+use Rattle.cajita_rewrite.specs.Rewrite.{runtime_name, imports_name, result_name, rewritten, joined, result_stmts, declares}
+use Rattle.module_loader.specs.Opened.{opened, runtime_id, imports_id, globals_id}
+use Rattle.module_loader.specs.Page.{first_kept}
+use Rattle.cajita_simulation.specs.Guest.{is_among, declared}
+use Rattle.cajita_simulation.proofs.Heaps.Opened.{opened-opened}
+use Rattle.cajita_simulation.proofs.Heaps.Functions.{function_new, function_object, prototype_object}
+use Rattle.cajita_simulation.proofs.Relation.{EsValue, Val, OptVal, Stands, Here, Temps, unknown, holds, SlotIs, Found, ScopeIs, names_at, ObjectsAre, VariablesAre, Rel}
+use Rattle.cajita_simulation.proofs.Changes.{objects_unnamed, last_there}
+use Rattle.cajita_simulation.proofs.Laws.{hold}
+use Rattle.cajita_simulation.proofs.Load.Names.{undefined_value, value_at-undefined, own_names, name_declared, runtime_there, result_there}
+
+-- where the statements of the module stand
+abbrev pub here : ℕ → List (List ℕ) → Here
+here by vars = record { env = module_env by empty_world; vars = vars }
+
+-- nothing was evaluated yet: the module's result is undefined
+abbrev pub first_temps : Temps
+first_temps = hold result_name undefined (λ x. unknown)
+
+-- the world when the variables are bound
+abbrev pub bound_world : ℕ → List (List ℕ) → State
+bound_world by vars = with_scope by (undefined_names vars) empty_world
+
+-- the statements of the module's function behind `var moduleResult___;`
+abbrev pub statements : c.Tree c.stmts → t.Tree t.stmts
+statements list = joined (rewritten c.stmts list) result_stmts
+
+abbrev pub module_body : c.Tree c.stmts → t.Tree t.stmts
+module_body list = t.more_stmts (declares result_name) (statements list)
+
+-- the store with the function, and with its scope
+abbrev pub module_code : t.Tree t.stmts → Code
+module_code body = record { params = runtime_name ∷ imports_name ∷ []; vars = vars_of body; body = body; chain = [] }
+
+abbrev pub made_store : ℕ → t.Tree t.stmts → Store
+made_store by body = record { heap = new_function 0 2 by opened; scopes = []; codes = module_code body ∷ []; globals = globals_id }
+
+abbrev pub module_store : ℕ → t.Tree t.stmts → Store
+module_store by body = store.with_scope (first_names (module_code body) (es.Obj runtime_id ∷ es.Obj imports_id ∷ [])) (made_store by body)
+
+-- objects
+
+-- none has a name
+abbrev Unnamed : List heap.Object → Type 0
+Unnamed [] = Unit {0}
+Unnamed (o ∷ os) = (o.tag ≡ tag.None) × Unnamed os
+
+no_name : (a b : ℕ) → tag.None ≡ tag.Made a b → ⊥
+no_name a b e = cc
+
+unnamed_at : (list : List heap.Object) → Unnamed list → (i a b : ℕ) → heap.tag_of (slice_get list i) ≡ tag.Made a b → ⊥
+unnamed_at [] u i a b e = no_name a b e
+unnamed_at (o ∷ os) u zero a b e = no_name a b (sym u.0 ∙ e)
+unnamed_at (o ∷ os) u (suc i) a b e = unnamed_at os u.1 i a b e
+
+opened_unnamed : Unnamed opened.list
+unfolding opened
+opened_unnamed = (refl, (refl, (refl, (refl, (refl, (refl, (refl, (refl, (refl, (refl, (refl, (refl, (refl, (refl, (refl, (refl, tt))))))))))))))))
+
+replicate_at : (n i x : ℕ) → i < n → slice_get (replicate n x) i ≡ Some x
+replicate_at zero i x lt = absurd (omega arith)
+replicate_at (suc n) zero x lt = refl
+replicate_at (suc n) (suc i) x lt = replicate_at n i x (omega arith)
+
+opened_counts : opened.counts ≡ replicate 64 0
+unfolding opened
+opened_counts = refl
+
+objects_opened : (by m : ℕ) → by < 64 → ObjectsAre by empty_world.objects opened m
+objects_opened by m few = record {
+  objs = λ i a b e. absurd (unnamed_at opened.list opened_unnamed i a b e);
+  count = rw opened_counts (replicate_at 64 by 0 few);
+  few = omega arith;
+  opened = λ i lt. refl;
+  large = opened-opened.large;
+}
+
+pub objects_begin : (by m : ℕ) → by < 64 → ObjectsAre by empty_world.objects (new_function 0 2 by opened) m
+objects_begin by m few =
+    subst (λ h. ObjectsAre by empty_world.objects h m) (sym (function_new 0 2 by opened))
+    (objects_unnamed (prototype_object (length opened.list)) refl (objects_unnamed (function_object 0 2 by (suc (length opened.list))) refl (objects_opened by m few)))
+
+-- variables
+
+-- a name of the one scope is found there
+found_first : (s : Store) (x : List ℕ) (e : EsValue) → name_value x (names_at s 0) ≡ Some e → Found (0 ∷ []) s x e
+found_first s x e there = record { place = 0; at = rw there refl; value = there }
+
+both_undefined : (h : Objects) (b : Bool) → OptVal h (undefined_value undefined b) (undefined_value es.Undefined b)
+both_undefined h true = tt
+both_undefined h false = tt
+
+-- a variable is bound on both sides, and undefined
+scope_begins : (h : Objects) (vars : List (List ℕ)) (list : c.Tree c.stmts) → ((x : List ℕ) → is_among vars x ≡ is_among (declared list) x) → ScopeIs h (undefined_names vars) (with_vars (vars_of (module_body list)) own_names)
+scope_begins h vars list same x guest = rw (value_at-undefined x vars, name_declared list x guest, sym (same x)) (both_undefined h (is_among vars x))
+
+temps_begin : (s : Store) → name_value result_name (names_at s 0) ≡ Some es.Undefined → (x : List ℕ) → SlotIs (0 ∷ []) s x (first_temps x)
+temps_begin s there x =
+    let cases = elim (same_units x result_name) as (λ b. same_units x result_name ≡ b → SlotIs (0 ∷ []) s x (cond b (holds undefined) unknown)) [
+      | true ↦ λ is. subst (λ k. SlotIs (0 ∷ []) s k (holds undefined)) (sym (same_text x result_name (sym is))) (es.Undefined, found_first s result_name es.Undefined there, tt)
+      | false ↦ λ is. tt
+    ] in cases refl
+
+lookup_first : (scopes : List Pairs) (x : List ℕ) (v : Value) → value_at x (scope_at (slice_get scopes 0)) ≡ Some v → lookup (0 ∷ []) scopes x ≡ Some v
+lookup_first scopes x v there = rw there refl
+
+variables_begin : (by : ℕ) (vars : List (List ℕ)) (list : c.Tree c.stmts) → ((x : List ℕ) → is_among vars x ≡ is_among (declared list) x) → VariablesAre (here by vars) first_temps (undefined_names vars ∷ []) (module_store by (module_body list))
+variables_begin by vars list same =
+    let s = module_store by (module_body list) in
+    record {
+      scopes = all_scopes;
+      temps = λ x hidden. temps_begin s (result_there (vars_of (statements list))) x;
+      runtime = found_first s (codes "___") (es.Obj runtime_id) (runtime_there (vars_of (module_body list)));
+      result = (es.Undefined, found_first s (codes "moduleResult___") es.Undefined (result_there (vars_of (statements list))));
+      bound = λ x known. (undefined, lookup_first (undefined_names vars ∷ []) x undefined (value_at-undefined x vars ∙ ap (λ b. undefined_value undefined b) known));
+    }
+  where
+    all_scopes : (n : ℕ) → ScopeIs (module_store by (module_body list)).heap (scope_at (slice_get (undefined_names vars ∷ []) n)) (names_at (module_store by (module_body list)) n)
+    all_scopes zero = scope_begins (module_store by (module_body list)).heap vars list same
+    all_scopes (suc n) = λ x guest. tt
+
+-- the relation, when the interpreter took seven steps and the direct meaning one at least
+pub opening : (by : ℕ) (vars : List (List ℕ)) (list : c.Tree c.stmts) (n : ℕ) → by < 64 → ((x : List ℕ) → is_among vars x ≡ is_among (declared list) x) → 1 ≤ n → Rel (here by vars) first_temps 40 (bound_world by vars) [] n (module_store by (module_body list)) first_kept 7
+opening by vars list n few same some = record {
+  steps = omega (arith, some);
+  items = refl;
+  objects = objects_begin by 7 few;
+  variables = subst (λ l. VariablesAre (here by vars) first_temps l (module_store by (module_body list))) (sym (last_there by (undefined_names vars) (λ m. []))) (variables_begin by vars list same);
+  kept = refl;
+}
