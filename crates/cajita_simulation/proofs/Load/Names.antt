@@ -111,6 +111,23 @@ name_declared ss x guest =
     with_vars-unbound x (result_name ∷ vars_of (joined (rewritten c.stmts ss) result_stmts)) own_names (own_hidden x guest)
     ∙ rw (open_differs x result_name guest refl, vars_kept ss) refl
 
+-- a declared name is bound
+vars_bound : (x : List ℕ) (vars : List (List ℕ)) (scope : Scope) → is_among vars x ≡ true → is_some (name_value x (with_vars vars scope)) ≡ true
+vars_bound x vars scope known =
+    let cases = elim (name_value x scope) as (λ o. name_value x scope ≡ o → is_some (name_value x (with_vars vars scope)) ≡ true) [
+      | None ↦ λ is. ap is_some (with_vars-unbound x vars scope is ∙ ap (λ b. undefined_value es.Undefined b) known)
+      | Some e ↦ λ is. ap is_some (with_vars-bound x vars scope e is)
+    ] in cases refl
+
+among_more : (x y : List ℕ) (names : List (List ℕ)) → is_among names x ≡ true → is_among (y ∷ names) x ≡ true
+among_more x y names known = elim (same_units x y) as (λ b. (b || is_among names x) ≡ true) [
+  | true ↦ refl
+  | false ↦ known
+]
+
+pub name_bound : (ss : c.Tree c.stmts) (x : List ℕ) → is_among (declared ss) x ≡ true → is_some (name_value x (with_vars (result_name ∷ vars_of (joined (rewritten c.stmts ss) result_stmts)) own_names)) ≡ true
+name_bound ss x known = vars_bound x (result_name ∷ vars_of (joined (rewritten c.stmts ss) result_stmts)) own_names (among_more x result_name (vars_of (joined (rewritten c.stmts ss) result_stmts)) (subst (λ l. is_among l x ≡ true) (sym (vars_kept ss)) known))
+
 pub runtime_there : (vars : List (List ℕ)) → name_value runtime_name (with_vars vars own_names) ≡ Some (es.Obj runtime_id)
 runtime_there vars = with_vars-bound runtime_name vars own_names (es.Obj runtime_id) refl
 

@@ -1,6 +1,6 @@
 -- The relation where the statements of a module begin.
 use Rattle.std.proofs.Common.{◌≡◌, ℕ, zero, suc, ◌+◌, ◌*◌, ◌≤◌, ◌<◌, Bool, true, false, List, [], ◌∷◌, ◌++◌, length, Option, Some, None, cond, refl, sym, ap, ◌∙◌, subst, arith}
-use Rattle.std.specs.Prelude.{slice_get, codes, replicate}
+use Rattle.std.specs.Prelude.{slice_get, codes, is_some, replicate}
 use Rattle.std.specs.Cmp.Lexicographic.{same_text}
 use Rattle.std.proofs.lemmas.Option.{none-some}
 use Rattle.caja_units.specs.Units.{same_units, is_hidden}
@@ -25,11 +25,11 @@ use Rattle.cajita_simulation.proofs.Heaps.Functions.{function_new, function_obje
 use Rattle.cajita_simulation.proofs.Relation.{EsValue, Val, OptVal, Stands, Here, Temps, unknown, holds, SlotIs, Found, ScopeIs, names_at, ObjectsAre, VariablesAre, Rel}
 use Rattle.cajita_simulation.proofs.Changes.{objects_unnamed, last_there}
 use Rattle.cajita_simulation.proofs.Laws.{hold}
-use Rattle.cajita_simulation.proofs.Load.Names.{undefined_value, value_at-undefined, own_names, name_declared, runtime_there, result_there}
+use Rattle.cajita_simulation.proofs.Load.Names.{undefined_value, value_at-undefined, own_names, name_declared, name_bound, runtime_there, result_there}
 
 -- where the statements of the module stand
 abbrev pub here : ℕ → List (List ℕ) → Here
-here by vars = record { env = module_env by empty_world; vars = vars }
+here by vars = record { env = module_env by empty_world; vars = vars; place = λ x. 0 }
 
 -- nothing was evaluated yet: the module's result is undefined
 abbrev pub first_temps : Temps
@@ -101,7 +101,7 @@ objects_begin by m few =
 -- variables
 
 -- a name of the one scope is found there
-found_first : (s : Store) (x : List ℕ) (e : EsValue) → name_value x (names_at s 0) ≡ Some e → Found (0 ∷ []) s x e
+abbrev found_first : (s : Store) (x : List ℕ) (e : EsValue) → name_value x (names_at s 0) ≡ Some e → Found (0 ∷ []) s x e
 found_first s x e there = record { place = 0; at = rw there refl; value = there }
 
 both_undefined : (h : Objects) (b : Bool) → OptVal h (undefined_value undefined b) (undefined_value es.Undefined b)
@@ -122,6 +122,9 @@ temps_begin s there x =
 lookup_first : (scopes : List Pairs) (x : List ℕ) (v : Value) → value_at x (scope_at (slice_get scopes 0)) ≡ Some v → lookup (0 ∷ []) scopes x ≡ Some v
 lookup_first scopes x v there = rw there refl
 
+resolve_first : (s : Store) (x : List ℕ) → is_some (name_value x (names_at s 0)) ≡ true → resolve (0 ∷ []) s x ≡ slot 0 x
+resolve_first s x there = rw there refl
+
 variables_begin : (by : ℕ) (vars : List (List ℕ)) (list : c.Tree c.stmts) → ((x : List ℕ) → is_among vars x ≡ is_among (declared list) x) → VariablesAre (here by vars) first_temps (undefined_names vars ∷ []) (module_store by (module_body list))
 variables_begin by vars list same =
     let s = module_store by (module_body list) in
@@ -129,8 +132,8 @@ variables_begin by vars list same =
       scopes = all_scopes;
       temps = λ x hidden. temps_begin s (result_there (vars_of (statements list))) x;
       runtime = found_first s (codes "___") (es.Obj runtime_id) (runtime_there (vars_of (module_body list)));
-      result = (es.Undefined, found_first s (codes "moduleResult___") es.Undefined (result_there (vars_of (statements list))));
-      bound = λ x known. (undefined, lookup_first (undefined_names vars ∷ []) x undefined (value_at-undefined x vars ∙ ap (λ b. undefined_value undefined b) known));
+      result = (es.Undefined, found_first s (codes "moduleResult___") es.Undefined (result_there (vars_of (statements list))), refl);
+      bound = λ x known. (undefined, lookup_first (undefined_names vars ∷ []) x undefined (value_at-undefined x vars ∙ ap (λ b. undefined_value undefined b) known), resolve_first s x (name_bound list x (sym (same x) ∙ known)));
     }
   where
     all_scopes : (n : ℕ) → ScopeIs (module_store by (module_body list)).heap (scope_at (slice_get (undefined_names vars ∷ []) n)) (names_at (module_store by (module_body list)) n)
