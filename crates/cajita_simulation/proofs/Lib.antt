@@ -9,3 +9,4 @@ pub mod Calls
 pub mod Rows
 pub mod Simulation
 pub mod Load
+pub mod Theorem
