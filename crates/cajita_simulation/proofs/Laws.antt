@@ -17,12 +17,9 @@ use Rattle.cajita_meaning.specs.World.{Value, World}
 use Rattle.cajita_meaning.specs.Direct as Source
 use Rattle.cajita_meaning.specs.Direct.{Item, printed, direct}
 use Rattle.module_loader.specs.Page.{Kept, page_table}
+pub use Rattle.cajita_simulation.specs.Alike.{most_steps}
 use Rattle.cajita_simulation.specs.Alike.{shown, IsPrefix, GuestFault}
 use Rattle.cajita_simulation.proofs.Relation.{EsValue, Val, ObjectsAre, Here, env_of, Temps, Slot, holds, Rel, Keeps, keeps_refl, keeps_trans, keeps_step, keeps_before, more, rel_less, rel_both, rel_pay}
-
--- the steps that are looked at: as many as a module's count of names can count
-abbrev pub most_steps : ℕ
-most_steps = 4294967294
 
 -- the end of a module's load, and that of its program
 abbrev pub Ends : ℕ → Source.Completion → World → List Item → Target.Completion → Store → Kept → Type 0

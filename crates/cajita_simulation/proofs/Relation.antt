@@ -28,74 +28,14 @@ use Rattle.module_loader.specs.Opened.{opened, runtime_id}
 use Rattle.module_loader.specs.Page.{Kept, page_table, first_kept}
 use Rattle.cajita_simulation.specs.Guest.{is_among}
 use Rattle.cajita_simulation.specs.Alike.{shown}
+pub use Rattle.cajita_simulation.specs.Correspond.{EsValue, Named, Val, guests, PairsAre, IsRecord, value_is, IsError, Is, Stands}
 
-abbrev pub EsValue : Type 0
-EsValue = es_value.Value
-
--- values
-
--- the object i has the name n
-abbrev pub Named : Objects → Name → ℕ → Type 0
-Named h n i = heap.tag_of (heap.object_at h i) ≡ tag.Made n.maker n.number
-
--- a value that no guest has corresponds to nothing
-abbrev pub Val : Objects → Value → EsValue → Type 0
-Val h World.undefined es.Undefined = Unit {0}
-Val h World.null es.Null = Unit {0}
-Val h (World.truth a) (es.Bool b) = a ≡ b
-Val h (World.number a) (es.Num b) = a ≡ b
-Val h (World.text a) (es.Text b) = a ≡ b
-Val h (World.object n) (es.Obj i) = Named h n i
-Val h _ _ = ⊥
+-- values that may be absent
 
 abbrev pub OptVal : Objects → Option Value → Option EsValue → Type 0
 OptVal h None None = Unit {0}
 OptVal h (Some v) (Some e) = Val h v e
 OptVal h _ _ = ⊥
-
--- objects
-
--- the properties of a record that its module sees
-abbrev pub guests : List Property → List Property
-guests [] = []
-guests (p ∷ ps) = cond (is_hidden p.key) (guests ps) (p ∷ guests ps)
-
-abbrev pub PairsAre : Objects → Pairs → List Property → Type 0
-PairsAre h [] [] = Unit {0}
-PairsAre h ((k, v) ∷ ps) (q ∷ qs) = (k ≡ q.key) × Val h v q.value × PairsAre h ps qs
-PairsAre h _ _ = ⊥
-
--- a record's public keys, in order, are the pairs; its prototype is the one that it began with; it has no key of a built-in conversion
-pub record IsRecord (h : Objects) (ps : Pairs) (o : heap.Object) : Type 0 where
-  pub class : o.class ≡ class.Object
-  pub proto : o.proto ≡ Some (proto_id proto.Object)
-  pub pairs : PairsAre h ps (guests o.props)
-  pub no_text : find (codes "toString") o.props ≡ None
-  pub no_value : find (codes "valueOf") o.props ≡ None
-
-abbrev pub value_is : Option Property → EsValue → Type 0
-value_is None e = ⊥
-value_is (Some p) e = p.value ≡ e
-
-pub record IsError (name message : List ℕ) (o : heap.Object) : Type 0 where
-  pub class : o.class ≡ class.Error
-  pub proto : o.proto ≡ Some (proto_id proto.TypeError)
-  pub has_name : value_is (find (codes "name") o.props) (es.Text name)
-  pub has_message : value_is (find (codes "message") o.props) (es.Text message)
-  pub no_text : find (codes "toString") o.props ≡ None
-  pub no_value : find (codes "valueOf") o.props ≡ None
-
-abbrev pub Is : Objects → Object → heap.Object → Type 0
-Is h (a_record ps) o = IsRecord h ps o
-Is h (an_error name message) o = IsError name message o
-
--- a named object stands for the world's object of its name
-pub record Stands (objects : List Object) (h : Objects) (number i : ℕ) : Type 0 where
-  pub object : Object
-  pub known : slice_get objects number ≡ Some object
-  pub stored : heap.Object
-  pub there : heap.object_at h i ≡ Some stored
-  pub is : Is h object stored
 
 -- where a form stands: its surroundings, the variables that it may name, and the scope that each name is found in, which never changes
 pub record Here : Type 0 where

@@ -21,3 +21,7 @@ abbrev pub GuestFault : Fault → Type 0
 GuestFault number_fault = Unit {0}
 GuestFault depth_fault = Unit {0}
 GuestFault convert_fault = ⊥
+
+-- the steps of the interpreter that are looked at: as many as a module's count of names can count
+abbrev pub most_steps : ℕ
+most_steps = 4294967294

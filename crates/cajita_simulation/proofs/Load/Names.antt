@@ -1,17 +1,14 @@
 -- The names that a module's function begins with, beside those of the direct meaning.
-use Rattle.std.proofs.Common.{◌≡◌, ℕ, Bool, true, false, List, [], ◌∷◌, ◌++◌, Option, Some, None, cond, refl, sym, ap, ◌∙◌, subst, arith}
-use Rattle.std.specs.Prelude.{is_some, codes, ◌||◌}
-use Rattle.std.specs.List.{list_any}
+use Rattle.std.proofs.Common.{◌≡◌, ℕ, Bool, true, false, List, [], ◌∷◌, ◌++◌, Option, Some, None, cond, refl, sym, ap, ◌∙◌, subst}
+use Rattle.std.specs.Prelude.{is_some, ◌||◌}
 use Rattle.std.specs.Cmp.Lexicographic.{same_text}
-use Rattle.std.proofs.lemmas.Option.{none-some}
 use Rattle.std.proofs.lemmas.List.{append-nil, append_assoc}
 use Rattle.caja_units.specs.Units.{same_units, is_hidden}
 use Rattle.es3_tree.specs.Tree as t
 use Rattle.es3_heap.specs.declared.value.Value.TheVariants as es
-use Rattle.es3_heap.proofs.Keys.{same_key-refl}
 use Rattle.es3_meaning.specs.Store.{Scope, name_value, with_vars, with_params, items_names, var_names, vars_of}
 use Rattle.cajita_tree.specs.Tree as c
-use Rattle.cajita_meaning.specs.World.{Value, undefined, value_at, undefined_names}
+use Rattle.cajita_meaning.specs.World.{undefined, value_at, undefined_names}
 use Rattle.cajita_rewrite.specs.Rewrite.{runtime_name, imports_name, result_name, rewritten, joined, result_stmts}
 use Rattle.module_loader.specs.Opened.{runtime_id, imports_id}
 use Rattle.cajita_simulation.specs.Guest.{is_among, item_names, declared_by, declared}
@@ -65,9 +62,9 @@ with_vars-unbound x (y ∷ ys) scope h =
           let bare : name_value y scope ≡ None = subst (λ k. name_value k scope ≡ None) (same_text x y (sym is)) h in
           rw bare (with_vars-bound x ys more es.Undefined (new true is))
       | false ↦ λ is. elim (is_some (name_value y scope)) as (λ q. name_value x (with_vars ys (cond q scope more)) ≡ undefined_value es.Undefined (is_among ys x)) [
-          | true ↦ with_vars-unbound x ys scope h
-          | false ↦ with_vars-unbound x ys more (new false is)
-        ]
+        | true ↦ with_vars-unbound x ys scope h
+        | false ↦ with_vars-unbound x ys more (new false is)
+      ]
     ] in cases refl
 
 -- the rewriting keeps the declared names
@@ -110,6 +107,23 @@ pub name_declared : (ss : c.Tree c.stmts) (x : List ℕ) → is_hidden x ≡ fal
 name_declared ss x guest =
     with_vars-unbound x (result_name ∷ vars_of (joined (rewritten c.stmts ss) result_stmts)) own_names (own_hidden x guest)
     ∙ rw (open_differs x result_name guest refl, vars_kept ss) refl
+
+-- a declared name is bound
+vars_bound : (x : List ℕ) (vars : List (List ℕ)) (scope : Scope) → is_among vars x ≡ true → is_some (name_value x (with_vars vars scope)) ≡ true
+vars_bound x vars scope known =
+    let cases = elim (name_value x scope) as (λ o. name_value x scope ≡ o → is_some (name_value x (with_vars vars scope)) ≡ true) [
+      | None ↦ λ is. ap is_some (with_vars-unbound x vars scope is ∙ ap (λ b. undefined_value es.Undefined b) known)
+      | Some e ↦ λ is. ap is_some (with_vars-bound x vars scope e is)
+    ] in cases refl
+
+among_more : (x y : List ℕ) (names : List (List ℕ)) → is_among names x ≡ true → is_among (y ∷ names) x ≡ true
+among_more x y names known = elim (same_units x y) as (λ b. (b || is_among names x) ≡ true) [
+  | true ↦ refl
+  | false ↦ known
+]
+
+pub name_bound : (ss : c.Tree c.stmts) (x : List ℕ) → is_among (declared ss) x ≡ true → is_some (name_value x (with_vars (result_name ∷ vars_of (joined (rewritten c.stmts ss) result_stmts)) own_names)) ≡ true
+name_bound ss x known = vars_bound x (result_name ∷ vars_of (joined (rewritten c.stmts ss) result_stmts)) own_names (among_more x result_name (vars_of (joined (rewritten c.stmts ss) result_stmts)) (subst (λ l. is_among l x ≡ true) (sym (vars_kept ss)) known))
 
 pub runtime_there : (vars : List (List ℕ)) → name_value runtime_name (with_vars vars own_names) ≡ Some (es.Obj runtime_id)
 runtime_there vars = with_vars-bound runtime_name vars own_names (es.Obj runtime_id) refl

@@ -1,9 +1,8 @@
 -- The relation where the statements of a module begin.
-use Rattle.std.proofs.Common.{◌≡◌, ℕ, zero, suc, ◌+◌, ◌*◌, ◌≤◌, ◌<◌, Bool, true, false, List, [], ◌∷◌, ◌++◌, length, Option, Some, None, cond, refl, sym, ap, ◌∙◌, subst, arith}
-use Rattle.std.specs.Prelude.{slice_get, codes, replicate, ◌||◌}
+use Rattle.std.proofs.Common.{◌≡◌, ℕ, zero, suc, ◌≤◌, ◌<◌, Bool, true, false, List, [], ◌∷◌, length, Some, cond, refl, sym, ap, ◌∙◌, subst, arith}
+use Rattle.std.specs.Prelude.{slice_get, codes, is_some, replicate}
 use Rattle.std.specs.Cmp.Lexicographic.{same_text}
-use Rattle.std.proofs.lemmas.Option.{none-some}
-use Rattle.caja_units.specs.Units.{same_units, is_hidden}
+use Rattle.caja_units.specs.Units.{same_units}
 use Rattle.es3_tree.specs.Tree as t
 use Rattle.es3_heap.specs.declared.value.Value.TheVariants as es
 use Rattle.es3_heap.specs.declared.value.Tag.TheVariants as tag
@@ -13,20 +12,18 @@ use Rattle.es3_meaning.specs.Store as store
 use Rattle.es3_meaning.specs.Store.{Store, Code, name_value, with_vars, first_names, vars_of, new_function}
 use Rattle.es3_meaning.specs.References.{slot, resolve}
 use Rattle.cajita_tree.specs.Tree as c
-use Rattle.cajita_meaning.specs.World as World
-use Rattle.cajita_meaning.specs.World.{Value, Pairs, Object, World as State, undefined, empty_world, with_scope, undefined_names, value_at}
-use Rattle.cajita_meaning.specs.Direct.{Item, module_env, lookup, scope_at}
+use Rattle.cajita_meaning.specs.World.{Value, Pairs, World as State, undefined, empty_world, with_scope, undefined_names, value_at}
+use Rattle.cajita_meaning.specs.Direct.{module_env, lookup, scope_at}
 use Rattle.cajita_rewrite.specs.Rewrite.{runtime_name, imports_name, result_name, rewritten, joined, result_stmts, declares}
 use Rattle.module_loader.specs.Opened.{opened, runtime_id, imports_id, globals_id}
 use Rattle.module_loader.specs.Page.{first_kept}
-use Rattle.cajita_simulation.specs.Guest.{is_among, Guest, item_names, declared_by, declared}
-use Rattle.std.proofs.lemmas.List.Folds.{list_any-append}
+use Rattle.cajita_simulation.specs.Guest.{is_among, declared}
 use Rattle.cajita_simulation.proofs.Heaps.Opened.{opened-opened}
 use Rattle.cajita_simulation.proofs.Heaps.Functions.{function_new, function_object, prototype_object}
-use Rattle.cajita_simulation.proofs.Relation.{EsValue, Val, OptVal, Stands, Here, Temps, unknown, holds, SlotIs, Found, ScopeIs, names_at, ObjectsAre, VariablesAre, Rel}
+use Rattle.cajita_simulation.proofs.Relation.{EsValue, OptVal, Here, Temps, unknown, holds, SlotIs, Found, ScopeIs, names_at, ObjectsAre, VariablesAre, Rel}
 use Rattle.cajita_simulation.proofs.Changes.{objects_unnamed, last_there}
 use Rattle.cajita_simulation.proofs.Laws.{hold}
-use Rattle.cajita_simulation.proofs.Load.Names.{undefined_value, value_at-undefined, own_names, name_declared, runtime_there, result_there}
+use Rattle.cajita_simulation.proofs.Load.Names.{undefined_value, value_at-undefined, own_names, name_declared, name_bound, runtime_there, result_there}
 
 -- where the statements of the module stand
 abbrev pub here : ℕ → List (List ℕ) → Here
@@ -123,37 +120,18 @@ temps_begin s there x =
 lookup_first : (scopes : List Pairs) (x : List ℕ) (v : Value) → value_at x (scope_at (slice_get scopes 0)) ≡ Some v → lookup (0 ∷ []) scopes x ≡ Some v
 lookup_first scopes x v there = rw there refl
 
--- a name that a guest declares isn't hidden
+resolve_first : (s : Store) (x : List ℕ) → is_some (name_value x (names_at s 0)) ≡ true → resolve (0 ∷ []) s x ≡ slot 0 x
+resolve_first s x there = rw there refl
 
-items_open : (names : List (List ℕ)) (is : c.Tree c.items) → Guest names c.items is → (x : List ℕ) → is_among (item_names is) x ≡ true → is_hidden x ≡ false
-items_open names c.no_items g x e = cc
-items_open names (c.more_items y value rest) g x e =
-    let cases = elim (same_units x y) as (λ b. same_units x y ≡ b → (b || is_among (item_names rest) x) ≡ true → is_hidden x ≡ false) [
-      | true ↦ λ is h. ap is_hidden (same_text x y (sym is)) ∙ g.1.open_name
-      | false ↦ λ is h. items_open names rest g.3 x h
-    ] in cases refl e
-
-stmt_open : (names : List (List ℕ)) (s : c.Tree c.stmt) → Guest names c.stmt s → (x : List ℕ) → is_among (declared_by s) x ≡ true → is_hidden x ≡ false
-stmt_open names (c.var is) g x e = items_open names is g x e
-stmt_open names (c.expression value) g x e = cc
-
-stmts_open : (names : List (List ℕ)) (list : c.Tree c.stmts) → Guest names c.stmts list → (x : List ℕ) → is_among (declared list) x ≡ true → is_hidden x ≡ false
-stmts_open names c.no_stmts g x e = cc
-stmts_open names (c.more_stmts s rest) g x e =
-    let cases = elim (is_among (declared_by s) x) as (λ b. is_among (declared_by s) x ≡ b → (b || is_among (declared rest) x) ≡ true → is_hidden x ≡ false) [
-      | true ↦ λ is h. stmt_open names s g.0 x is
-      | false ↦ λ is h. stmts_open names rest g.1 x h
-    ] in cases refl (sym (list_any-append (same_units x) (declared_by s) (declared rest)) ∙ e)
-
-variables_begin : (by : ℕ) (vars : List (List ℕ)) (list : c.Tree c.stmts) → ((x : List ℕ) → is_among vars x ≡ is_among (declared list) x) → Guest vars c.stmts list → VariablesAre (here by vars) first_temps (undefined_names vars ∷ []) (module_store by (module_body list))
-variables_begin by vars list same guests =
+variables_begin : (by : ℕ) (vars : List (List ℕ)) (list : c.Tree c.stmts) → ((x : List ℕ) → is_among vars x ≡ is_among (declared list) x) → VariablesAre (here by vars) first_temps (undefined_names vars ∷ []) (module_store by (module_body list))
+variables_begin by vars list same =
     let s = module_store by (module_body list) in
     record {
       scopes = all_scopes;
       temps = λ x hidden. temps_begin s (result_there (vars_of (statements list))) x;
       runtime = found_first s (codes "___") (es.Obj runtime_id) (runtime_there (vars_of (module_body list)));
       result = (es.Undefined, found_first s (codes "moduleResult___") es.Undefined (result_there (vars_of (statements list))), refl);
-      bound = λ x known. (undefined, lookup_first (undefined_names vars ∷ []) x undefined (value_at-undefined x vars ∙ ap (λ b. undefined_value undefined b) known), rw (name_declared list x (stmts_open vars list guests x (sym (same x) ∙ known)), sym (same x) ∙ known) refl);
+      bound = λ x known. (undefined, lookup_first (undefined_names vars ∷ []) x undefined (value_at-undefined x vars ∙ ap (λ b. undefined_value undefined b) known), resolve_first s x (name_bound list x (sym (same x) ∙ known)));
     }
   where
     all_scopes : (n : ℕ) → ScopeIs (module_store by (module_body list)).heap (scope_at (slice_get (undefined_names vars ∷ []) n)) (names_at (module_store by (module_body list)) n)
@@ -161,11 +139,11 @@ variables_begin by vars list same guests =
     all_scopes (suc n) = λ x guest. tt
 
 -- the relation, when the interpreter took seven steps and the direct meaning one at least
-pub opening : (by : ℕ) (vars : List (List ℕ)) (list : c.Tree c.stmts) (n : ℕ) → by < 64 → ((x : List ℕ) → is_among vars x ≡ is_among (declared list) x) → Guest vars c.stmts list → 1 ≤ n → Rel (here by vars) first_temps 40 (bound_world by vars) [] n (module_store by (module_body list)) first_kept 7
-opening by vars list n few same guests some = record {
+pub opening : (by : ℕ) (vars : List (List ℕ)) (list : c.Tree c.stmts) (n : ℕ) → by < 64 → ((x : List ℕ) → is_among vars x ≡ is_among (declared list) x) → 1 ≤ n → Rel (here by vars) first_temps 40 (bound_world by vars) [] n (module_store by (module_body list)) first_kept 7
+opening by vars list n few same some = record {
   steps = omega (arith, some);
   items = refl;
   objects = objects_begin by 7 few;
-  variables = subst (λ l. VariablesAre (here by vars) first_temps l (module_store by (module_body list))) (sym (last_there by (undefined_names vars) (λ m. []))) (variables_begin by vars list same guests);
+  variables = subst (λ l. VariablesAre (here by vars) first_temps l (module_store by (module_body list))) (sym (last_there by (undefined_names vars) (λ m. []))) (variables_begin by vars list same);
   kept = refl;
 }

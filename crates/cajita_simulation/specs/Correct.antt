@@ -1,0 +1,43 @@
+-- A rewritten module does in the interpreter what its source does directly. Its program runs in a page of its own, and each of both has a number of steps.
+use Rattle.std.specs.Prelude.{◌≡◌, ℕ, ◌+◌, ◌*◌, ◌≤◌, Some}
+use Rattle.plans.specs.Plans.{over, stopped, out, count_of, kept_of}
+use Rattle.matching.specs.Sentences.{IsFinished}
+use Rattle.es3_meaning.specs.Store.{Store}
+use Rattle.es3_meaning.specs.Meaning as Target
+use Rattle.cajita_tree.specs.Tree as c
+use Rattle.cajita_rewrite.specs.Rewrite.{program_of}
+use Rattle.cajita_meaning.specs.World.{World}
+use Rattle.cajita_meaning.specs.Direct as Source
+use Rattle.cajita_meaning.specs.Direct.{printed, direct_run}
+use Rattle.module_loader.specs.Page.{Kept, module_run}
+use Rattle.cajita_simulation.specs.Alike.{shown, IsPrefix, GuestFault, most_steps}
+use Rattle.cajita_simulation.specs.Correspond.{Val, AllStand}
+
+-- the load gave a value and the program came to its end with one that corresponds, or both threw values that correspond; named objects stand for those of the world
+abbrev pub SameEnd : Source.Completion → World → Target.Completion → Store → Type 0
+SameEnd (Source.gave v) w (Target.normal (Some e)) s = Val s.heap v e × AllStand w.objects s.heap
+SameEnd (Source.threw v) w (Target.threw e) s = Val s.heap v e × AllStand w.objects s.heap
+SameEnd _ w _ s = ⊥
+
+-- both came to such an end, or stopped by the same fault, which is no conversion; and what is printed is the same
+abbrev pub EndAlike : Source.Run → Target.Run Kept → Type 0
+EndAlike (over e w z n) (over e' s y n') = SameEnd e w e' s × (printed z ≡ shown y)
+EndAlike (stopped f w z n) (stopped g s y n') = (f ≡ g) × GuestFault f × (printed z ≡ shown y)
+EndAlike r t = ⊥
+
+-- not ended by a conversion that would run code of a text
+abbrev pub ConvertsNothing : Target.Run Kept → Type 0
+ConvertsNothing (over e s y n) = Unit {0}
+ConvertsNothing (stopped f s y n) = GuestFault f
+ConvertsNothing (out s y n) = Unit {0}
+
+-- four sentences on the module m that runs as module `by`
+pub record Correct (by : ℕ) (m : c.Tree c.program) : Type 0 where
+  -- where the source, with n steps, comes to an end after c of them, its program comes to a like end with every number of steps that is 64 times c or more, and takes no more of them
+  pub forward : (n c k : ℕ) → IsFinished (direct_run m by n) → count_of (direct_run m by n) + c ≡ n → 64 * c ≤ k → 64 * c ≤ most_steps → EndAlike (direct_run m by n) (module_run (program_of m) by k) × (k ≤ count_of (module_run (program_of m) by k) + 64 * c)
+  -- where the program comes to an end with k steps, its source comes to a like end with every number of steps that is large enough
+  pub backward : (k : ℕ) → k ≤ most_steps → IsFinished (module_run (program_of m) by k) → (j : ℕ) × ((n : ℕ) → j ≤ n → EndAlike (direct_run m by n) (module_run (program_of m) by k))
+  -- what the program shows with k steps, however it was cut, is the beginning of what its source prints with every number of steps that is large enough
+  pub cut : (k : ℕ) → k ≤ most_steps → (j : ℕ) × ((n : ℕ) → j ≤ n → IsPrefix (shown (kept_of (module_run (program_of m) by k))) (printed (kept_of (direct_run m by n))))
+  -- the program never ends by a conversion that would run code
+  pub never_converts : (k : ℕ) → k ≤ most_steps → ConvertsNothing (module_run (program_of m) by k)
