@@ -1,6 +1,6 @@
 -- The rewriting is simulated: what `specs/Correct` says holds of each guest's module.
-use Rattle.std.proofs.Common.{◌≡◌, ℕ, ◌≤◌, ◌<◌, List, [], Option, Some, None, sym, subst, arith}
-use Rattle.plans.specs.Plans.{Fault, number_fault, depth_fault, convert_fault, ends, enter, over, stopped, out}
+use Rattle.std.proofs.Common.{◌≡◌, ℕ, ◌≤◌, ◌<◌, List, [], Some, subst, arith}
+use Rattle.plans.specs.Plans.{ends, enter, over, stopped, out}
 use Rattle.matching.specs.Sides.{Together}
 use Rattle.matching.specs.Sentences.{IsFinished, Simulates}
 use Rattle.matching.proofs.Theorem.{simulates}

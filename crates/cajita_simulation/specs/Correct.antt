@@ -1,6 +1,6 @@
 -- A rewritten module does in the interpreter what its source does directly. Its program runs in a page of its own, and each of both has a number of steps.
-use Rattle.std.specs.Prelude.{◌≡◌, ℕ, ◌+◌, ◌*◌, ◌≤◌, Option, Some}
-use Rattle.plans.specs.Plans.{Fault, number_fault, depth_fault, convert_fault, over, stopped, out, count_of, kept_of}
+use Rattle.std.specs.Prelude.{◌≡◌, ℕ, ◌+◌, ◌*◌, ◌≤◌, Some}
+use Rattle.plans.specs.Plans.{over, stopped, out, count_of, kept_of}
 use Rattle.matching.specs.Sentences.{IsFinished}
 use Rattle.es3_meaning.specs.Store.{Store}
 use Rattle.es3_meaning.specs.Meaning as Target

@@ -1,23 +1,21 @@
 -- What the interpreter enters from the program of a module to the first statement of its function.
-use Rattle.std.proofs.Common.{◌≡◌, ℕ, suc, List, [], ◌∷◌, length, Option, Some, None, refl, sym, ap, ◌∙◌, subst, arith}
-use Rattle.std.specs.Prelude.{codes, true, false}
-use Rattle.plans.specs.Plans.{ends, enter, bind}
+use Rattle.std.proofs.Common.{◌≡◌, ℕ, suc, List, [], ◌∷◌, length, Some, None, refl, sym, ◌∙◌, subst}
+use Rattle.std.specs.Prelude.{codes, true}
+use Rattle.plans.specs.Plans.{bind}
 use Rattle.matching.specs.Sides.{Match}
 use Rattle.matching.proofs.Rules.{right_enter}
 use Rattle.es3_tree.specs.Tree as t
 use Rattle.es3_heap.specs.declared.value.Value.TheVariants as es
-use Rattle.es3_heap.specs.declared.value.Class.TheVariants as class
 use Rattle.es3_heap.specs.Objects.{object_at, class_of}
-use Rattle.es3_meaning.specs.Store.{Store}
 use Rattle.es3_meaning.specs.References.{member}
 use Rattle.es3_meaning.specs.Meaning as Target
 use Rattle.cajita_rewrite.specs.Rewrite.{runtime_name, imports_name, single, load_stmt}
 use Rattle.cajita_tree.specs.Tree as c
 use Rattle.cajita_meaning.specs.Direct as Source
 use Rattle.cajita_meaning.specs.Direct.{Item}
-use Rattle.module_loader.specs.Opened.{opened, runtime_id, imports_id}
+use Rattle.module_loader.specs.Opened.{opened, runtime_id}
 use Rattle.module_loader.specs.Page.{page_table, first_store, first_kept}
-use Rattle.cajita_simulation.proofs.Heaps.Opened.{IsOpened, opened-opened}
+use Rattle.cajita_simulation.proofs.Heaps.Opened.{opened-opened}
 use Rattle.cajita_simulation.proofs.Heaps.Grown.{grown_last, grown_kept}
 use Rattle.cajita_simulation.proofs.Heaps.Functions.{function_new, function_object, prototype_object, opened_kept-function}
 use Rattle.cajita_simulation.proofs.Heaps.Guards.{load_module-guard, guard_call}
@@ -69,6 +67,10 @@ called {by = by} {d = d} body {p = p} {z = z} {n = n} next' f =
     (subst (λ y. Match (sides by) d p z n (bind (Target.task_plan page_table task s first_kept) next') y 6) (sym (load_keeps by body))
     (subst (λ q. Match (sides by) d p z n (bind q next') first_kept 6) (sym (load_is by body)) f)))
 
+-- `var moduleResult___;`
+declares_result : {by d : ℕ} (list : c.Tree c.stmts) {p : Source.Plan} {z : List Item} {n : ℕ} (next' : Cont') → Match (sides by) d p z n (bind (Target.list true (statements list) None (inner by) (module_store by (module_body list)) Target.body_end) next') first_kept 7 → Match (sides by) d p z n (bind (Target.list true (module_body list) None (inner by) (module_store by (module_body list)) Target.body_end) next') first_kept 6
+declares_result list next' f = right_enter f
+
 -- the statement of the program, the member, the name, the function, the call of `loadModule`, and `var moduleResult___;`
 pub enters : {by d : ℕ} (list : c.Tree c.stmts) {p : Source.Plan} {z : List Item} {n : ℕ} (next' : Cont')
     → Match (sides by) d p z n (bind (Target.list true (statements list) None (inner by) (module_store by (module_body list)) Target.body_end) (after_load next')) first_kept 7
@@ -77,4 +79,4 @@ enters {by = by} {d = d} list {p = p} {z = z} {n = n} next' f =
     let args = single (t.function (t.fun None (runtime_name ∷ imports_name ∷ []) (module_body list))) in
     right_enter (right_enter (right_enter
     (subst (λ q. Match (sides by) d p z n (bind q (λ e s1. bind (Target.on_value_of (Target.dot_target (codes "loadModule")) e s1) (λ e1 s2. bind (Target.on_target_of (Target.after_callee args (outer by)) e1 s2) (after_load next')))) first_kept 4) (sym (runtime_global by))
-    (right_enter (called (module_body list) (after_load next') (right_enter f))))))
+    (right_enter (called (module_body list) (after_load next') (declares_result list (after_load next') f))))))

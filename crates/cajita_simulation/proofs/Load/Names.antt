@@ -1,17 +1,14 @@
 -- The names that a module's function begins with, beside those of the direct meaning.
-use Rattle.std.proofs.Common.{◌≡◌, ℕ, Bool, true, false, List, [], ◌∷◌, ◌++◌, Option, Some, None, cond, refl, sym, ap, ◌∙◌, subst, arith}
-use Rattle.std.specs.Prelude.{is_some, codes, ◌||◌}
-use Rattle.std.specs.List.{list_any}
+use Rattle.std.proofs.Common.{◌≡◌, ℕ, Bool, true, false, List, [], ◌∷◌, ◌++◌, Option, Some, None, cond, refl, sym, ap, ◌∙◌, subst}
+use Rattle.std.specs.Prelude.{is_some, ◌||◌}
 use Rattle.std.specs.Cmp.Lexicographic.{same_text}
-use Rattle.std.proofs.lemmas.Option.{none-some}
 use Rattle.std.proofs.lemmas.List.{append-nil, append_assoc}
 use Rattle.caja_units.specs.Units.{same_units, is_hidden}
 use Rattle.es3_tree.specs.Tree as t
 use Rattle.es3_heap.specs.declared.value.Value.TheVariants as es
-use Rattle.es3_heap.proofs.Keys.{same_key-refl}
 use Rattle.es3_meaning.specs.Store.{Scope, name_value, with_vars, with_params, items_names, var_names, vars_of}
 use Rattle.cajita_tree.specs.Tree as c
-use Rattle.cajita_meaning.specs.World.{Value, undefined, value_at, undefined_names}
+use Rattle.cajita_meaning.specs.World.{undefined, value_at, undefined_names}
 use Rattle.cajita_rewrite.specs.Rewrite.{runtime_name, imports_name, result_name, rewritten, joined, result_stmts}
 use Rattle.module_loader.specs.Opened.{runtime_id, imports_id}
 use Rattle.cajita_simulation.specs.Guest.{is_among, item_names, declared_by, declared}
@@ -65,9 +62,9 @@ with_vars-unbound x (y ∷ ys) scope h =
           let bare : name_value y scope ≡ None = subst (λ k. name_value k scope ≡ None) (same_text x y (sym is)) h in
           rw bare (with_vars-bound x ys more es.Undefined (new true is))
       | false ↦ λ is. elim (is_some (name_value y scope)) as (λ q. name_value x (with_vars ys (cond q scope more)) ≡ undefined_value es.Undefined (is_among ys x)) [
-          | true ↦ with_vars-unbound x ys scope h
-          | false ↦ with_vars-unbound x ys more (new false is)
-        ]
+        | true ↦ with_vars-unbound x ys scope h
+        | false ↦ with_vars-unbound x ys more (new false is)
+      ]
     ] in cases refl
 
 -- the rewriting keeps the declared names

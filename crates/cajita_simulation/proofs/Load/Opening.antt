@@ -1,9 +1,8 @@
 -- The relation where the statements of a module begin.
-use Rattle.std.proofs.Common.{◌≡◌, ℕ, zero, suc, ◌+◌, ◌*◌, ◌≤◌, ◌<◌, Bool, true, false, List, [], ◌∷◌, ◌++◌, length, Option, Some, None, cond, refl, sym, ap, ◌∙◌, subst, arith}
+use Rattle.std.proofs.Common.{◌≡◌, ℕ, zero, suc, ◌≤◌, ◌<◌, Bool, true, false, List, [], ◌∷◌, length, Some, cond, refl, sym, ap, ◌∙◌, subst, arith}
 use Rattle.std.specs.Prelude.{slice_get, codes, is_some, replicate}
 use Rattle.std.specs.Cmp.Lexicographic.{same_text}
-use Rattle.std.proofs.lemmas.Option.{none-some}
-use Rattle.caja_units.specs.Units.{same_units, is_hidden}
+use Rattle.caja_units.specs.Units.{same_units}
 use Rattle.es3_tree.specs.Tree as t
 use Rattle.es3_heap.specs.declared.value.Value.TheVariants as es
 use Rattle.es3_heap.specs.declared.value.Tag.TheVariants as tag
@@ -13,16 +12,15 @@ use Rattle.es3_meaning.specs.Store as store
 use Rattle.es3_meaning.specs.Store.{Store, Code, name_value, with_vars, first_names, vars_of, new_function}
 use Rattle.es3_meaning.specs.References.{slot, resolve}
 use Rattle.cajita_tree.specs.Tree as c
-use Rattle.cajita_meaning.specs.World as World
-use Rattle.cajita_meaning.specs.World.{Value, Pairs, Object, World as State, undefined, empty_world, with_scope, undefined_names, value_at}
-use Rattle.cajita_meaning.specs.Direct.{Item, module_env, lookup, scope_at}
+use Rattle.cajita_meaning.specs.World.{Value, Pairs, World as State, undefined, empty_world, with_scope, undefined_names, value_at}
+use Rattle.cajita_meaning.specs.Direct.{module_env, lookup, scope_at}
 use Rattle.cajita_rewrite.specs.Rewrite.{runtime_name, imports_name, result_name, rewritten, joined, result_stmts, declares}
 use Rattle.module_loader.specs.Opened.{opened, runtime_id, imports_id, globals_id}
 use Rattle.module_loader.specs.Page.{first_kept}
 use Rattle.cajita_simulation.specs.Guest.{is_among, declared}
 use Rattle.cajita_simulation.proofs.Heaps.Opened.{opened-opened}
 use Rattle.cajita_simulation.proofs.Heaps.Functions.{function_new, function_object, prototype_object}
-use Rattle.cajita_simulation.proofs.Relation.{EsValue, Val, OptVal, Stands, Here, Temps, unknown, holds, SlotIs, Found, ScopeIs, names_at, ObjectsAre, VariablesAre, Rel}
+use Rattle.cajita_simulation.proofs.Relation.{EsValue, OptVal, Here, Temps, unknown, holds, SlotIs, Found, ScopeIs, names_at, ObjectsAre, VariablesAre, Rel}
 use Rattle.cajita_simulation.proofs.Changes.{objects_unnamed, last_there}
 use Rattle.cajita_simulation.proofs.Laws.{hold}
 use Rattle.cajita_simulation.proofs.Load.Names.{undefined_value, value_at-undefined, own_names, name_declared, name_bound, runtime_there, result_there}

@@ -9,17 +9,17 @@ use Rattle.es3_heap.specs.Objects.{Objects}
 use Rattle.es3_meaning.specs.Meaning as Target
 use Rattle.cajita_tree.specs.Tree as c
 use Rattle.cajita_rewrite.specs.Rewrite.{rewritten, program_of, load_stmt, result_name, result_stmts}
-use Rattle.cajita_meaning.specs.World.{Value, undefined, World, empty_world}
+use Rattle.cajita_meaning.specs.World.{Value, World, empty_world}
 use Rattle.cajita_meaning.specs.Public.{value_or}
 use Rattle.cajita_meaning.specs.Direct as Source
 use Rattle.cajita_meaning.specs.Direct.{Item}
 use Rattle.module_loader.specs.Page.{Kept, first_store, first_kept}
 use Rattle.cajita_simulation.specs.Guest.{is_among, Guest, declared}
-use Rattle.cajita_simulation.proofs.Relation.{Here, Temps, holds, SlotIs, Rel}
-use Rattle.cajita_simulation.proofs.Laws.{EffectLaw, Throws, Cont', sides, after}
+use Rattle.cajita_simulation.proofs.Relation.{holds, SlotIs}
+use Rattle.cajita_simulation.proofs.Laws.{EffectLaw, Cont', sides, after}
 use Rattle.cajita_simulation.proofs.Forms.Name.{name_plan}
 use Rattle.cajita_simulation.proofs.Forms.List.{ListEnd, list_match}
-use Rattle.cajita_simulation.proofs.Load.Opening.{here, first_temps, module_store, module_body, statements, opening}
+use Rattle.cajita_simulation.proofs.Load.Opening.{here, first_temps, module_body, opening}
 use Rattle.cajita_simulation.proofs.Load.Entering.{outer, inner, after_load, enters}
 
 -- the variables of the direct meaning are bound, each with a step
@@ -40,10 +40,10 @@ result_held (Some v) = refl
 module_ends : (by : ℕ) (vars : List (List ℕ)) (d i : ℕ) (h : Objects) → ListEnd (here by vars) first_temps d 40 h i Source.module_end Target.body_end ends (after_load (waiting by)) result_stmts
 module_ends by vars d i h = record {
   on = λ a le acc acc' w z n s y m r keep.
-    let held = subst (λ q. SlotIs (0 ∷ []) s result_name q) (result_held acc) (r.variables.temps result_name refl) in
-    right_enter (right_enter
-    (subst (λ q. Match (sides by) a (ends (Source.gave (value_or acc)) w) z n (bind q (λ e s1. bind (Target.on_value_of Target.to_returned e s1) (λ e1 s2. bind (Target.on_each true acc' e1 s2 (λ v s3. Target.list true t.no_stmts v (inner by) s3 Target.body_end) Target.body_end) (after_load (waiting by))))) y (suc (suc m))) (sym (name_plan result_name (inner by) s held.0 refl held.1))
-    (both_end (omega (arith, r.steps)) (held.2, m, r.objects, r.items))));
+      let held = subst (λ q. SlotIs (0 ∷ []) s result_name q) (result_held acc) (r.variables.temps result_name refl) in
+      right_enter (right_enter
+      (subst (λ q. Match (sides by) a (ends (Source.gave (value_or acc)) w) z n (bind q (λ e s1. bind (Target.on_value_of Target.to_returned e s1) (λ e1 s2. bind (Target.on_each true acc' e1 s2 (λ v s3. Target.list true t.no_stmts v (inner by) s3 Target.body_end) Target.body_end) (after_load (waiting by))))) y (suc (suc m))) (sym (name_plan result_name (inner by) s held.0 refl held.1))
+      (both_end (omega (arith, r.steps)) (held.2, m, r.objects, r.items))));
   throws = λ acc. record { on = λ a le v e w z n s y m is r keep. both_end (omega (arith, r.steps)) (is, m, r.objects, r.items) };
 }
 
