@@ -1,4 +1,4 @@
--- Resolved modules of Cajita apart from memory: one family, indexed by what stands there. A name is its 16-bit units, a key is settled or worked out.
+-- Resolved modules of Cajita apart from memory: one family, indexed by what stands there. A name or a text is its 16-bit units, a key is settled or worked out.
 use Rattle.std.specs.Prelude.{ℕ, ℤ, List}
 use Rattle.es3_tree.specs.declared.BinOp.{BinOp}
 

@@ -18,6 +18,7 @@ key (Fixed k) = c.fixed k
 abbrev mutual
   pub expr : CExpr → c.Tree c.expr
   expr (b.Num n) = c.num n
+  expr (b.Text u) = c.text u
   expr (b.Name x) = c.name x
   expr (b.Record' s xs) = c.record_of (fields xs)
   expr (b.Read' p x k) = c.read (expr x) (key k)

@@ -27,6 +27,7 @@ pub struct CVarItem {
 #[derive(Drop)]
 pub enum CExpr {
     Num(Whole),
+    Text(Units),
     Name(Units),
     /// A record: its keys, each once, with their values, in source order (ES3 11.1.5).
     Record(Vec<(Units, CExpr)>),

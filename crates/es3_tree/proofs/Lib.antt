@@ -1,2 +1,3 @@
 pub mod Measured
+pub mod PlacedRows
 pub mod Rows

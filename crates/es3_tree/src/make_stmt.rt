@@ -1,5 +1,7 @@
 ghost use Rattle.std.specs.Prelude.{◌≡◌, IfOk};
 ghost use Rattle.es3_tree.specs.Tree as tree;
+ghost use Rattle.es3_tree.specs.Placed as placed;
+ghost use Rattle.es3_tree.specs.PlacedView as view;
 ghost use Rattle.es3_tree.specs.View.{
   expr,
   stmt,
@@ -24,24 +26,27 @@ use caja_units::Memory;
 use std::alloc::Global;
 
 /// A block (ES3 12.1).
-#[tactic(auto, using(crate::proofs::Rows::view_block))]
+#[tactic(auto, using(crate::proofs::Rows::view_block, crate::proofs::PlacedRows::placed_block))]
 pub fn make_block(body: Vec<Stmt>) -> Stmt
-    ensures { stmt result ≡ tree.block (of_stmts body.items) }
+    ensures plain { stmt result ≡ tree.block (of_stmts body.items) }
+    ensures with_places { view.stmt result ≡ placed.block (view.of_stmts body.items) }
 {
     Stmt::Block(body)
 }
 
 /// A `var` (ES3 12.2).
-#[tactic(auto, using(crate::proofs::Rows::view_var))]
+#[tactic(auto, using(crate::proofs::Rows::view_var, crate::proofs::PlacedRows::placed_var))]
 pub fn make_var(items: Vec<VarItem>) -> Stmt
-    ensures { stmt result ≡ tree.var (of_items items.items) }
+    ensures plain { stmt result ≡ tree.var (of_items items.items) }
+    ensures with_places { view.stmt result ≡ placed.var (view.of_items items.items) }
 {
     Stmt::Var(items)
 }
 
 // The part behind an `else`, in a box.
 fn boxed_else(alloc: Global, otherwise: Option<Stmt>) -> Result<Option<Box<Stmt>>, Memory>
-    ensures { IfOk result (λ b. of_maybe_stmt b ≡ of_else otherwise) }
+    ensures plain { IfOk result (λ b. of_maybe_stmt b ≡ of_else otherwise) }
+    ensures with_places { IfOk result (λ b. view.of_maybe_stmt b ≡ view.of_else otherwise) }
 {
     match otherwise {
         None => Ok(None),
@@ -50,14 +55,15 @@ fn boxed_else(alloc: Global, otherwise: Option<Stmt>) -> Result<Option<Box<Stmt>
 }
 
 /// An `if`, with its `else` if it has one (ES3 12.5).
-#[tactic(auto, using(crate::proofs::Rows::view_if))]
+#[tactic(auto, using(crate::proofs::Rows::view_if, crate::proofs::PlacedRows::placed_if))]
 pub fn make_if(
     alloc: Global,
     test: Expr,
     then: Stmt,
     otherwise: Option<Stmt>,
 ) -> Result<Stmt, Memory>
-    ensures { IfOk result (λ s. stmt s ≡ tree.branch (expr test) (stmt then) (of_else otherwise)) }
+    ensures plain { IfOk result (λ s. stmt s ≡ tree.branch (expr test) (stmt then) (of_else otherwise)) }
+    ensures with_places { IfOk result (λ s. view.stmt s ≡ placed.branch (view.expr test) (view.stmt then) (view.of_else otherwise)) }
 {
     let otherwise = boxed_else(alloc, otherwise)?;
     Ok(Stmt::If(test, boxed(alloc, then)?, otherwise))
@@ -65,28 +71,31 @@ pub fn make_if(
 
 /// A `while` (ES3 12.6.2).
 pub fn make_while(alloc: Global, test: Expr, body: Stmt) -> Result<Stmt, Memory>
-    ensures { IfOk result (λ s. stmt s ≡ tree.while_loop (expr test) (stmt body)) }
+    ensures plain { IfOk result (λ s. stmt s ≡ tree.while_loop (expr test) (stmt body)) }
+    ensures with_places { IfOk result (λ s. view.stmt s ≡ placed.while_loop (view.expr test) (view.stmt body)) }
 {
     Ok(Stmt::While(test, boxed(alloc, body)?))
 }
 
 /// A `do` .. `while` (ES3 12.6.1).
 pub fn make_do(alloc: Global, body: Stmt, test: Expr) -> Result<Stmt, Memory>
-    ensures { IfOk result (λ s. stmt s ≡ tree.do_loop (stmt body) (expr test)) }
+    ensures plain { IfOk result (λ s. stmt s ≡ tree.do_loop (stmt body) (expr test)) }
+    ensures with_places { IfOk result (λ s. view.stmt s ≡ placed.do_loop (view.stmt body) (view.expr test)) }
 {
     Ok(Stmt::Do(boxed(alloc, body)?, test))
 }
 
 /// The first part of the head of a `for` that declares variables (ES3 12.6.3).
-#[tactic(auto, using(crate::proofs::Rows::view_first_var))]
+#[tactic(auto, using(crate::proofs::Rows::view_first_var, crate::proofs::PlacedRows::placed_first_var))]
 pub fn make_first_var(items: Vec<VarItem>) -> First
-    ensures { first result ≡ tree.first_var (of_items items.items) }
+    ensures plain { first result ≡ tree.first_var (of_items items.items) }
+    ensures with_places { view.first result ≡ placed.first_var (view.of_items items.items) }
 {
     First::Var(items)
 }
 
 /// A `for` whose head has three parts (ES3 12.6.3).
-#[tactic(auto, using(crate::proofs::Rows::view_for))]
+#[tactic(auto, using(crate::proofs::Rows::view_for, crate::proofs::PlacedRows::placed_for))]
 pub fn make_for(
     alloc: Global,
     start: First,
@@ -94,59 +103,68 @@ pub fn make_for(
     update: Option<Expr>,
     body: Stmt,
 ) -> Result<Stmt, Memory>
-    ensures { IfOk result (λ s.
+    ensures plain { IfOk result (λ s.
         stmt s ≡ tree.for_loop (first start) (of_maybe_expr test) (of_maybe_expr update) (stmt body)) }
+    ensures with_places { IfOk result (λ s.
+        view.stmt s ≡ placed.for_loop (view.first start) (view.of_maybe_expr test) (view.of_maybe_expr update) (view.stmt body)) }
 {
     Ok(Stmt::For(start, test, update, boxed(alloc, body)?))
 }
 
 /// A `for` .. `in` (ES3 12.6.4).
 pub fn make_for_in(alloc: Global, target: Loop, object: Expr, body: Stmt) -> Result<Stmt, Memory>
-    ensures { IfOk result (λ s. stmt s ≡ tree.for_in (loop_target target) (expr object) (stmt body)) }
+    ensures plain { IfOk result (λ s. stmt s ≡ tree.for_in (loop_target target) (expr object) (stmt body)) }
+    ensures with_places { IfOk result (λ s. view.stmt s ≡ placed.for_in (view.loop_target target) (view.expr object) (view.stmt body)) }
 {
     Ok(Stmt::ForIn(target, object, boxed(alloc, body)?))
 }
 
 /// A `continue` that begins at `at`, with its label if it has one (ES3 12.7).
 pub fn make_continue(label: Option<Name>, at: u32) -> Stmt
-    ensures { stmt result ≡ tree.continue (text_of label) }
+    ensures plain { stmt result ≡ tree.continue (text_of label) }
+    ensures with_places { view.stmt result ≡ placed.continue (view.word_of label) at }
 {
     Stmt::Continue(label, at)
 }
 
 /// A `break` that begins at `at`, with its label if it has one (ES3 12.8).
 pub fn make_break(label: Option<Name>, at: u32) -> Stmt
-    ensures { stmt result ≡ tree.break (text_of label) }
+    ensures plain { stmt result ≡ tree.break (text_of label) }
+    ensures with_places { view.stmt result ≡ placed.break (view.word_of label) at }
 {
     Stmt::Break(label, at)
 }
 
 /// A `return` that begins at `at`, with its value if it has one (ES3 12.9).
-#[tactic(auto, using(crate::proofs::Rows::view_return))]
+#[tactic(auto, using(crate::proofs::Rows::view_return, crate::proofs::PlacedRows::placed_return))]
 pub fn make_return(value: Option<Expr>, at: u32) -> Stmt
-    ensures { stmt result ≡ tree.return (of_maybe_expr value) }
+    ensures plain { stmt result ≡ tree.return (of_maybe_expr value) }
+    ensures with_places { view.stmt result ≡ placed.return (view.of_maybe_expr value) at }
 {
     Stmt::Return(value, at)
 }
 
 /// A `with` that begins at `at` (ES3 12.10).
 pub fn make_with(alloc: Global, object: Expr, body: Stmt, at: u32) -> Result<Stmt, Memory>
-    ensures { IfOk result (λ s. stmt s ≡ tree.with_object (expr object) (stmt body)) }
+    ensures plain { IfOk result (λ s. stmt s ≡ tree.with_object (expr object) (stmt body)) }
+    ensures with_places { IfOk result (λ s. view.stmt s ≡ placed.with_object (view.expr object) (view.stmt body) at) }
 {
     Ok(Stmt::With(object, boxed(alloc, body)?, at))
 }
 
 /// A `switch` (ES3 12.11).
-#[tactic(auto, using(crate::proofs::Rows::view_switch))]
+#[tactic(auto, using(crate::proofs::Rows::view_switch, crate::proofs::PlacedRows::placed_switch))]
 pub fn make_switch(value: Expr, cases: Vec<Case>) -> Stmt
-    ensures { stmt result ≡ tree.switch (expr value) (of_cases cases.items) }
+    ensures plain { stmt result ≡ tree.switch (expr value) (of_cases cases.items) }
+    ensures with_places { view.stmt result ≡ placed.switch (view.expr value) (view.of_cases cases.items) }
 {
     Stmt::Switch(value, cases)
 }
 
 /// A statement with a label before it (ES3 12.12).
 pub fn make_label(alloc: Global, label: Name, body: Stmt) -> Result<Stmt, Memory>
-    ensures { IfOk result (λ s. stmt s ≡ tree.label (text label) (stmt body)) }
+    ensures plain { IfOk result (λ s. stmt s ≡ tree.label (text label) (stmt body)) }
+    ensures with_places { IfOk result (λ s. view.stmt s ≡ placed.label (view.word label) (view.stmt body)) }
 {
     Ok(Stmt::Label(label, boxed(alloc, body)?))
 }
@@ -157,15 +175,17 @@ pub fn make_try(
     handler: Option<(Name, Vec<Stmt>)>,
     last: Option<Vec<Stmt>>,
 ) -> Stmt
-    ensures { stmt result ≡ tree.try (of_stmts body.items) (of_handler handler) (of_maybe_block last) }
+    ensures plain { stmt result ≡ tree.try (of_stmts body.items) (of_handler handler) (of_maybe_block last) }
+    ensures with_places { view.stmt result ≡ placed.try (view.of_stmts body.items) (view.of_handler handler) (view.of_maybe_block last) }
 {
     Stmt::Try(body, handler, last)
 }
 
 /// A function declaration (ES3 13).
-#[tactic(auto, using(crate::proofs::Rows::view_declared))]
+#[tactic(auto, using(crate::proofs::Rows::view_declared, crate::proofs::PlacedRows::placed_declared))]
 pub fn make_declaration(function: Func) -> Stmt
-    ensures { stmt result ≡ tree.declare (func function) }
+    ensures plain { stmt result ≡ tree.declare (func function) }
+    ensures with_places { view.stmt result ≡ placed.declare (view.func function) }
 {
     Stmt::Func(function)
 }

@@ -9,7 +9,7 @@ use Rattle.std.proofs.lemmas.Str.{digit_value_digit}
 use Rattle.std.proofs.lemmas.List.{length-take, get_or-take}
 use Rattle.std.proofs.lemmas.List.Sums.{prefix_len_passes}
 use Rattle.first_reader.specs.declared.Token.TheVariants.{Number}
-use Rattle.first_reader.specs.Split.{is_digit, is_part, has_form, begins, number_token}
+use Rattle.first_reader.specs.Front.{is_digit, is_part, has_form, begins, number_token}
 
 pub digit_range : (c : ℕ) → is_digit c ≡ true → (48 ≤ c) × (c ≤ 57)
 digit_range c h = let p = and_parts (nat_le 48 c) (nat_le c 57) h in (leb-true 48 c p.0, leb-true c 57 p.1)

@@ -1,5 +1,5 @@
+pub mod Front
 pub mod Split
 pub mod Grammar
 pub mod Machine
-pub mod Front
 pub mod Views

@@ -1,24 +1,28 @@
 //! The token in front of a text (ES3 7).
 
-ghost use Rattle.std.specs.Prelude.{◌≡◌, ℕ, ◌<◌, ◌≤◌, ◌^◌, ◌||◌, true, min, nat_eq, length, slice_index, IfOk};
+ghost use Rattle.std.specs.Prelude.{◌≡◌, ℕ, ◌<◌, ◌≤◌, ◌^◌, ◌||◌, true, min, nat_eq, length, drop, slice_index, IfOk};
 ghost use Rattle.std.specs.List.{prefix_len};
 ghost use Rattle.std.specs.Str.Parse.{digits_value};
-ghost use Rattle.first_reader.specs.Split.{
+ghost use Rattle.first_reader.specs.Front.{
   is_gap as gap_spec,
   is_digit as digit_spec,
   is_letter as letter_spec,
   is_part as part_spec,
+  is_quote as quote_spec,
+  is_unit as unit_spec,
   has_form as form_spec,
   begins,
   number_token,
+  text_token as text_spec,
   sign_token,
+  front as front_spec,
+  with_length,
 };
-ghost use Rattle.first_reader.specs.Front.{front as front_spec, with_length};
 
 use crate::Token;
 use crate::words::word_at;
 use caja_num::Whole;
-use caja_units::Memory;
+use caja_units::{Memory, Units};
 use std::alloc::Global;
 
 /// The first number that is too large: 2^53 (ES3 8.5).
@@ -51,6 +55,20 @@ fn is_part(byte: u8) -> bool
     is_letter(byte) || is_digit(byte)
 }
 
+/// Whether a text begins and ends with the byte (ES3 7.8.4).
+fn is_quote(byte: u8) -> bool
+    ensures { result ≡ quote_spec byte }
+{
+    byte == b'"' || byte == b'\''
+}
+
+/// Whether the byte may stand in a text between these quotes: from 0x20 to 0x7E, and no backslash.
+fn is_unit(quote: u8, byte: u8) -> bool
+    ensures { result ≡ unit_spec quote byte }
+{
+    matches!(byte, b' '..=b'~') && byte != b'\\' && byte != quote
+}
+
 fn part_len(text: &[u8]) -> usize
     ensures is { result ≡ prefix_len part_spec text.now }
     ensures within { result ≤ length text.now }
@@ -63,6 +81,15 @@ fn digit_len(text: &[u8]) -> usize
     ensures within { result ≤ length text.now }
 {
     text.iter().take_while(|byte| is_digit(**byte)).count()
+}
+
+fn unit_len(quote: u8, text: &[u8]) -> usize
+    ensures is { result ≡ prefix_len (unit_spec quote) text.now }
+    ensures within { result ≤ length text.now }
+{
+    text.iter()
+        .take_while(|byte| is_unit(quote, **byte))
+        .count()
 }
 
 /// The number that the digits write, or the first that is too large (ES3 7.8.3).
@@ -117,6 +144,39 @@ fn number(digits: &[u8], behind: &[u8]) -> Option<Token>
     }
 }
 
+/// Whether the text begins with the quote.
+fn closes(quote: u8, text: &[u8]) -> bool
+    ensures { result ≡ begins (nat_eq quote) text.now }
+{
+    match text {
+        [first, ..] => quote == *first,
+        [] => false,
+    }
+}
+
+/// The text literal of which this many bytes stand behind its first quote (ES3 7.8.4); `None` where its last quote is
+/// missing.
+fn text_of(alloc: Global, quote: u8, behind: &[u8], len: usize) -> Result<Option<Token>, Memory>
+    requires units { len ≡ prefix_len (unit_spec quote) behind.now }
+    requires within { len ≤ length behind.now }
+    ensures { IfOk result (λ t. t ≡ text_spec quote behind.now) }
+{
+    if !closes(quote, &behind[len..]) {
+        return Ok(None);
+    }
+    Ok(Some(Token::Text(Units::from_ascii(alloc, &behind[..len])?)))
+}
+
+/// What stands behind the first byte.
+fn behind(text: &[u8]) -> &[u8]
+    ensures { result.now ≡ drop 1 text.now }
+{
+    match text.split_first() {
+        Some((_, behind)) => behind,
+        None => &[],
+    }
+}
+
 /// The punctuator that is this byte (ES3 7.7).
 fn sign(byte: u8) -> Option<Token>
     ensures { result ≡ sign_token byte }
@@ -159,6 +219,11 @@ pub fn front(alloc: Global, first: u8, text: &[u8]) -> Result<Option<(Token, usi
     if is_digit(first) {
         let len = digit_len(text);
         return Ok(measured(number(&text[..len], &text[len..]), len));
+    }
+    if is_quote(first) {
+        let behind = behind(text);
+        let len = unit_len(first, behind);
+        return Ok(measured(text_of(alloc, first, behind, len)?, len + 2));
     }
     Ok(measured(sign(first), 1))
 }

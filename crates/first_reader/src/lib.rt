@@ -1,8 +1,8 @@
-//! The reader of the first language: a list of `var` statements and expression statements over numbers, names, records, members and sums.
+//! The reader of the first language: a list of `var` statements and expression statements over numbers, texts, names, records, members and sums.
 #![tactic(auto)]
 
 ghost use Rattle.std.specs.Prelude.{◌≡◌, ◌↔◌, ℕ, List, Some};
-ghost use Rattle.es3_tree.specs.Tree.{Tree};
+ghost use Rattle.es3_tree.specs.Placed.{Placed};
 ghost use Rattle.es3_tree.specs.Tree as tree;
 ghost use Rattle.first_reader.specs.Grammar.{IsSpelled};
 ghost use Rattle.first_reader.specs.Machine.{read};
@@ -24,6 +24,7 @@ pub use read::read_module;
 pub enum Token {
     Name(Units),
     Number(Whole),
+    Text(Units),
     Var,
     Point,
     Comma,
@@ -40,11 +41,11 @@ pub enum Token {
 /// What is read is what is spelled.
 #[tactic(auto, using(crate::proofs::Law::the_grammar))]
 pub fn reading_is_the_grammar()
-    ensures { (source : List ℕ) (body : Tree tree.stmts) → (read source ≡ Some body) ↔ IsSpelled source body }
+    ensures { (source : List ℕ) (body : Placed tree.stmts) → (read source ≡ Some body) ↔ IsSpelled source body }
 {}
 
 /// One source spells one tree at most.
 #[tactic(auto, using(crate::proofs::Law::one_tree))]
 pub fn source_spells_one_tree()
-    ensures { (source : List ℕ) (x y : Tree tree.stmts) → IsSpelled source x → IsSpelled source y → x ≡ y }
+    ensures { (source : List ℕ) (x y : Placed tree.stmts) → IsSpelled source x → IsSpelled source y → x ≡ y }
 {}

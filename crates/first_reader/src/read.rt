@@ -39,7 +39,7 @@ fn advance(
     text: &[u8],
     at: u32,
 ) -> Result<Option<(State, usize)>, Memory>
-    ensures { IfOk result (λ r. advance_of r ≡ advanced (state_of state) (front_spec first text.now)) }
+    ensures { IfOk result (λ r. advance_of r ≡ advanced at (state_of state) (front_spec first text.now)) }
 {
     let Some((token, len)) = front(alloc, first, text)? else {
         let_go(state);
@@ -60,7 +60,7 @@ fn past(text: &[u8], len: usize) -> &[u8]
 }
 
 /// The program that the source spells, and `None` exactly where it spells none: a list of `var` statements and
-/// expression statements (ES3 12.2, 12.4) over numbers, names, records, members and sums, that nests at most 32 deep and
+/// expression statements (ES3 12.2, 12.4) over numbers, texts, names, records, members and sums, that nests at most 32 deep and
 /// has at most 512 KiB. Places in it are bytes of the source, from 0.
 pub fn read_module(alloc: Global, source: &[u8]) -> Result<Option<Program>, Memory>
     ensures { IfOk result (λ r. body_of r ≡ read source.now) }

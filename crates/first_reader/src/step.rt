@@ -1,8 +1,8 @@
 //! One token, from a state to the next.
 
 ghost use Rattle.std.specs.Prelude.{◌≡◌, ◌≤◌, ◌+◌, max, nat_le, IfOk, IsTrue, List, Option, Some, None};
-ghost use Rattle.es3_tree.specs.Tree as tree;
-ghost use Rattle.es3_tree.specs.View.{expr, stmt, text, of_fields, of_stmts, of_maybe_expr};
+ghost use Rattle.es3_tree.specs.Placed as placed;
+ghost use Rattle.es3_tree.specs.PlacedView.{expr, stmt, word, of_fields, of_stmts, of_maybe_expr};
 ghost use Rattle.first_reader.specs.Grammar.{is_plain as plain_spec, deepest};
 ghost use Rattle.first_reader.specs.Machine.{
   is_point as point_spec,
@@ -84,12 +84,19 @@ fn operand(
     token: Token,
     at: u32,
 ) -> Result<Option<State>, Memory>
-    ensures { IfOk result (λ s. next_of s ≡ operand_spec (left_of left) (stack_of stack) token) }
+    ensures { IfOk result (λ s. next_of s ≡ operand_spec (left_of left) (stack_of stack) (token, at)) }
 {
     match token {
         Token::Number(number) => {
             let part = Part {
                 tree: Expr::Num(number),
+                height: 1,
+            };
+            Ok(Some(State::Have(left, part, stack)))
+        }
+        Token::Text(text) => {
+            let part = Part {
+                tree: Expr::Text(text),
                 height: 1,
             };
             Ok(Some(State::Have(left, part, stack)))
@@ -125,7 +132,7 @@ fn has_none(properties: &[(Name, Expr)]) -> bool
 /// A key of a record literal (ES3 11.1.5), or the end of one without properties.
 fn key(literal: Literal, stack: Stack, token: Token, at: u32) -> Option<State>
     ensures { next_of result
-        ≡ key_step (left_of literal.left) (of_fields literal.properties.items) literal.height (stack_of stack) token }
+        ≡ key_step (left_of literal.left) (of_fields literal.properties.items) literal.height (stack_of stack) (token, at) }
 {
     match token {
         Token::Name(text) => Some(State::Colon(literal, Name { text, at }, stack)),
@@ -169,7 +176,7 @@ fn end_paren(part: Part, stack: Stack) -> Option<State>
 fn add(literal: Literal, key: Name, value: Part) -> Result<Literal, Memory>
     ensures left { IfOk result (λ r. left_of r.left ≡ left_of literal.left) }
     ensures properties { IfOk result (λ r.
-        of_fields r.properties.items ≡ field_added (of_fields literal.properties.items) (text key) (expr value.tree)) }
+        of_fields r.properties.items ≡ field_added (of_fields literal.properties.items) (word key) (expr value.tree)) }
     ensures height { IfOk result (λ r. r.height ≡ max literal.height value.height) }
 {
     let Literal {
@@ -217,7 +224,7 @@ fn end_record(part: Part, stack: Stack) -> Result<Option<State>, Memory>
 
 /// A `var` of one name, with what it begins as if it has that (ES3 12.2).
 fn variable(alloc: Global, name: Name, value: Option<Expr>) -> Result<Stmt, Memory>
-    ensures { IfOk result (λ s. stmt s ≡ tree.var (tree.more_items (text name) (of_maybe_expr value) tree.no_items)) }
+    ensures { IfOk result (λ s. stmt s ≡ placed.var (placed.more_items (word name) (of_maybe_expr value) placed.no_items)) }
 {
     let mut items = Vec::new(alloc);
     items.push(VarItem { name, value })?;
@@ -302,7 +309,7 @@ fn member(
     token: Token,
     at: u32,
 ) -> Result<Option<State>, Memory>
-    ensures { IfOk result (λ s. next_of s ≡ member_step (left_of left) (expr part.tree) part.height (stack_of stack) token) }
+    ensures { IfOk result (λ s. next_of s ≡ member_step (left_of left) (expr part.tree) part.height (stack_of stack) (token, at)) }
 {
     let Token::Name(text) = token else {
         return Ok(None);
@@ -319,7 +326,7 @@ fn member(
 fn colon(literal: Literal, key: Name, stack: Stack, token: Token) -> Result<Option<State>, Memory>
     ensures { IfOk result (λ s.
         next_of s
-        ≡ colon_step (left_of literal.left) (of_fields literal.properties.items) literal.height (text key)
+        ≡ colon_step (left_of literal.left) (of_fields literal.properties.items) literal.height (word key)
         (stack_of stack) token) }
 {
     match token {
@@ -343,7 +350,7 @@ fn is_plain(token: &Token) -> bool
 
 /// A statement begins (ES3 12).
 fn begin(alloc: Global, body: Vec<Stmt>, token: Token, at: u32) -> Result<Option<State>, Memory>
-    ensures { IfOk result (λ s. next_of s ≡ start_step (of_stmts body.items) token) }
+    ensures { IfOk result (λ s. next_of s ≡ start_step (of_stmts body.items) (token, at)) }
 {
     if is_var(&token) {
         return Ok(Some(State::VarName(body)));
@@ -361,7 +368,7 @@ fn begin(alloc: Global, body: Vec<Stmt>, token: Token, at: u32) -> Result<Option
 
 /// The name of a `var`.
 fn var_name(body: Vec<Stmt>, token: Token, at: u32) -> Option<State>
-    ensures { next_of result ≡ name_step (of_stmts body.items) token }
+    ensures { next_of result ≡ name_step (of_stmts body.items) (token, at) }
 {
     match token {
         Token::Name(text) => Some(State::VarEnd(Name { text, at }, body)),
@@ -377,7 +384,7 @@ fn var_end(
     body: Vec<Stmt>,
     token: Token,
 ) -> Result<Option<State>, Memory>
-    ensures { IfOk result (λ s. next_of s ≡ end_step (text name) (of_stmts body.items) token) }
+    ensures { IfOk result (λ s. next_of s ≡ end_step (word name) (of_stmts body.items) token) }
 {
     match token {
         Token::Semicolon => {
@@ -400,7 +407,7 @@ fn var_end(
 /// The state behind a token that begins at the byte `at`, and `None` where the token may not stand there.
 #[tactic(auto, unfolding(crate::specs::Machine::step))]
 pub fn step(alloc: Global, state: State, token: Token, at: u32) -> Result<Option<State>, Memory>
-    ensures { IfOk result (λ s. next_of s ≡ step_spec (state_of state) token) }
+    ensures { IfOk result (λ s. next_of s ≡ step_spec (state_of state) (token, at)) }
 {
     match state {
         State::Start(body) => begin(alloc, body, token, at),

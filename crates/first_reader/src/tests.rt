@@ -17,7 +17,7 @@ const LONGEST_SUM: &str = "1+1+1+1+1+1+1+1+1+1+1+1+1+1+1+1+1+1+1+1+1+1+1+1+1+1+1
 
 const TOO_LONG_SUM: &str = "1+1+1+1+1+1+1+1+1+1+1+1+1+1+1+1+1+1+1+1+1+1+1+1+1+1+1+1+1+1+1+1;";
 
-static SPELLED: [(&str, usize); 16] = [
+static SPELLED: [(&str, usize); 22] = [
     ("", 0),
     ("var o = {x: 1}; o.x + 2;", 2),
     ("({});", 1),
@@ -34,9 +34,15 @@ static SPELLED: [(&str, usize); 16] = [
     (DEEPEST, 1),
     (LONGEST_SUM, 1),
     (" \n ", 0),
+    ("\"a\";", 1),
+    ("'';", 1),
+    ("'\"'+\"'\";", 1),
+    ("' ~!'.x;", 1),
+    ("({a:'b'});", 1),
+    ("var x='y';'z';", 2),
 ];
 
-static NOT_SPELLED: [&str; 28] = [
+static NOT_SPELLED: [&str; 34] = [
     "if (a) b;",
     "a",
     "{};",
@@ -53,7 +59,6 @@ static NOT_SPELLED: [&str; 28] = [
     "var var;",
     "var x, y;",
     "var x = ;",
-    "\"a\";",
     ";",
     "()",
     "a b;",
@@ -65,6 +70,13 @@ static NOT_SPELLED: [&str; 28] = [
     TOO_DEEP,
     TOO_LONG_SUM,
     "var x = {x: 1};}",
+    "'a\";",
+    "'a",
+    "'",
+    "'\\n';",
+    "'\t';",
+    "'\x7F';",
+    "({'a':1});",
 ];
 
 #[test]

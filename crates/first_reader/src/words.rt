@@ -4,7 +4,7 @@ ghost use Rattle.std.specs.Prelude.{◌≡◌, ◌∷◌, [], codes, IfOk};
 ghost use Rattle.std.specs.List.{list_any};
 ghost use Rattle.caja_units.specs.Units.{same_units};
 ghost use Rattle.es3_tree.specs.Token.{words};
-ghost use Rattle.first_reader.specs.Split.{is_barred as barred_spec, word_token};
+ghost use Rattle.first_reader.specs.Front.{is_barred as barred_spec, word_token};
 
 use crate::Token;
 use caja_units::{Memory, Units};

@@ -1,4 +1,7 @@
 pub mod Fields
 pub mod Front
+pub mod Given
 pub mod Once
+pub mod Order
+pub mod Parts
 pub mod Statements

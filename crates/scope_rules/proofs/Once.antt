@@ -2,7 +2,7 @@
 use Rattle.std.proofs.Common.{◌≡◌, ℕ, ◌+◌, ◌<◌, List, [], ◌∷◌, ◌++◌, length, get_or, drop, refl, sym, ap, ◌∙◌, if◌then◌else◌}
 use Rattle.std.proofs.lemmas.List.{at_drop_more}
 use Rattle.es3_tree.specs.declared.Stmt.{Stmt}
-use Rattle.es3_tree.specs.View.{stmt, of_stmts}
+use Rattle.es3_tree.specs.PlacedView.{stmt, of_stmts}
 use Rattle.scope_rules.specs.Rules.{is_among}
 use Rattle.scope_rules.specs.Resolve.{declared, declared_by, once_after}
 

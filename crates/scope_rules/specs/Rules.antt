@@ -1,7 +1,7 @@
--- Which names and keys the first language has, beside those that are barred everywhere.
-use Rattle.std.specs.Prelude.{ℕ, ◌&&◌, not, Bool, List, [], ◌∷◌, codes}
+-- The names and keys that the rules and the first language speak of.
+use Rattle.std.specs.Prelude.{ℕ, Bool, List, [], ◌∷◌, codes}
 use Rattle.std.specs.List.{list_any}
-use Rattle.caja_units.specs.Units.{same_units, is_hidden}
+use Rattle.caja_units.specs.Units.{same_units}
 
 -- the names that every module has without declaring them
 abbrev pub fixed_names : List (List ℕ)
@@ -16,11 +16,3 @@ text_keys =
 
 abbrev pub is_among : List (List ℕ) → List ℕ → Bool
 is_among names x = list_any (same_units x) names
-
--- a name that a module may declare: not one that it has already, and none that ends in two underscores
-abbrev pub is_free : List ℕ → Bool
-is_free x = not (is_hidden x) && not (is_among fixed_names x)
-
--- a key behind a point
-abbrev pub is_member_key : List ℕ → Bool
-is_member_key k = not (is_hidden k) && not (is_among text_keys k)

@@ -1,5 +1,5 @@
 ghost use Rattle.std.specs.Prelude.{◌≡◌, [], IfOk, OnOk};
-ghost use Rattle.es3_tree.specs.View.{stmt, of_stmts, of_items};
+ghost use Rattle.es3_tree.specs.PlacedView.{stmt, of_stmts, of_items};
 ghost use Rattle.scope_rules.specs.Resolve.{item_names, declared_by, once_after, vars_of};
 
 use crate::words::is_among;
@@ -8,7 +8,7 @@ use es3_tree::{Stmt, VarItem};
 use std::alloc::Global;
 
 // The variables that the statement declares by `var`.
-#[tactic(auto, using(es3_tree::proofs::Rows::view_var))]
+#[tactic(auto, using(es3_tree::proofs::PlacedRows::placed_var))]
 fn items_of(statement: &Stmt) -> &[VarItem]
     ensures { item_names (of_items result.now) ≡ declared_by (stmt statement.now) }
 {

@@ -1,8 +1,7 @@
 ghost use Rattle.std.specs.Prelude.{◌≡◌};
 ghost use Rattle.std.specs.List.{list_any};
 ghost use Rattle.caja_units.specs.Units.{same_units};
-ghost use Rattle.scope_rules.specs.Resolve.{all_free};
-ghost use Rattle.scope_rules.specs.Rules.{is_among as is_among_them, is_free as is_free_name, is_member_key as is_key_of_member, fixed_names, text_keys};
+ghost use Rattle.scope_rules.specs.Rules.{is_among as is_among_them, fixed_names, text_keys};
 
 use caja_units::Units;
 
@@ -64,28 +63,16 @@ pub(crate) fn is_among(texts: &[Units], text: &Units) -> bool
     texts.iter().any(|other| text.same(other))
 }
 
-// Whether a module may declare the name.
-fn is_free(name: &Units) -> bool
-    ensures { result ≡ is_free_name name.now }
+/// Whether every module has the name without declaring it.
+pub(crate) fn is_fixed(name: &Units) -> bool
+    ensures { result ≡ is_among_them fixed_names name.now }
 {
-    !name.ends_hidden() && !is_word_of(&FIXED_NAMES, name)
+    is_word_of(&FIXED_NAMES, name)
 }
 
-/// Whether a module may declare each of the names.
-pub(crate) fn are_free(names: &[Units]) -> bool
-    ensures { result ≡ all_free names.now }
+/// Whether texts have a method of this name, or it is `length`.
+pub(crate) fn is_text_key(key: &Units) -> bool
+    ensures { result ≡ is_among_them text_keys key.now }
 {
-    for name in names {
-        if !is_free(name) {
-            return false;
-        }
-    }
-    true
-}
-
-/// Whether the key may stand behind a point.
-pub(crate) fn is_member_key(key: &Units) -> bool
-    ensures { result ≡ is_key_of_member key.now }
-{
-    !key.ends_hidden() && !is_word_of(&TEXT_KEYS, key)
+    is_word_of(&TEXT_KEYS, key)
 }

@@ -17,5 +17,5 @@ returns w =
     ∙ ap (λ s. joined (t.more_stmts s t.no_stmts) (import_stmts w.deref.result.now t.no_stmts)) (w.in_ok-first.ensures ∙ ap (λ n. t.var (t.more_items n t.no_expr t.no_items)) w.in_ok-own_name.ensures)
     ∙ ap (λ l. joined (t.more_stmts (declares result_name) t.no_stmts) (import_stmts l t.no_stmts)) w.deref.ensures.value)
     (w.in_ok-add_stmts.ensures ∙ ap (λ l. joined (of_stmts w.add_imports.new.out.items) (rewritten c.stmts (source.of_stmts l))) w.deref-2.ensures.value)
-    (ap (λ s. t.more_stmts s t.no_stmts) (w.make_return.ensures ∙ ap (λ x. t.return (t.some_expr x)) w.in_ok-result.ensures))
+    (ap (λ s. t.more_stmts s t.no_stmts) (w.make_return.ensures.plain ∙ ap (λ x. t.return (t.some_expr x)) w.in_ok-result.ensures))
     w.in_ok-push.ensures.items

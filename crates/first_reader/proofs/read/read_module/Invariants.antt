@@ -1,5 +1,5 @@
 use Rattle.std.proofs.Common.{◌≡◌, ◌≤◌, length}
-use Rattle.es3_tree.specs.Tree as t
+use Rattle.es3_tree.specs.Placed as tree
 use Rattle.first_reader.specs.Machine.{start}
 use Rattle.first_reader.specs.Views.{state_of}
 use Rattle.first_reader.proofs.Rests.{reads_on}
@@ -8,7 +8,7 @@ use Rattle.first_reader.proofs.read.read_module.Given as goal
 -- the rest, read from the state, gives what the source gives
 abbrev pub invariant-loop-first : goal.invariant-loop-first
 invariant-loop-first l = record {
-  reads : reads_on l.rest (state_of l.state) ≡ reads_on l.source (start t.no_stmts);
+  reads : reads_on (length l.source) l.rest (state_of l.state) ≡ reads_on (length l.source) l.source (start tree.no_stmts);
   within : length l.rest ≤ length l.source;
 }
 

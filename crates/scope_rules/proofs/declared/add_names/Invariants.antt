@@ -1,6 +1,6 @@
 -- What is left to go over goes behind the names so far.
 use Rattle.std.proofs.Common.{◌≡◌, drop}
-use Rattle.es3_tree.specs.View.{of_items}
+use Rattle.es3_tree.specs.PlacedView.{of_items}
 use Rattle.scope_rules.specs.Resolve.{item_names, once_after}
 use Rattle.scope_rules.proofs.declared.add_names.Given as goal
 

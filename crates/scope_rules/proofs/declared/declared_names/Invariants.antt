@@ -1,6 +1,6 @@
 -- What is left to go over goes behind the names so far.
 use Rattle.std.proofs.Common.{◌≡◌, drop}
-use Rattle.es3_tree.specs.View.{of_stmts}
+use Rattle.es3_tree.specs.PlacedView.{of_stmts}
 use Rattle.scope_rules.specs.Resolve.{declared, once_after, vars_of}
 use Rattle.scope_rules.proofs.declared.declared_names.Given as goal
 

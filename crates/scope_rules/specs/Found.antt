@@ -1,0 +1,17 @@
+-- The first of some faults, as it is found part by part.
+use Rattle.std.specs.Prelude.{List, Option, Some, None, if◌then◌else◌}
+use Rattle.scope_rules.specs.declared.faults.Found.{Found}
+use Rattle.scope_rules.specs.Faults.{Fault, is_before, ordered, first}
+
+abbrev pub fault_of : Found → Fault
+fault_of f = record { rule = f.rule; at = f.at; text = f.text }
+
+-- the first of them in their order
+abbrev pub first_in : List Fault → Option Fault
+first_in fs = first (ordered fs)
+
+-- of two the one that comes first, the left one where both stand alike
+abbrev pub earlier_of : Option Fault → Option Fault → Option Fault
+earlier_of None g = g
+earlier_of (Some f) None = Some f
+earlier_of (Some f) (Some g) = if is_before g f then Some g else Some f
