@@ -1,12 +1,12 @@
--- What the first language asks of a tree, beside how it is spelled: its forms alone; no name is one that modules have anyway, no key behind a point
--- is one of a text's, and the keys of a record are distinct (ES3 11.1.5, 11.2.1, 12.2).
+-- What the first language asks of a tree, beside how it is spelled: its forms alone; no name is one that modules have anyway, no key behind a
+-- point is one of a text's, no name and no key means something of its own, and the keys of a record are distinct (ES3 11.1.5, 11.2.1, 12.2).
 use Rattle.std.specs.Prelude.{ℕ, ◌&&◌, ◌||◌, not, Bool, true, false, List}
 use Rattle.caja_units.specs.Units.{same_units}
 use Rattle.es3_tree.specs.Tree as t
 use Rattle.es3_tree.specs.Placed as p
 use Rattle.es3_tree.specs.Placed.{Placed}
 use Rattle.es3_tree.specs.declared.BinOp.TheVariants.{Add}
-use Rattle.scope_rules.specs.Rules.{is_among, fixed_names, text_keys}
+use Rattle.scope_rules.specs.Rules.{is_free_name, is_free_key, is_record_key}
 
 -- whether one of the fields has the key
 abbrev pub has_field : List ℕ → Placed t.fields → Bool
@@ -16,18 +16,18 @@ has_field k (p.more_fields l e rest) = same_units k l.text || has_field k rest
 unfoldable pub is_first : (s : t.Sort) → Placed s → Bool
 is_first _ (p.num n) = true
 is_first _ (p.text u) = true
-is_first _ (p.name x) = not (is_among fixed_names x.text)
+is_first _ (p.name x) = is_free_name x.text
 is_first _ (p.object fs) = is_first _ fs
-is_first _ (p.dot e k) = not (is_among text_keys k.text) && is_first _ e
+is_first _ (p.dot e k) = is_free_key k.text && is_first _ e
 is_first _ (p.binary Add x y) = is_first _ x && is_first _ y
 is_first _ p.no_fields = true
-is_first _ (p.more_fields k e rest) = not (has_field k.text rest) && is_first _ e && is_first _ rest
+is_first _ (p.more_fields k e rest) = is_record_key k.text && not (has_field k.text rest) && is_first _ e && is_first _ rest
 is_first _ p.no_expr = true
 is_first _ (p.some_expr e) = is_first _ e
 is_first _ (p.var is) = is_first _ is
 is_first _ (p.expression e) = is_first _ e
 is_first _ p.no_items = true
-is_first _ (p.more_items x e rest) = not (is_among fixed_names x.text) && is_first _ e && is_first _ rest
+is_first _ (p.more_items x e rest) = is_free_name x.text && is_first _ e && is_first _ rest
 is_first _ p.no_stmts = true
 is_first _ (p.more_stmts s rest) = is_first _ s && is_first _ rest
 is_first _ _ = false

@@ -1,5 +1,5 @@
 -- The names and keys that the rules and the first language speak of.
-use Rattle.std.specs.Prelude.{ℕ, Bool, List, [], ◌∷◌, codes}
+use Rattle.std.specs.Prelude.{ℕ, ◌&&◌, not, Bool, List, [], ◌∷◌, codes}
 use Rattle.std.specs.List.{list_any}
 use Rattle.caja_units.specs.Units.{same_units}
 
@@ -16,3 +16,18 @@ text_keys =
 
 abbrev pub is_among : List (List ℕ) → List ℕ → Bool
 is_among names x = list_any (same_units x) names
+
+-- words that mean something of their own wherever they stand
+abbrev pub own_words : List (List ℕ)
+own_words = codes "eval" ∷ codes "arguments" ∷ codes "toString" ∷ codes "valueOf" ∷ []
+
+-- a name of the first language
+abbrev pub is_free_name : List ℕ → Bool
+is_free_name x = not (is_among fixed_names x) && not (is_among own_words x)
+
+-- a key behind a point, and a key of a record
+abbrev pub is_free_key : List ℕ → Bool
+is_free_key k = not (is_among text_keys k) && not (is_among own_words k)
+
+abbrev pub is_record_key : List ℕ → Bool
+is_record_key k = not (is_among own_words k)

@@ -5,7 +5,7 @@ ghost use Rattle.es3_tree.specs.Tree as tree;
 ghost use Rattle.es3_tree.specs.PlacedView as source;
 ghost use Rattle.scope_rules.specs.Language.{is_first, has_field as has_such_field};
 
-use crate::words::{is_fixed, is_text_key};
+use crate::words::{is_free_key, is_free_name, is_record_key};
 use caja_units::Units;
 use es3_tree::{BinOp, Expr, Name, Stmt, VarItem};
 
@@ -28,9 +28,9 @@ fn is_first_expr(e: &Expr) -> bool
 {
     match e {
         Expr::Num(_) | Expr::Text(_) => true,
-        Expr::Name(name) => !is_fixed(&name.text),
+        Expr::Name(name) => is_free_name(&name.text),
         Expr::Object(fields) => are_first_fields(fields),
-        Expr::Dot(object, key) => !is_text_key(&key.text) && is_first_expr(object),
+        Expr::Dot(object, key) => is_free_key(&key.text) && is_first_expr(object),
         Expr::Binary(BinOp::Add, left, right) => is_first_expr(left) && is_first_expr(right),
         _ => false,
     }
@@ -42,6 +42,9 @@ fn are_first_fields(fields: &[(Name, Expr)]) -> bool
     ensures { result ≡ is_first tree.fields (source.of_fields fields.now) }
 {
     for (i, (key, value)) in fields.iter().enumerate() {
+        if !is_record_key(&key.text) {
+            return false;
+        }
         if has_field(&key.text, &fields[i + 1..]) {
             return false;
         }
@@ -67,7 +70,7 @@ fn are_first_items(items: &[VarItem]) -> bool
     ensures { result ≡ is_first tree.items (source.of_items items.now) }
 {
     for item in items {
-        if is_fixed(&item.name.text) {
+        if !is_free_name(&item.name.text) {
             return false;
         }
         if !is_first_value(&item.value) {

@@ -1,7 +1,13 @@
 ghost use Rattle.std.specs.Prelude.{◌≡◌};
 ghost use Rattle.std.specs.List.{list_any};
 ghost use Rattle.caja_units.specs.Units.{same_units};
-ghost use Rattle.scope_rules.specs.Rules.{is_among as is_among_them, fixed_names, text_keys};
+ghost use Rattle.scope_rules.specs.Rules.{
+  is_among as is_among_them,
+  own_words,
+  is_free_name as free_name,
+  is_free_key as free_key,
+  is_record_key as record_key,
+};
 
 use caja_units::Units;
 
@@ -33,6 +39,9 @@ const TEXT_KEYS: [&str; 9] = [
     "length",
 ];
 
+/// The words that mean something of their own wherever they stand.
+const OWN_WORDS: [&str; 4] = ["eval", "arguments", "toString", "valueOf"];
+
 // Whether the units of the text are these bytes.
 fn spells(text: &Units, word: &str) -> bool
     ensures { result ≡ same_units text.now word.now }
@@ -63,16 +72,30 @@ pub(crate) fn is_among(texts: &[Units], text: &Units) -> bool
     texts.iter().any(|other| text.same(other))
 }
 
-/// Whether every module has the name without declaring it.
-pub(crate) fn is_fixed(name: &Units) -> bool
-    ensures { result ≡ is_among_them fixed_names name.now }
+// Whether the text means something of its own.
+fn is_own_word(text: &Units) -> bool
+    ensures { result ≡ is_among_them own_words text.now }
 {
-    is_word_of(&FIXED_NAMES, name)
+    is_word_of(&OWN_WORDS, text)
 }
 
-/// Whether texts have a method of this name, or it is `length`.
-pub(crate) fn is_text_key(key: &Units) -> bool
-    ensures { result ≡ is_among_them text_keys key.now }
+/// Whether the text may be a name: every module has some names without declaring them.
+pub(crate) fn is_free_name(name: &Units) -> bool
+    ensures { result ≡ free_name name.now }
 {
-    is_word_of(&TEXT_KEYS, key)
+    !is_word_of(&FIXED_NAMES, name) && !is_own_word(name)
+}
+
+/// Whether the text may be a key behind a point: texts have some as methods, and `length`.
+pub(crate) fn is_free_key(key: &Units) -> bool
+    ensures { result ≡ free_key key.now }
+{
+    !is_word_of(&TEXT_KEYS, key) && !is_own_word(key)
+}
+
+/// Whether the text may be a key of a record.
+pub(crate) fn is_record_key(key: &Units) -> bool
+    ensures { result ≡ record_key key.now }
+{
+    !is_own_word(key)
 }
