@@ -1,0 +1,2 @@
+pub mod DirectLog
+pub mod Means
