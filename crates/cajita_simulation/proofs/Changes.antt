@@ -47,7 +47,7 @@ last_kept m n i x y lists there = elim (nat_eq n m) as (λ b. slice_get (cond b 
 
 -- names of objects
 
-no_name : (a b : ℕ) → tag.None ≡ tag.Made a b → ⊥
+pub no_name : (a b : ℕ) → tag.None ≡ tag.Made a b → ⊥
 no_name a b e = cc
 
 tagged_within : (h : Objects) (i a b : ℕ) → heap.tag_of (heap.object_at h i) ≡ tag.Made a b → i < length h.list

@@ -28,7 +28,7 @@ use Rattle.module_loader.specs.Opened.{opened, runtime_id}
 use Rattle.module_loader.specs.Page.{Kept, page_table, first_kept}
 use Rattle.cajita_simulation.specs.Guest.{is_among}
 use Rattle.cajita_simulation.specs.Alike.{shown}
-pub use Rattle.cajita_simulation.specs.Correspond.{EsValue, Named, Val, guests, PairsAre, IsRecord, value_is, IsError, Is, Stands}
+pub use Rattle.cajita_simulation.specs.Correspond.{EsValue, Named, Val, guests, PairsAre, IsRecord, value_is, IsError, Is, Stands, AllStand}
 
 -- values that may be absent
 
@@ -48,7 +48,7 @@ env_of H = record { chain = H.env.chain; calls = H.env.calls; by = H.env.by }
 
 -- from a tag to its object; a count for each module; no more names than steps; the first objects are as at the opening
 pub record ObjectsAre (by : ℕ) (objects : ℕ → List Object) (h : Objects) (m : ℕ) : Type 0 where
-  pub objs : (i a b : ℕ) → heap.tag_of (heap.object_at h i) ≡ tag.Made a b → Stands (objects a) h b i
+  pub objs : AllStand objects h
   pub count : slice_get h.counts by ≡ Some (length (objects by))
   pub few : length (objects by) ≤ m
   pub opened : (i : ℕ) → i < 16 → heap.object_at h i ≡ heap.object_at opened i

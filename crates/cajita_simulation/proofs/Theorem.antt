@@ -3,7 +3,7 @@ use Rattle.std.proofs.Common.{◌≡◌, ℕ, ◌≤◌, ◌<◌, List, [], Some
 use Rattle.plans.specs.Plans.{ends, enter, over, stopped, out}
 use Rattle.matching.specs.Sides.{Together}
 use Rattle.matching.specs.Sentences.{IsFinished, Simulates}
-use Rattle.matching.proofs.Theorem.{simulates}
+use Rattle.matching.proofs.Theorem as matching
 use Rattle.es3_meaning.specs.Meaning as Target
 use Rattle.cajita_tree.specs.Tree as c
 use Rattle.cajita_rewrite.specs.Rewrite.{program_of}
@@ -21,8 +21,8 @@ use Rattle.cajita_simulation.proofs.Load.Opening.{here}
 use Rattle.cajita_simulation.proofs.Load.Whole.{whole}
 
 -- the load of a module, and its program in a page of its own
-pub simulated : (by : ℕ) (m : c.Tree c.program) → by < 64 → GuestModule m → Simulates (sides by) (enter (Source.load m by) empty_world ends) [] (Target.program_plan (program_of m) by first_store) first_kept
-simulated by _ few (a_guest vars list same guest) = simulates (sides by) _ _ _ _ (whole by vars list few same guest (effects (here by vars)))
+pub simulates : (by : ℕ) → by < 64 → (m : c.Tree c.program) → GuestModule m → Simulates (sides by) (enter (Source.load m by) empty_world ends) [] (Target.program_plan (program_of m) by first_store) first_kept
+simulates by few _ (a_guest vars list same guest) = matching.simulates (sides by) _ _ _ _ (whole by vars list few same guest (effects (here by vars)))
 
 -- like ends, as the sentences say it
 
@@ -50,7 +50,7 @@ finished (out s y n) f = tt
 
 pub correct : (m : c.Tree c.program) (by : ℕ) → by < 64 → GuestModule m → Correct by m
 correct m by few guest =
-    let s = simulated by m few guest in
+    let s = simulates by few m guest in
     let back : (k : ℕ) → k ≤ most_steps → IsFinished (module_run (program_of m) by k) → (j : ℕ) × ((n : ℕ) → j ≤ n → EndAlike (direct_run m by n) (module_run (program_of m) by k)) =
     λ k le fin. let h = s.backward k le fin in (h.0, λ n enough. alike by _ _ (h.1 n enough)) in
     record {

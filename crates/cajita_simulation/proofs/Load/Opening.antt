@@ -21,7 +21,7 @@ use Rattle.cajita_simulation.specs.Guest.{is_among, declared}
 use Rattle.cajita_simulation.proofs.Heaps.Opened.{opened-opened}
 use Rattle.cajita_simulation.proofs.Heaps.Functions.{function_new, function_object, prototype_object}
 use Rattle.cajita_simulation.proofs.Relation.{EsValue, OptVal, Here, Temps, unknown, holds, SlotIs, Found, ScopeIs, names_at, ObjectsAre, VariablesAre, Rel}
-use Rattle.cajita_simulation.proofs.Changes.{objects_unnamed, last_there}
+use Rattle.cajita_simulation.proofs.Changes.{no_name, objects_unnamed, last_there}
 use Rattle.cajita_simulation.proofs.Laws.{hold}
 use Rattle.cajita_simulation.proofs.Load.Names.{undefined_value, value_at-undefined, own_names, name_declared, name_bound, runtime_there, result_there}
 
@@ -60,9 +60,6 @@ module_store by body = store.with_scope (first_names (module_code body) (es.Obj 
 abbrev Unnamed : List heap.Object → Type 0
 Unnamed [] = Unit {0}
 Unnamed (o ∷ os) = (o.tag ≡ tag.None) × Unnamed os
-
-no_name : (a b : ℕ) → tag.None ≡ tag.Made a b → ⊥
-no_name a b e = cc
 
 unnamed_at : (list : List heap.Object) → Unnamed list → (i a b : ℕ) → heap.tag_of (slice_get list i) ≡ tag.Made a b → ⊥
 unnamed_at [] u i a b e = no_name a b e
