@@ -1,9 +1,8 @@
 -- Values that correspond are shown alike, and so are the ends of two runs that came to an end together.
-use Rattle.std.proofs.Common.{◌≡◌, ◌≢◌, ℕ, List, ◌++◌, Option, Some, None, refl, sym, ap, ◌∙◌, subst}
+use Rattle.std.proofs.Common.{◌≡◌, ◌≢◌, ℕ, List, ◌++◌, Option, Some, None, refl, sym, ap, ◌∙◌}
 use Rattle.std.specs.Prelude.{codes}
 use Rattle.std.proofs.lemmas.List.{append-nil}
-use Rattle.plans.specs.Plans.{Fault, number_fault, depth_fault, convert_fault, over, stopped}
-use Rattle.matching.specs.Sides.{Together}
+use Rattle.plans.specs.Plans.{Fault, number_fault, depth_fault, convert_fault, over, stopped, out}
 use Rattle.caja_units.specs.Literal.{literal}
 use Rattle.caja_units.specs.Utf8.{utf8_of}
 use Rattle.es3_heap.specs.declared.value.Value.TheVariants as es
@@ -23,10 +22,10 @@ use Rattle.cajita_meaning.specs.Direct as Source
 use Rattle.cajita_meaning.specs.Direct.{Item}
 use Rattle.module_loader.specs.Page.{Kept}
 use Rattle.page_runner.specs.declared.End.TheVariants.{Convert}
-use Rattle.page_runner.specs.Log.{text_units, error_text, class_text, object_name, after_name, value_text, load_line, completion_line, end_of, run_log, run_end}
+use Rattle.page_runner.specs.Log.{main_name, line_end, text_units, error_text, class_text, object_name, after_name, value_text, load_line, completion_line, end_of, run_log, run_end}
 use Rattle.cajita_simulation.specs.Alike.{GuestFault}
-use Rattle.cajita_simulation.proofs.Relation.{EsValue, Val, Named, Is, IsError, value_is, ObjectsAre, Stands}
-use Rattle.cajita_simulation.proofs.Laws.{Ends, sides}
+use Rattle.cajita_simulation.specs.Correspond.{EsValue, Val, Named, Is, IsError, value_is, Stands, AllStand}
+use Rattle.cajita_simulation.specs.Correct.{SameEnd, EndAlike, ConvertsNothing}
 use Rattle.page_meaning.specs.DirectLog.{name_shown, error_shown, object_shown, value_shown, line_shown, end_shown, load_log, load_end}
 
 -- an error's name and its message
@@ -62,44 +61,43 @@ standing_alike w h n i named s = object_alike h n i s.object s.stored named s.th
 
 -- values
 
-pub value_alike : (by m : ℕ) (w : State) (h : Objects) → ObjectsAre by w.objects h m → (v : Value) (e : EsValue) → Val h v e → value_text h e ≡ value_shown w v
-value_alike by m w h are World.undefined es.Undefined p = refl
-value_alike by m w h are World.null es.Null p = refl
-value_alike by m w h are (World.truth a) (es.Bool b) p = ap (λ x. value_text h (es.Bool x)) (sym p)
-value_alike by m w h are (World.number a) (es.Num b) p = ap (λ x. value_text h (es.Num x)) (sym p)
-value_alike by m w h are (World.text a) (es.Text b) p = ap literal (sym p)
-value_alike by m w h are (World.object n) (es.Obj i) p = standing_alike w h n i p (are.objs i n.maker n.number p)
-value_alike by m w h are _ _ p = absurd p
+value_alike : (w : State) (h : Objects) → AllStand w.objects h → (v : Value) (e : EsValue) → Val h v e → value_text h e ≡ value_shown w v
+value_alike w h stand World.undefined es.Undefined p = refl
+value_alike w h stand World.null es.Null p = refl
+value_alike w h stand (World.truth a) (es.Bool b) p = ap (λ x. value_text h (es.Bool x)) (sym p)
+value_alike w h stand (World.number a) (es.Num b) p = ap (λ x. value_text h (es.Num x)) (sym p)
+value_alike w h stand (World.text a) (es.Text b) p = ap literal (sym p)
+value_alike w h stand (World.object n) (es.Obj i) p = standing_alike w h n i p (stand i n.maker n.number p)
+value_alike w h stand _ _ p = absurd p
 
-line_alike : (how : List ℕ) (by m : ℕ) (w : State) (h : Objects) → ObjectsAre by w.objects h m → (v : Value) (e : EsValue) → Val h v e → load_line how h e ≡ line_shown how w v
-line_alike how by m w h are v e p =
-    ap (λ l. codes "load main " ++ how ++ codes " " ++ l ++ Rattle.page_runner.specs.Log.line_end) (value_alike by m w h are v e p)
+line_alike : (how : List ℕ) (w : State) (h : Objects) → AllStand w.objects h → (v : Value) (e : EsValue) → Val h v e → load_line how h e ≡ line_shown how w v
+line_alike how w h stand v e p = ap (λ l. codes "load " ++ main_name ++ codes " " ++ how ++ codes " " ++ l ++ line_end) (value_alike w h stand v e p)
 
 -- ends
 
-end_alike : (e : Source.Completion) (w : State) (z : List Item) (e' : Target.Completion) (s : Store) (y : Kept) → Ends 0 e w z e' s y → completion_line s.heap (completed e') ≡ end_shown w e
-end_alike (Source.gave v) w z (Target.normal (Some e)) s y p = line_alike (codes "return") 0 p.1 w s.heap p.2 v e p.0
-end_alike (Source.threw v) w z (Target.threw e) s y p = line_alike (codes "throw") 0 p.1 w s.heap p.2 v e p.0
-end_alike _ w z _ s y p = absurd p
+line_same : (e : Source.Completion) (w : State) (e' : Target.Completion) (s : Store) → SameEnd e w e' s → completion_line s.heap (completed e') ≡ end_shown w e
+line_same (Source.gave v) w (Target.normal (Some e)) s p = line_alike (codes "return") w s.heap p.1 v e p.0
+line_same (Source.threw v) w (Target.threw e) s p = line_alike (codes "throw") w s.heap p.1 v e p.0
+line_same _ w _ s p = absurd p
 
-pub log_alike : (r : Source.Run) (t : Target.Run Kept) → Together (sides 0) r t → run_log t ≡ load_log r
-log_alike (over e w z n) (over e' s y n') p = end_alike e w z e' s y p
-log_alike (stopped f w z n) (stopped g s y n') p = refl
-log_alike _ _ p = absurd p
+pub log_same : (r : Source.Run) (t : Target.Run Kept) → EndAlike r t → run_log t ≡ load_log r
+log_same (over e w z n) (over e' s y n') p = line_same e w e' s p.0
+log_same (stopped f w z n) (stopped g s y n') p = refl
+log_same _ _ p = absurd p
 
-pub end_same : (r : Source.Run) (t : Target.Run Kept) → Together (sides 0) r t → run_end t ≡ load_end r
+pub end_same : (r : Source.Run) (t : Target.Run Kept) → EndAlike r t → run_end t ≡ load_end r
 end_same (over e w z n) (over e' s y n') p = refl
 end_same (stopped f w z n) (stopped g s y n') p = ap end_of (sym p.0)
 end_same _ _ p = absurd p
 
--- a guest ends by no fault of a conversion
+-- faults
 
 no_conversion : (f : Fault) → GuestFault f → end_of f ≢ Convert
 no_conversion number_fault p = λ e. cc
 no_conversion depth_fault p = λ e. cc
 no_conversion convert_fault p = absurd p
 
-pub end_guest : (r : Source.Run) (t : Target.Run Kept) → Together (sides 0) r t → run_end t ≢ Convert
-end_guest (over e w z n) (over e' s y n') p = λ x. cc
-end_guest (stopped f w z n) (stopped g s y n') p = no_conversion g (subst GuestFault p.0 p.1)
-end_guest _ _ p = absurd p
+pub end_converts_nothing : (t : Target.Run Kept) → ConvertsNothing t → run_end t ≢ Convert
+end_converts_nothing (over e s y n) p = λ x. cc
+end_converts_nothing (stopped f s y n) p = no_conversion f p
+end_converts_nothing (out s y n) p = λ x. cc

@@ -6,15 +6,8 @@ use Rattle.cajita_meaning.specs.Direct.{direct_run}
 use Rattle.cajita_rewrite.specs.Rewrite.{program_of}
 use Rattle.page_runner.specs.declared.End.TheVariants.{Convert, Steps}
 use Rattle.page_runner.specs.Log.{page_log, page_end}
+use Rattle.cajita_simulation.specs.Alike.{most_steps}
 use Rattle.page_meaning.specs.DirectLog.{direct_log, direct_end}
-
--- so many steps of the interpreter do what one step of the direct meaning does
-abbrev pub steps_each : ℕ
-steps_each = 64
-
--- the most steps of the interpreter that are spoken of: a page counts a module's objects in 32 bits
-abbrev pub most_steps : ℕ
-most_steps = 4294967294
 
 -- the direct run with n steps comes to its end, or stops for good, after c of them
 pub record EndsAfter (m : c.Tree c.program) (n c : ℕ) : Type 0 where
@@ -34,7 +27,7 @@ pub record IsFront (part all : List ℕ) : Type 0 where
 -- the page of a module shows what its source means
 pub record SourceMeans (m : c.Tree c.program) : Type 0 where
   -- where the direct run ends after c steps, the page shows the same with any number of steps from 64 times c on
-  pub forward : (n c s : ℕ) → EndsAfter m n c → steps_each * c ≤ s → steps_each * c ≤ most_steps → ShowsTheSame m s n
+  pub forward : (n c s : ℕ) → EndsAfter m n c → 64 * c ≤ s → 64 * c ≤ most_steps → ShowsTheSame m s n
   -- where the page ends, it shows what the direct run shows with every number of steps that is large enough
   pub backward : (s : ℕ) → s ≤ most_steps → page_end (program_of m) s ≢ Steps → (k : ℕ) × ((n : ℕ) → k ≤ n → ShowsTheSame m s n)
   -- wherever the page is cut off, its log is a front of the log of the direct run with every number of steps that is large enough
