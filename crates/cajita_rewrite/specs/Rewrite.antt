@@ -62,7 +62,7 @@ load_stmt body = t.expression (runtime_call (codes "loadModule") (single (t.func
 -- all else is itself over rewritten parts
 unfoldable pub rewritten : (s : c.Sort) → c.Tree s → Tree (of_sort s)
 rewritten _ (c.num n) = t.num n
-rewritten _ (c.text us) = t.text us
+rewritten _ (c.text u) = t.text u
 rewritten _ (c.name x) = t.name x
 rewritten _ (c.record_of fs) = runtime_call (codes "initializeMap") (single (t.array (rewritten _ fs)))
 rewritten _ (c.read e k) = runtime_call (codes "readPub") (pair (rewritten _ e) (rewritten _ k))

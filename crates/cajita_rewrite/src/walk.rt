@@ -26,6 +26,7 @@ fn rewrite_expr(alloc: Global, e: &CExpr) -> Result<Expr, Memory>
 {
     match e {
         CExpr::Num(n) => Ok(Expr::Num(*n)),
+        CExpr::Text(text) => Ok(Expr::Text(text.copy(alloc)?)),
         CExpr::Name(name) => Ok(Expr::Name(copied_name(alloc, name)?)),
         CExpr::Record(fields) => {
             let pairs = make_array(rewrite_fields(alloc, fields)?);

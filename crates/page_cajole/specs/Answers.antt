@@ -1,11 +1,14 @@
--- What an answer says of the defined program.
-use Rattle.std.specs.Prelude.{◌≡◌, List, ℕ, Option, Some, None}
+-- What an answer says of what becomes of the source.
+use Rattle.std.specs.Prelude.{◌≡◌, List, ℕ}
 use Rattle.es3_tree.specs.Tree as t
 use Rattle.es3_tree.specs.View.{program}
 use Rattle.es3_printer.specs.Tokens.{printed}
-use Rattle.page_cajole.specs.declared.CajoledModule.{CajoledModule}
+use Rattle.page_cajole.specs.Cajoled.{Outcome, unread, broken, cajoled}
+use Rattle.page_cajole.specs.declared.Answer.{Answer}
+use Rattle.page_cajole.specs.declared.Answer.TheVariants as answer
 
--- the program is the defined one, and the text is its printed text
-abbrev pub IsCajoled : Option CajoledModule → Option (t.Tree t.program) → Type 0
-IsCajoled None p = p ≡ None
-IsCajoled (Some m) p = (p ≡ Some (program m.program)) × (m.text.items ≡ printed (program m.program))
+-- the program is the defined one, and the text is its printed text; the number and the byte are those of the first fault
+abbrev pub Answers : Answer → Outcome → Type 0
+Answers (answer.Module m) o = (o ≡ cajoled (program m.program)) × (m.text.items ≡ printed (program m.program))
+Answers answer.Unread o = o ≡ unread
+Answers (answer.Broken number at) o = o ≡ broken number at

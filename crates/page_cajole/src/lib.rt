@@ -1,16 +1,22 @@
-//! From a source to the cajoled program that stands for it, and its text.
+//! From a source to the cajoled program that stands for it, and its text, or to the stage that refuses it.
 #![tactic(auto)]
 
-ghost use Rattle.std.specs.Prelude.{◌≡◌, IfOk};
-ghost use Rattle.page_cajole.specs.Cajoled.{cajoled};
-ghost use Rattle.page_cajole.specs.Answers.{IsCajoled};
+ghost use Rattle.std.specs.Prelude.{◌≡◌, IfOk, Some};
+ghost use Rattle.es3_tree.specs.View.{program as program_view};
+ghost use Rattle.es3_tree.specs.PlacedView.{of_stmts};
+ghost use Rattle.cajita_tree.specs.View.{module_view};
+ghost use Rattle.cajita_rewrite.specs.Rewrite.{program_of};
+ghost use Rattle.es3_printer.specs.Tokens.{printed};
+ghost use Rattle.page_cajole.specs.Cajoled.{outcome, outcome_of};
+ghost use Rattle.page_cajole.specs.Answers.{Answers};
 
 use caja_units::Memory;
 use cajita_rewrite::rewrite;
+use cajita_tree::Module;
 use es3_printer::print_program;
 use es3_tree::Program;
 use first_reader::read_module;
-use scope_rules::resolve;
+use scope_rules::{RuleError, check, is_first};
 use std::alloc::Global;
 
 /// A cajoled module: the program that stands for it, and that program's text in bytes of ASCII.
@@ -20,23 +26,54 @@ pub struct CajoledModule {
     pub program: Program,
 }
 
-/// The cajoled module of a source, or `None` exactly where the source isn't a module of the language.
+/// What becomes of a source.
+#[derive(Drop)]
+pub enum Answer {
+    /// It is cajoled.
+    Module(CajoledModule),
+    /// Reading refuses it: it isn't of the first language.
+    Unread,
+    /// A rule refuses it: the number of the rule, and the byte of the source where the first fault is, from 0.
+    Broken(u8, u32),
+}
+
+/// The program that stands for the module, and its text.
+fn cajoled(alloc: Global, resolved: &Module) -> Result<CajoledModule, Memory>
+    ensures program { IfOk result (λ m. program_view m.program ≡ program_of (module_view resolved.now)) }
+    ensures text { IfOk result (λ m. m.text.items ≡ printed (program_view m.program)) }
+{
+    let program = rewrite(alloc, resolved)?;
+    let text = print_program(alloc, &program)?;
+    Ok(CajoledModule { text, program })
+}
+
+/// The answer for a program that was read.
+fn judge(alloc: Global, program: &Program) -> Result<Answer, Memory>
+    ensures { IfOk result (λ a. Answers a (outcome_of (Some (of_stmts program.now.body.items)))) }
+{
+    if !is_first(&program.body) {
+        return Ok(Answer::Unread);
+    }
+    match check(alloc, program) {
+        Ok(module) => Ok(Answer::Module(cajoled(alloc, &module)?)),
+        Err(RuleError::Fault(number, at, _name)) => Ok(Answer::Broken(number, at)),
+        Err(RuleError::Memory) => Err(Memory),
+    }
+}
+
+/// The cajoled module of a source, or what refuses it: reading, exactly where the source isn't of the first language, and
+/// then the rules, exactly where it breaks one.
 ///
 /// # Errors
 ///
 /// `Memory` where memory is wanting.
-pub fn cajole(alloc: Global, source: &[u8]) -> Result<Option<CajoledModule>, Memory>
-    ensures { IfOk result (λ m. IsCajoled m (cajoled source.now)) }
+pub fn cajole(alloc: Global, source: &[u8]) -> Result<Answer, Memory>
+    ensures { IfOk result (λ a. Answers a (outcome source.now)) }
 {
-    let Some(body) = read_module(alloc, source)? else {
-        return Ok(None);
-    };
-    let Some(module) = resolve(alloc, &body.body)? else {
-        return Ok(None);
-    };
-    let program = rewrite(alloc, &module)?;
-    let text = print_program(alloc, &program)?;
-    Ok(Some(CajoledModule { text, program }))
+    match read_module(alloc, source)? {
+        Some(program) => judge(alloc, &program),
+        None => Ok(Answer::Unread),
+    }
 }
 
 #[cfg(test)]

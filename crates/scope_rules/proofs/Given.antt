@@ -10,8 +10,8 @@ use Rattle.es3_tree.specs.declared.BinOp.TheVariants.{Add}
 use Rattle.cajita_tree.specs.declared.CStmt.{CStmt}
 use Rattle.cajita_tree.specs.Tree as c
 use Rattle.cajita_tree.specs.View as view
-use Rattle.scope_rules.specs.Resolve.{of_sort, one, both, resolved}
-use Rattle.scope_rules.specs.Faults.{Fault, hidden, faults_in}
+use Rattle.scope_rules.specs.Resolve.{of_sort, one, both, resolved, vars_of, module_of}
+use Rattle.scope_rules.specs.Faults.{Fault, faults_in, faults, first}
 use Rattle.scope_rules.specs.Found.{fault_of, first_in}
 use Rattle.scope_rules.specs.declared.faults.Found.{Found}
 use Rattle.scope_rules.proofs.Order.{none_at_all}
@@ -72,3 +72,10 @@ never names one two found list same first no_first rest no_list =
     let clean = none_at_all (faults_in names t.stmts (of_stmts one)) (sym first ∙ ap (option_map fault_of) no_first) in
     none-given (of_stmts one) (given names t.stmts (of_stmts one) clean)
     (ap (λ l. resolved t.stmts (of_stmts l)) same ∙ sym rest ∙ ap (option_map (λ v. view.of_stmts v.items)) no_list)
+
+module-given : (body : Placed t.stmts) → IsGiven t.stmts body → (m : c.Tree c.program) × (module_of body ≡ Some m)
+module-given body g = (c.a_module [] (c.block (vars_of body) g.0), ap (one (λ list. c.a_module [] (c.block (vars_of body) list))) g.1)
+
+-- the law
+pub has_module : (body : Placed t.stmts) → faults body ≡ [] → (m : c.Tree c.program) × (module_of body ≡ Some m)
+has_module body e = module-given body (given (vars_of body) t.stmts body (none_at_all (faults_in (vars_of body) t.stmts body) (ap first e)))

@@ -2,11 +2,15 @@
 //! that it breaks.
 #![tactic(auto)]
 
-ghost use Rattle.std.specs.Prelude.{◌≡◌};
+ghost use Rattle.std.specs.Prelude.{◌≡◌, [], Some};
 ghost use Rattle.es3_tree.specs.Tree as tree;
+ghost use Rattle.es3_tree.specs.Placed.{Placed};
 ghost use Rattle.es3_tree.specs.PlacedView.{of_stmts};
+ghost use Rattle.cajita_tree.specs.Tree as resolved_tree;
 ghost use Rattle.scope_rules.specs.Check.{Checks};
+ghost use Rattle.scope_rules.specs.Faults.{faults as faults_of};
 ghost use Rattle.scope_rules.specs.Language.{is_first as is_of_the_first};
+ghost use Rattle.scope_rules.specs.Resolve.{module_of};
 
 mod declared;
 mod faults;
@@ -33,7 +37,7 @@ pub enum RuleError {
 }
 
 impl From<Memory> for RuleError {
-    ghost use Rattle.std.specs.Prelude.{◌≡◌};
+    ghost use Rattle.std.specs.Prelude.{◌≡◌, [], Some};
     ghost use Rattle.scope_rules.specs.declared.RuleError.TheVariants.{Memory};
 
     ghost from_gives = { λ _ e. e ≡ Memory };
@@ -51,6 +55,12 @@ pub fn is_first(body: &[Stmt]) -> bool
 {
     language::are_first_stmts(body)
 }
+
+/// A program without faults has a module.
+pub fn a_program_without_faults_has_a_module()
+    ensures { (body : Placed tree.stmts) → faults_of body ≡ []
+        → (m : resolved_tree.Tree resolved_tree.program) × (module_of body ≡ Some m) }
+{}
 
 /// The module that the program is (ES3 14), exactly where it breaks no rule.
 ///
