@@ -4,17 +4,18 @@ use Rattle.std.proofs.Common.{◌≡◌, ℕ, ◌+◌, ◌<◌, ◌≤◌, true,
 use Rattle.std.proofs.Math.ListN.{replicate}
 use Rattle.std.proofs.lemmas.List.{length-replicate}
 use Rattle.std.proofs.lemmas.Bool.{lt-ltb, le-ltb}
-use Rattle.page_cajole.specs.Cajoled.{cajoled}
+use Rattle.page_cajole.specs.Cajoled.{outcome}
 use Rattle.caja_io.specs.Sink.{Appends, AppendsPart}
-use Rattle.caja_cli.specs.Output.{output, program_output, refusal, is_command, longest_input}
+use Rattle.caja_cli.specs.Output.{output, source_output, refusal, is_command, longest_input}
 use Rattle.caja_cli.specs.Answered.{IsLeft, Wrote, WrotePart}
+use Rattle.caja_cli.proofs.Meant.{meant}
 use Rattle.caja_cli.specs.declared.status.Status.{Status}
 use Rattle.caja_cli.specs.declared.status.Status.TheVariants.{Refused}
 
-output-too_long : (words : List (List ℕ)) (input : List ℕ) → is_command words ≡ true → longest_input < length input → output words input ≡ (refusal (codes "input"), Refused)
+output-too_long : (words : List (List ℕ)) (input : List ℕ) → is_command words ≡ true → longest_input < length input → output words input ≡ (refusal (codes "input") 1 0, Refused)
 output-too_long words input command far = rw (command, lt-ltb longest_input (length input) far) refl
 
-output-read : (words : List (List ℕ)) (input : List ℕ) → is_command words ≡ true → length input ≤ longest_input → output words input ≡ program_output (cajoled input)
+output-read : (words : List (List ℕ)) (input : List ℕ) → is_command words ≡ true → length input ≤ longest_input → output words input ≡ source_output (outcome input)
 output-read words input command near = rw (command, le-ltb longest_input (length input) near) refl
 
 -- an input of more bytes than n: what was left where the source tells it, and else any
@@ -31,7 +32,7 @@ is_left : (left : Option (List ℕ)) (input : List ℕ) → IfSome left (λ all.
 is_left (Some all) input e = sym e
 is_left None input _ = tt
 
-pub wrote-too_long : (words : List (List ℕ)) (status : Status) (left left' written written' : Option (List ℕ)) → is_command words ≡ true → IfSome left (λ all. longest_input < length all) → Appends written written' (refusal (codes "input")) → status ≡ Refused → Wrote words status left left' written written'
+pub wrote-too_long : (words : List (List ℕ)) (status : Status) (left left' written written' : Option (List ℕ)) → is_command words ≡ true → IfSome left (λ all. longest_input < length all) → Appends written written' (refusal (codes "input") 1 0) → status ≡ Refused → Wrote words status left left' written written'
 wrote-too_long words status left left' written written' command far bytes refused =
     let l = longer longest_input left far in
     let e = output-too_long words l.input command l.far in
@@ -42,9 +43,10 @@ wrote-too_long words status left left' written written' command far bytes refuse
       read = λ _ near. absurd (omega (arith, beyond, near));
       bytes = subst (λ (o : List ℕ × Status). Appends written written' o.0) (sym e) bytes;
       result = ap (λ (o : List ℕ × Status). o.1) e ∙ sym refused;
+      meant = λ _. meant l.input;
     }
 
-pub wrote_part-too_long : (words : List (List ℕ)) (left written written' : Option (List ℕ)) → is_command words ≡ true → IfSome left (λ all. longest_input < length all) → AppendsPart written written' (refusal (codes "input")) → WrotePart words left written written'
+pub wrote_part-too_long : (words : List (List ℕ)) (left written written' : Option (List ℕ)) → is_command words ≡ true → IfSome left (λ all. longest_input < length all) → AppendsPart written written' (refusal (codes "input") 1 0) → WrotePart words left written written'
 wrote_part-too_long words left written written' command far part =
     let l = longer longest_input left far in
     record {
@@ -53,9 +55,9 @@ wrote_part-too_long words left written written' command far part =
       bytes = subst (λ (o : List ℕ × Status). AppendsPart written written' o.0) (sym (output-too_long words l.input command l.far)) part;
     }
 
-pub wrote_part-read : (words : List (List ℕ)) (left written written' : Option (List ℕ)) (all input text bytes : List ℕ) → is_command words ≡ true → IfSome left (λ told. all ≡ told) → length all ≤ longest_input → input ≡ all → text ≡ (program_output (cajoled input)).0 → bytes ≡ text → AppendsPart written written' bytes → WrotePart words left written written'
+pub wrote_part-read : (words : List (List ℕ)) (left written written' : Option (List ℕ)) (all input text bytes : List ℕ) → is_command words ≡ true → IfSome left (λ told. all ≡ told) → length all ≤ longest_input → input ≡ all → text ≡ (source_output (outcome input)).0 → bytes ≡ text → AppendsPart written written' bytes → WrotePart words left written written'
 wrote_part-read words left written written' all input text bytes command told near same defined given part =
-    let e : text ≡ (output words all).0 = defined ∙ ap (λ (i : List ℕ). (program_output (cajoled i)).0) same ∙ sym (ap (λ (o : List ℕ × Status). o.0) (output-read words all command near)) in
+    let e : text ≡ (output words all).0 = defined ∙ ap (λ (i : List ℕ). (source_output (outcome i)).0) same ∙ sym (ap (λ (o : List ℕ × Status). o.0) (output-read words all command near)) in
     record {
       input = all;
       of_source = λ _. is_left left all told;

@@ -1,3 +1,4 @@
 pub mod Codes
 pub mod Output
 pub mod Answered
+pub mod Meant

@@ -13,6 +13,8 @@ mod page_tests;
 mod solo;
 mod status;
 #[cfg(test)]
+mod table_tests;
+#[cfg(test)]
 mod tests;
 
 use caja_io::{InputFault, OutputFault, Sink, Source, read_all, write_all};
@@ -27,13 +29,14 @@ const LONGEST_INPUT: usize = 4_194_304;
 /// The words are those behind the program's name. The one command is `solo`: the input is the source of a module, and
 /// the output is its cajoled text and the log of its load. Where the words are no command, nothing is read, and the
 /// line `usage` is written.
+#[tactic(auto, using(crate::proofs::Meant::meant))]
 pub fn caja<S: Source, K: Sink>(
     words: &[String],
     source: &mut S,
     sink: &mut K,
     alloc: Global,
 ) -> Status
-    // The whole output was written, and the status is the defined one.
+    // The whole output was written, and the status is the defined one; the log of an accepted source is what the source means.
     ensures answer { IsAnswer result
         → Wrote (map string_bytes words.now) result (S.left source.old) (S.left source.new) (K.written sink.old) (K.written sink.new) }
 

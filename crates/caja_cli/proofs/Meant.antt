@@ -1,0 +1,42 @@
+-- An accepted source is meant by its log.
+use Rattle.std.proofs.Common.{◌≡◌, ℕ, Bool, true, false, List, Option, Some, None, cond, refl, sym, ap, ◌∙◌}
+use Rattle.es3_tree.specs.Tree as t
+use Rattle.es3_tree.specs.Placed.{Placed}
+use Rattle.cajita_tree.specs.Tree as c
+use Rattle.first_reader.specs.Machine.{read}
+use Rattle.scope_rules.specs.Language.{is_first}
+use Rattle.scope_rules.specs.Faults.{Fault, faults, first}
+use Rattle.scope_rules.specs.Resolve.{module_of}
+use Rattle.cajita_rewrite.specs.Rewrite.{program_of}
+use Rattle.page_cajole.specs.Cajoled.{Outcome, unread, cajoled, rewritten, judged, outcome_of, outcome}
+use Rattle.page_meaning.proofs.Theorem.{guests_mean}
+use Rattle.page_meaning.proofs.Accepted.{guest_of}
+use Rattle.caja_cli.specs.Meant.{module_read, Meant, IsMeant}
+
+-- what was judged to be a program: there is no fault, and a module
+judged_program : (fault : Option Fault) (m : Option (c.Tree c.program)) (p : t.Tree t.program) → judged fault m ≡ cajoled p → (fault ≡ None) × (x : c.Tree c.program) × (m ≡ Some x) × (p ≡ program_of x)
+judged_program (Some f) m p e = absurd cc
+judged_program None None p e = absurd cc
+judged_program None (Some x) p e = (refl, x, refl, cc)
+
+accepted_tree : (body : Placed t.stmts) (p : t.Tree t.program) → outcome_of (Some body) ≡ cajoled p → (is_first t.stmts body ≡ true) × (judged (first (faults body)) (module_of body) ≡ cajoled p)
+accepted_tree body p e =
+    let cases = elim (is_first t.stmts body) as (λ b. cond b (judged (first (faults body)) (module_of body)) unread ≡ cajoled p → (b ≡ true) × (judged (first (faults body)) (module_of body) ≡ cajoled p)) [
+      | true ↦ λ h. (refl, h)
+      | false ↦ λ h. absurd cc
+    ] in cases e
+
+read_means : (input : List ℕ) (body : Option (Placed t.stmts)) (p : t.Tree t.program) → read input ≡ body → outcome_of body ≡ cajoled p → Meant input p
+read_means input None p is e = absurd cc
+read_means input (Some body) p is e =
+    let tree = accepted_tree body p e in
+    let found = judged_program (first (faults body)) (module_of body) p tree.1 in
+    record {
+      its_module = found.1;
+      spelled = ap module_read is ∙ found.2;
+      program = found.3;
+      means = guests_mean found.1 (guest_of body found.1 tree.0 found.0 found.2);
+    }
+
+pub meant : (input : List ℕ) → IsMeant input
+meant input p e = read_means input (read input) p refl e
