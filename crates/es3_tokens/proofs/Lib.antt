@@ -1,0 +1,13 @@
+pub mod Classes
+pub mod Comments
+pub mod Cut
+pub mod Examples
+pub mod Gaps
+pub mod Longest
+pub mod Names
+pub mod Numbers
+pub mod Punctuators
+pub mod Slashes
+pub mod Sources
+pub mod Tests
+pub mod Texts
