@@ -6,14 +6,12 @@ use Rattle.std.specs.Char.{len_utf8}
 use Rattle.std.proofs.lemmas.List.Sums.{sum_by-cons, sum_by-take-drop}
 use Rattle.std.proofs.lemmas.List.{length-drop}
 use Rattle.std.proofs.Math.Seq.{drop-length}
-use Rattle.es3_tokens.proofs.Longest.{Within, longest_within}
+use Rattle.es3_tokens.proofs.Cut.{cut_accept, cut_nil, cut_refuse, cut_skip}
 use Rattle.es3_tokens.specs.Characters.{begins}
-use Rattle.es3_tokens.specs.Cut.{Answer, Step, accept, cut, cut_chars, cut_from, front, gap_step, goes, point, refusal_step, refuse, skip, token_step, width}
-use Rattle.es3_tokens.specs.Gaps.{gap}
-use Rattle.es3_tokens.specs.Longest.{longest}
-use Rattle.es3_tokens.specs.Refusals.{Refusal, refusal_at}
-use Rattle.es3_tokens.specs.Steps.{Fits, fronts}
-use Rattle.es3_tokens.specs.Tokens.{wants_operand, whole_token}
+use Rattle.es3_tokens.specs.Cut.{Answer, accept, cut, cut_chars, cut_from, front, point, refuse, skip, width}
+use Rattle.es3_tokens.specs.Refusals.{Refusal}
+use Rattle.es3_tokens.specs.Steps.{fronts}
+use Rattle.es3_tokens.specs.Tokens.{Placed, placed, wants_operand}
 use Rattle.es3_tree.specs.Token.{Token}
 
 -- the loop: what stands before, and what is cut of the rest

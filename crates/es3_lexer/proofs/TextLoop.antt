@@ -5,18 +5,14 @@ use Rattle.std.specs.Char.Escape.{encode_utf16}
 use Rattle.std.proofs.Math.Seq.{drop-cons}
 use Rattle.std.proofs.lemmas.Bool.Decides.{nat_tests}
 use Rattle.std.proofs.lemmas.List.{length-take-le, drop_all}
-use Rattle.caja_units.specs.Units.{same_units}
-use Rattle.es3_tokens.proofs.Classes.{no_digit_no_zero, no_place, quote_other, quote_solid}
-use Rattle.es3_tokens.proofs.Gaps.{at_solid}
-use Rattle.es3_tokens.proofs.Longest.{longest_is}
-use Rattle.es3_tokens.specs.Characters.{begins, is_digit, is_hex, is_line, is_quote}
-use Rattle.es3_tokens.specs.Cut.{Step, accept, point, refusal_step, refuse, token_step}
-use Rattle.es3_tokens.specs.Longest.{longest}
-use Rattle.es3_tokens.specs.Refusals.{open_string, refusal_at}
+use Rattle.es3_tokens.proofs.Tests.{ne_test}
+use Rattle.es3_tokens.proofs.Texts.{after_after, at_char, body_cons, body_nil, body_pass}
+use Rattle.es3_tokens.specs.Characters.{is_line}
+use Rattle.es3_tokens.specs.Cut.{accept, refuse}
+use Rattle.es3_tokens.specs.Refusals.{open_string}
 use Rattle.es3_tokens.specs.Steps.{text_step}
-use Rattle.es3_tokens.specs.Texts.{Reading, after, body, broken, by_digits, closed, escape, escaped, unclosed, units_of}
-use Rattle.es3_tokens.specs.Tokens.{made, or_else, whole_token}
-use Rattle.es3_tree.specs.Token.{Token, puncts, text}
+use Rattle.es3_tokens.specs.Texts.{Reading, after, body, closed, escape, escaped, unclosed}
+use Rattle.es3_tree.specs.Token.{text}
 
 at_drop : (q : ℕ) (s : List ℕ) (i d : ℕ) → i < length s → body q 0 (drop i s) ≡ body q 0 (get_or s i d ∷ drop (i + 1) s)
 at_drop q s i d lt = ap (body q 0) (drop-cons s i d lt ∙ ap (λ j. get_or s i d ∷ drop j s) (sym (add-one i)))
