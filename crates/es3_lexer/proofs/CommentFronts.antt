@@ -8,11 +8,11 @@ use Rattle.std.proofs.lemmas.Grind.{common_steps}
 use Rattle.std.proofs.Math.Nat.{mul-le-mul_left}
 use Rattle.std.proofs.lemmas.Bool.Decides.{nat_tests}
 use Rattle.std.proofs.lemmas.List.Sums.{AllPass-from_list_all}
-use Rattle.es3_tokens.proofs.Comments.{end_cons, end_nil, not_line, point_block, point_line_comment, point_open}
+use Rattle.es3_tokens.proofs.Comments.{end_cons, end_nil, point_block, point_line_comment, point_open}
 use Rattle.es3_tokens.proofs.Tests.{eq_of}
 use Rattle.es3_tokens.specs.Characters.{begins, is_line, is_slash, is_star}
 use Rattle.es3_tokens.specs.Cut.{point, refuse, skip}
-use Rattle.es3_tokens.specs.Gaps.{comment_end, one_more}
+use Rattle.es3_tokens.specs.Gaps.{comment_end, not_line, one_more}
 use Rattle.es3_tokens.specs.Refusals.{open_comment}
 use Rattle.es3_tokens.specs.Steps.{closes, later}
 

@@ -7,8 +7,7 @@ use Rattle.std.proofs.lemmas.List.Sums.{sum_by-cons, sum_by-take-drop}
 use Rattle.std.proofs.lemmas.List.{length-drop}
 use Rattle.std.proofs.Math.Seq.{drop-length}
 use Rattle.es3_tokens.proofs.Cut.{cut_accept, cut_nil, cut_refuse, cut_skip}
-use Rattle.es3_tokens.specs.Characters.{begins}
-use Rattle.es3_tokens.specs.Cut.{Answer, accept, cut, cut_chars, cut_from, front, point, refuse, skip, width}
+use Rattle.es3_tokens.specs.Cut.{Answer, accept, cut, cut_from, front, point, refuse, skip, width}
 use Rattle.es3_tokens.specs.Refusals.{Refusal}
 use Rattle.es3_tokens.specs.Steps.{fronts}
 use Rattle.es3_tokens.specs.Tokens.{Placed, placed, wants_operand}
@@ -66,8 +65,3 @@ loop_end ts s i p l o a is g = sym g ∙ ap (λ (w : List ℕ). fronts ts (cut_f
 -- the width of what is passed and of what is left
 pub width_split : (s w : List ℕ) (i k : ℕ) → w ≡ drop i s → width (take k w) + width (drop (i + k) s) ≡ width (drop i s)
 width_split s w i k e = ap (λ (v : List ℕ). width (take k v) + width (drop (i + k) s)) e ∙ ap (λ (v : List ℕ). width (take k (drop i s)) + width v) (sym (drop-drop k i s)) ∙ sum_by-take-drop len_utf8 (drop i s) k
-
--- where no mark stands at the beginning
-pub unmarked : (s : List ℕ) → begins (λ c. nat_eq c 0xFEFF) s ≡ false → cut_from 0 0 false true s ≡ cut_chars s
-unmarked [] h = cut_nil 0 false true
-unmarked (c ∷ s) h = ap (λ b. if b then cut_from 0 3 false true s else cut_from 0 0 false true (c ∷ s)) (sym h)

@@ -8,14 +8,11 @@ use Rattle.es3_tokens.proofs.Longest.{begins_take, longest_is, longest_none, pas
 use Rattle.es3_tokens.proofs.Tests.{and_false, and_parts, eq_test, ne_test}
 use Rattle.es3_tokens.specs.Characters.{begins, is_line, is_slash}
 use Rattle.es3_tokens.specs.Cut.{front, gap_step, point, refusal_step, refuse, skip, token_step}
-use Rattle.es3_tokens.specs.Gaps.{comment_end, gap, is_count, one_more}
+use Rattle.es3_tokens.specs.Gaps.{comment_end, gap, is_count, not_line, one_more}
 use Rattle.es3_tokens.specs.Longest.{longest}
 use Rattle.es3_tokens.specs.Refusals.{open_comment, refusal_at}
 use Rattle.es3_tokens.specs.Texts.{closed}
 use Rattle.es3_tokens.specs.Tokens.{whole_token}
-
-abbrev pub not_line : ℕ → Bool
-not_line d = not (is_line d)
 
 no_line : (w : List ℕ) → list_all not_line w ≡ true → list_any is_line w ≡ false
 no_line [] h = refl

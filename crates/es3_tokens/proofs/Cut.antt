@@ -7,7 +7,8 @@ use Rattle.std.proofs.lemmas.List.Sums.{sum_by-cons, sum_by-take-drop}
 use Rattle.std.proofs.lemmas.List.{length-drop}
 use Rattle.std.proofs.Math.Seq.{drop-length}
 use Rattle.es3_tokens.proofs.Longest.{Within, longest_within}
-use Rattle.es3_tokens.specs.Cut.{Step, accept, cut_from, front, gap_step, goes, point, refusal_step, refuse, skip, token_step, width}
+use Rattle.es3_tokens.specs.Characters.{begins}
+use Rattle.es3_tokens.specs.Cut.{Step, accept, cut_chars, cut_from, front, gap_step, goes, point, refusal_step, refuse, skip, token_step, width}
 use Rattle.es3_tokens.specs.Gaps.{gap}
 use Rattle.es3_tokens.specs.Longest.{longest}
 use Rattle.es3_tokens.specs.Refusals.{Refusal, refusal_at}
@@ -62,3 +63,7 @@ pub point_fits : (o : Bool) (s : List ℕ) → Fits (length s) (point o s)
 unfolding point
 point_fits o s = fits_gap (length s) (longest gap (length s) s) _ (longest_within gap (length s) s) (fits_refusal (length s) (refusal_at o s) _ (fits_token (length s) (longest whole_token (length s) s) (longest_within whole_token (length s) s)))
 
+-- where no mark stands at the beginning
+pub unmarked : (s : List ℕ) → begins (λ c. nat_eq c 0xFEFF) s ≡ false → cut_from 0 0 false true s ≡ cut_chars s
+unmarked [] h = cut_nil 0 false true
+unmarked (c ∷ s) h = ap (λ b. if b then cut_from 0 3 false true s else cut_from 0 0 false true (c ∷ s)) (sym h)

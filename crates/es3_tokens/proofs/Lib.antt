@@ -1,3 +1,9 @@
+pub mod BackNames
+pub mod BackNumbers
+pub mod BackPunctuators
+pub mod BackSources
+pub mod BackTexts
+pub mod BackTokens
 pub mod Classes
 pub mod Comments
 pub mod Cut

@@ -1,6 +1,29 @@
--- When a token that is written is read back as it is, whatever stands behind it.
-use Rattle.std.specs.Prelude.{ℕ, List, [], ◌∷◌, ◌++◌, Bool, true, false, ◌&&◌, not, nat_eq}
-use Rattle.es3_tree.specs.Token.{puncts}
+-- How tokens are written, and when what is written is cut into the same tokens.
+use Rattle.std.specs.Prelude.{ℕ, ◌^◌, ◌<◌, ◌≡◌, ℤ, pos, List, [], ◌∷◌, ◌++◌, Bool, true, false, ◌&&◌, ◌||◌, not, nat_eq, Option, Some, None, Ok, Err, length, drop, map, if◌then◌else◌}
+use Rattle.std.specs.List.{All}
+use Rattle.caja_units.specs.Literal.{literal}
+use Rattle.caja_units.specs.Number.{number_text}
+use Rattle.es3_tree.specs.Token.{Token, name, word, punct, num, text, words, puncts}
+use Rattle.es3_tokens.specs.Characters.{is_white, is_line, is_letter, is_quote, is_part, is_digit, is_slash, is_star, begins}
+use Rattle.es3_tokens.specs.Tokens.{is_name, place_in, entry, wants_operand}
+use Rattle.es3_tokens.specs.Refusals.{goes_on}
+use Rattle.es3_tokens.specs.Cut.{Answer}
+
+-- 7.5 to 7.8: how a token is written: a number in decimal digits, a text in double quotes
+abbrev pub spelling : Token → List ℕ
+spelling (name us) = us
+spelling (word n) = entry words n
+spelling (punct n) = entry puncts n
+spelling (num n) = number_text n
+spelling (text us) = literal us
+
+-- what the tokens of a source are
+abbrev pub IsToken : Token → Type 0
+IsToken (name us) = (is_name us ≡ true) × (place_in words us ≡ None)
+IsToken (word n) = n < length words
+IsToken (punct n) = n < length puncts
+IsToken (num n) = (m : ℕ) × (n ≡ pos m) × (m < 2 ^ 53)
+IsToken (text us) = All (λ u. u < 65536) us
 
 -- whether the text t begins with the text s
 abbrev pub is_front : List ℕ → List ℕ → Bool
@@ -17,3 +40,39 @@ fronts_none s (p ∷ ps) = not (is_front s p) && fronts_none s ps
 abbrev pub is_apart : List ℕ → List ℕ → Bool
 is_apart w [] = true
 is_apart w (d ∷ r) = fronts_none (w ++ d ∷ []) puncts
+
+-- 7.7: what begins a punctuator or nothing: no gap, but for a comment, no name, no number and no text
+abbrev pub begins_sign : ℕ → Bool
+begins_sign c = not (is_white c) && not (is_line c) && not (nat_eq c 92) && not (is_quote c) && not (is_letter c) && not (is_digit c)
+
+-- 7.4, 7.8.3, 7.8.5: whether no number, no comment and no regular expression begins with these characters; o: an operand is wanted
+abbrev pub is_sign : Bool → List ℕ → Bool
+is_sign o [] = true
+is_sign o (c ∷ s) = not (nat_eq c 46 && begins is_digit s) && not (is_slash c && (o || begins is_slash s || begins is_star s))
+
+-- whether a token is read back as it is before the characters r; o: an operand is wanted where it stands
+abbrev pub stays : Bool → Token → List ℕ → Bool
+stays o (name us) r = not (begins is_part r)
+stays o (word n) r = not (begins is_part r)
+stays o (num n) r = not (begins goes_on r)
+stays o (text us) r = true
+stays o (punct n) r = is_apart (entry puncts n) r && is_sign o (entry puncts n ++ r)
+
+-- tokens one after another, with a space before those that are marked
+abbrev pub spaced : Bool → List ℕ → List ℕ
+spaced true s = 32 ∷ s
+spaced false s = s
+
+abbrev pub spelled : List (Bool × Token) → List ℕ
+spelled [] = []
+spelled (x ∷ ts) = spaced x.0 (spelling x.1 ++ spelled ts)
+
+-- whether each of them stays before what follows it
+abbrev pub AllStay : Bool → List (Bool × Token) → Type 0
+AllStay o [] = Unit {0}
+AllStay o (x ∷ ts) = IsToken x.1 × (stays o x.1 (spelled ts) ≡ true) × AllStay (wants_operand x.1) ts
+
+-- the tokens of an answer, without their places
+abbrev pub tokens_in : Answer → Option (List Token)
+tokens_in (Ok ts) = Some (map (λ t. t.token) ts)
+tokens_in (Err e) = None

@@ -16,10 +16,13 @@ abbrev pub is_count : ℕ → Option ℕ → Bool
 is_count n None = false
 is_count n (Some m) = nat_eq n m
 
+abbrev pub not_line : ℕ → Bool
+not_line c = not (is_line c)
+
 -- 7.4: behind a `/`, all that is left of a comment: `/` and no line terminator, or `*` and a first `*/` at the very end
 abbrev pub is_comment : List ℕ → Bool
 is_comment s =
-    if begins is_slash s then list_all (λ c. not (is_line c)) s
+    if begins is_slash s then list_all not_line s
     else begins is_star s && is_count (length (drop 1 s)) (comment_end (drop 1 s))
 
 -- whether there is a line terminator in these characters, where all of them are one gap

@@ -1,6 +1,6 @@
 use Rattle.std.proofs.Common.{sym, ap, subst, ◌∙◌}
 use Rattle.es3_lexer.proofs.cutting.cut_chars.Goals as goal
-use Rattle.es3_lexer.proofs.Loop.{unmarked}
+use Rattle.es3_tokens.proofs.Cut.{unmarked}
 use Rattle.es3_lexer.specs.Answers.{Gives}
 
 pub returns-else-begins_with : goal.returns-else-begins_with
