@@ -44,7 +44,6 @@ line_comment_front o (c ∷ x ∷ s) w k n h g e i j =
     let m : n ≡ suc (suc (prefix_len not_line s)) = omega (arith, f) in
     rw (p, q) (rw m (sym (point_line_comment o s)))
 
-
 later_more : (i : ℕ) (o : Option ℕ) → later (i + 1) o ≡ later i (one_more o)
 later_more i None = refl
 later_more i (Some k) = let e : i + 1 + k ≡ i + suc k = omega arith in ap (λ n. Some n) e
@@ -69,4 +68,3 @@ end_found s i o lt h e = ap (later i) (sym (ap (λ b. if b then Some 2 else one_
 
 pub end_last : (s : List ℕ) (i : ℕ) (o : Option ℕ) → i ≡ length s → later i (comment_end (drop i s)) ≡ o → None ≡ o
 end_last s i o is e = sym (ap (λ r. later i (comment_end r)) (ap (λ n. drop n s) is ∙ drop-length s) ∙ ap (later i) end_nil) ∙ e
-

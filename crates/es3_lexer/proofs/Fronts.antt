@@ -21,7 +21,6 @@ use Rattle.es3_tree.specs.Token.{text}
 pub rest_is : (n : ℕ) (s : List ℕ) → take (length s - n) (drop n s) ≡ drop n s
 rest_is n s = ap (λ k. take k (drop n s)) (sym (length-drop n s)) ∙ take-length (drop n s)
 
-
 pub white_front : (o : Bool) (s : List ℕ) (d : ℕ) → 0 < length s → is_white (get_or s 0 d) ≡ true → point o s ≡ skip false 1
 white_front o [] d lt h = absurd (omega arith)
 white_front o (c ∷ s) d lt h = point_white o c s h
@@ -38,11 +37,9 @@ pub first_some : (p : ℕ → Bool) (s : List ℕ) → begins p s ≡ true → 0
 first_some p [] h = absurd cc
 first_some p (c ∷ s) h = omega arith
 
-
 pub backslash_front : (o : Bool) (s : List ℕ) (d : ℕ) → 0 < length s → get_or s 0 d ≡ 92 → point o s ≡ refuse escape_in_name
 backslash_front o [] d lt h = absurd (omega arith)
 backslash_front o (c ∷ s) d lt h = rw h (point_backslash o s)
-
 
 pub text_front : (o : Bool) (s : List ℕ) (d : ℕ) → begins is_quote s ≡ true → point o s ≡ text_step (body (get_or s 0 d) 0 (drop 1 s))
 text_front o [] d h = absurd cc

@@ -34,4 +34,3 @@ name_small (c ∷ s) k n h e i =
     let a : list_all is_part (c ∷ take (prefix_len is_part s) s) ≡ true = ap (λ b. b && list_all is_part (take (prefix_len is_part s) s)) q ∙ passes is_part s in
     let b : list_all is_part (take n (c ∷ s)) ≡ true = ap (λ j. list_all is_part (take j (c ∷ s))) (sym f) ∙ a in
     λ j d lt. part_small (get_or (take n (c ∷ s)) j d) (AllPass-from_list_all is_part (take n (c ∷ s)) b j d lt)
-

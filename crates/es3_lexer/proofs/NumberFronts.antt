@@ -14,7 +14,7 @@ use Rattle.std.proofs.lemmas.Bool.Decides.{nat_tests}
 use Rattle.std.proofs.lemmas.List.Sums.{AllPass-from_list_all}
 use Rattle.es3_tokens.proofs.Longest.{passes}
 use Rattle.es3_tokens.proofs.Numbers.{longest_decimal, longest_hex, longest_no_hex, longest_zero, point_number}
-use Rattle.es3_tokens.proofs.Tests.{and_parts, ge_test, lt_test, ne_test}
+use Rattle.es3_tokens.proofs.Tests.{and_parts, eq_of, ge_test, lt_test}
 use Rattle.es3_tokens.specs.Characters.{begins, is_digit, is_hex}
 use Rattle.es3_tokens.specs.Cut.{Step, accept, front, goes, point, refusal_step, refuse}
 use Rattle.es3_tokens.specs.Longest.{longest}
@@ -69,30 +69,32 @@ digits_all (c ∷ s) k n h e i =
 pub decimal_digits : (s : List ℕ) (k n : ℕ) → begins is_digit s ≡ true → k ≡ prefix_len is_digit (drop 1 s) → n ≡ 1 + k → All (λ c. is_hex c ≡ true) (take n s)
 decimal_digits s k n h e i = AllPass-from_list_all is_hex (take n s) (all_hex (take n s) (digits_all s k n h e i))
 
-pub hex_digits : (s : List ℕ) (k : ℕ) → k ≡ prefix_len is_hex s → All (λ c. is_hex c ≡ true) (take k s)
-hex_digits s k e = AllPass-from_list_all is_hex (take k s) (ap (λ j. list_all is_hex (take j s)) e ∙ passes is_hex s)
+pub hex_digits_all : (s : List ℕ) (k : ℕ) → k ≡ prefix_len is_hex s → All (λ c. is_hex c ≡ true) (take k s)
+hex_digits_all s k e = AllPass-from_list_all is_hex (take k s) (ap (λ j. list_all is_hex (take j s)) e ∙ passes is_hex s)
 
-pub decimal_front : (s : List ℕ) (d k n v : ℕ) → begins is_digit s ≡ true → get_or s 0 d ≢ 48 → k ≡ prefix_len is_digit (drop 1 s) → n ≡ 1 + k → v ≡ min (digits_value 10 (take n s)) (2 ^ 53) → IsNumber (v, n) (longest number (length s) s)
-decimal_front [] d k n v h z e i w = absurd cc
-decimal_front (c ∷ s) d k n v h z e i w =
+abbrev is_zero : ℕ → Bool
+is_zero c = nat_eq c 48
+
+pub decimal_front : (s : List ℕ) (k n v : ℕ) → begins is_digit s ≡ true → begins is_zero s ≡ false → k ≡ prefix_len is_digit (drop 1 s) → n ≡ 1 + k → v ≡ min (digits_value 10 (take n s)) (2 ^ 53) → IsNumber (v, n) (longest number (length s) s)
+decimal_front [] k n v h z e i w = absurd cc
+decimal_front (c ∷ s) k n v h z e i w =
     let f : suc (prefix_len is_digit s) ≡ n = omega (arith, e) in
-    rw (longest_decimal c s h (ne_test c 48 z)) (w ∙ ap (λ j. min (digits_value 10 (take j (c ∷ s))) (2 ^ 53)) (sym f), sym f)
+    rw (longest_decimal c s h z) (w ∙ ap (λ j. min (digits_value 10 (take j (c ∷ s))) (2 ^ 53)) (sym f), sym f)
 
-pub zero_front : (s : List ℕ) (d : ℕ) → 0 < length s → get_or s 0 d ≡ 48 → begins is_x (drop 1 s) ≡ false → IsNumber (0, 1) (longest number (length s) s)
-zero_front [] d lt z h = absurd (omega arith)
-zero_front (c ∷ s) d lt z h = rw z (rw (longest_zero s h) (refl, refl))
+pub zero_front : (s : List ℕ) → begins is_zero s ≡ true → begins is_x (drop 1 s) ≡ false → IsNumber (0, 1) (longest number (length s) s)
+zero_front [] z h = absurd cc
+zero_front (c ∷ s) z h = rw (eq_of c 48 z) (rw (longest_zero s h) (refl, refl))
 
-pub no_hex_front : (s w : List ℕ) (d k : ℕ) → 0 < length s → get_or s 0 d ≡ 48 → begins is_x (drop 1 s) ≡ true → w ≡ drop 2 s → k ≡ prefix_len is_hex w → k ≡ 0 → IsNumber (0, 1) (longest number (length s) s)
-no_hex_front [] w d k lt z x a e h = absurd (omega arith)
-no_hex_front (c ∷ []) w d k lt z x a e h = absurd cc
-no_hex_front (c ∷ y ∷ s) w d k lt z x a e h = rw z (rw (longest_no_hex y s (sym (ap (prefix_len is_hex) a) ∙ sym e ∙ h)) (refl, refl))
+pub no_hex_front : (s w : List ℕ) (k : ℕ) → begins is_zero s ≡ true → begins is_x (drop 1 s) ≡ true → w ≡ drop 2 s → k ≡ prefix_len is_hex w → k ≡ 0 → IsNumber (0, 1) (longest number (length s) s)
+no_hex_front [] w k z x a e h = absurd cc
+no_hex_front (c ∷ []) w k z x a e h = absurd cc
+no_hex_front (c ∷ y ∷ s) w k z x a e h = rw (eq_of c 48 z) (rw (longest_no_hex y s (sym (ap (prefix_len is_hex) a) ∙ sym e ∙ h)) (refl, refl))
 
-pub hex_front : (s w : List ℕ) (d k n v : ℕ) → 0 < length s → get_or s 0 d ≡ 48 → begins is_x (drop 1 s) ≡ true → w ≡ drop 2 s → k ≡ prefix_len is_hex w → 0 < k → n ≡ k + 2 → v ≡ min (digits_value 16 (take k w)) (2 ^ 53) → IsNumber (v, n) (longest number (length s) s)
-hex_front [] w d k n v lt z x a e some i u = absurd (omega arith)
-hex_front (c ∷ []) w d k n v lt z x a e some i u = absurd cc
-hex_front (c ∷ y ∷ s) w d k n v lt z x a e some i u =
-    rw z (rw (longest_hex y s k x (sym (e ∙ ap (prefix_len is_hex) a)) some) (u ∙ ap (λ t. min (digits_value 16 (take k t)) (2 ^ 53)) a, let q : n ≡ suc (suc k) = omega arith in q))
-
+pub hex_front : (s w : List ℕ) (k n v : ℕ) → begins is_zero s ≡ true → begins is_x (drop 1 s) ≡ true → w ≡ drop 2 s → k ≡ prefix_len is_hex w → 0 < k → n ≡ k + 2 → v ≡ min (digits_value 16 (take k w)) (2 ^ 53) → IsNumber (v, n) (longest number (length s) s)
+hex_front [] w k n v z x a e some i u = absurd cc
+hex_front (c ∷ []) w k n v z x a e some i u = absurd cc
+hex_front (c ∷ y ∷ s) w k n v z x a e some i u =
+    rw (eq_of c 48 z) (rw (longest_hex y s k x (sym (e ∙ ap (prefix_len is_hex) a)) some) (u ∙ ap (λ t. min (digits_value 16 (take k t)) (2 ^ 53)) a, let q : n ≡ suc (suc k) = omega arith in q))
 
 -- a natural number as one of the language
 whole_test : (v : ℕ) (b : Bool) → nat_lt v (2 ^ 53) ≡ b → whole (pos v) ≡ (if b then Some (pos v) else None)

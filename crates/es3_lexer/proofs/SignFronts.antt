@@ -31,7 +31,6 @@ pub longest_zero_none : {A : Type 0} (f : List ℕ → Option A) (s : List ℕ) 
 unfolding longest
 longest_zero_none f s = refl
 
-
 pub slash_front : (o : Bool) (s w : List ℕ) → begins is_slash s ≡ true → w ≡ drop 1 s → begins is_slash w ≡ false → begins is_star w ≡ false → point o s ≡ (if o then refuse reg_exp else sign_step s)
 slash_front o [] w h e f g = absurd cc
 slash_front o (c ∷ s) w h e f g = let p : c ≡ 47 = eq_of c 47 h in rw p (point_slash o s (ap (begins is_slash) (sym e) ∙ f) (ap (begins is_star) (sym e) ∙ g))
@@ -39,4 +38,3 @@ slash_front o (c ∷ s) w h e f g = let p : c ≡ 47 = eq_of c 47 h in rw p (poi
 pub dot_front : (o : Bool) (s w : List ℕ) (b : Bool) → begins (λ c. nat_eq c 46) s ≡ true → w ≡ drop 1 s → b ≡ begins is_digit w → point o s ≡ (if b then refuse number_form else sign_step s)
 dot_front o [] w b h e f = absurd cc
 dot_front o (c ∷ s) w b h e f = let p : c ≡ 46 = eq_of c 46 h in rw p (point_dot o s ∙ ap (λ b. if b then refuse number_form else sign_step (46 ∷ s)) (sym (f ∙ ap (begins is_digit) e)))
-

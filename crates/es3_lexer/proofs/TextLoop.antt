@@ -56,4 +56,3 @@ text_lined q s us i c d x lt is h g e =
 
 pub text_ended : (q : ℕ) (s us : List ℕ) (i : ℕ) (x : Reading) → length s ≤ i → after us i (body q 0 (drop i s)) ≡ x → refuse open_string ≡ text_step x
 text_ended q s us i x le e = ap text_step (sym (ap (after us i) (ap (body q 0) (drop_all i s le) ∙ body_nil q 0)) ∙ e)
-

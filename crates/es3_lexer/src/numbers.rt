@@ -11,7 +11,7 @@ ghost use Rattle.es3_tokens.specs.Cut.{point as point_spec};
 ghost use Rattle.es3_tokens.specs.Steps.{IsNumber};
 ghost use Rattle.es3_lexer.specs.Views.{step_of};
 
-use crate::characters::{digit, is_digit, is_hex, is_part};
+use crate::characters::{begins_with, digit, is_digit, is_hex, is_part};
 use crate::step::{Refusal, Step};
 use crate::token::Kind;
 use caja_num::Whole;
@@ -62,7 +62,7 @@ fn longest_number(s: &[char]) -> (u64, usize)
     ensures is { IsNumber (result.0, result.1) (longest number_spec (length s.now) s.now) }
     ensures bounded { result.0 ≤ 2 ^ 53 }
 {
-    if s[0] != '0' {
+    if !begins_with(s, '0') {
         let n = 1 + digit_len(&s[1..]);
         return (value(&s[..n], 10), n);
     }
