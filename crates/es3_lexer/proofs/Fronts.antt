@@ -1,13 +1,7 @@
 -- The laws of a point for characters that are not split, as the code has them: white space, line terminators, backslashes and texts.
-use Rattle.std.proofs.Common.{◌≡◌, ℕ, zero, suc, ◌+◌, ◌-◌, ◌*◌, ◌^◌, ◌≤◌, ◌<◌, ◌&&◌, ◌||◌, ◌≢◌, not, Bool, true, false, List, [], ◌∷◌, ◌++◌, Option, Some, None, refl, sym, ap, ◌∙◌, arith, nat_eq, nat_lt, nat_le, min, length, take, drop, get_or, add-one}
-use Rattle.std.specs.Prelude.{if◌then◌else◌}
-use Rattle.std.specs.List.{list_all, list_any, prefix_len, All}
-use Rattle.std.proofs.Math.Seq.{drop-length, drop-cons, take-length}
+use Rattle.std.proofs.Common.{◌≡◌, ℕ, ◌-◌, ◌<◌, Bool, true, false, List, [], ◌∷◌, sym, ap, ◌∙◌, arith, length, take, drop, get_or}
+use Rattle.std.proofs.Math.Seq.{take-length}
 use Rattle.std.proofs.lemmas.List.{length-drop}
-use Rattle.std.proofs.lemmas.Grind.{common_steps}
-use Rattle.std.proofs.Math.Nat.{mul-le-mul_left}
-use Rattle.std.proofs.lemmas.Bool.Decides.{nat_tests}
-use Rattle.std.proofs.lemmas.List.Sums.{AllPass-from_list_all}
 use Rattle.es3_tokens.proofs.Gaps.{point_backslash, point_line, point_white}
 use Rattle.es3_tokens.proofs.Texts.{point_text}
 use Rattle.es3_tokens.specs.Characters.{begins, is_line, is_quote, is_white}
@@ -15,7 +9,6 @@ use Rattle.es3_tokens.specs.Cut.{point, refuse, skip}
 use Rattle.es3_tokens.specs.Refusals.{escape_in_name}
 use Rattle.es3_tokens.specs.Steps.{text_step}
 use Rattle.es3_tokens.specs.Texts.{body}
-use Rattle.es3_tree.specs.Token.{text}
 
 -- what is left of a text, as a slice to its end has it
 pub rest_is : (n : ℕ) (s : List ℕ) → take (length s - n) (drop n s) ≡ drop n s

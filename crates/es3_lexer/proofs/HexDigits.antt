@@ -1,5 +1,5 @@
 -- Escapes by hexadecimal digits: two or four of them are a unit.
-use Rattle.std.proofs.Common.{◌≡◌, ℕ, zero, suc, ◌+◌, ◌^◌, ◌≤◌, ◌<◌, ◌&&◌, Bool, true, false, List, [], ◌∷◌, refl, sym, ap, ◌∙◌, arith, length, take, lit≤, nat_le}
+use Rattle.std.proofs.Common.{◌≡◌, ℕ, zero, suc, ◌+◌, ◌^◌, ◌≤◌, ◌<◌, ◌&&◌, true, List, [], ◌∷◌, sym, ap, ◌∙◌, arith, length, take, lit≤}
 use Rattle.std.specs.Prelude.{if◌then◌else◌}
 use Rattle.std.specs.List.{list_all}
 use Rattle.std.specs.Char.{digit_value}
@@ -7,9 +7,9 @@ use Rattle.std.specs.Str.Parse.{digits_value, AllDigits}
 use Rattle.std.proofs.lemmas.Int.Digits.{digits_value-lt}
 use Rattle.std.proofs.lemmas.List.{length-take-le}
 use Rattle.std.proofs.lemmas.Bool.Decides.{nat_tests}
-use Rattle.es3_tokens.specs.Characters.{is_hex}
-use Rattle.es3_tokens.specs.Texts.{closed, broken, by_digits}
 use Rattle.es3_tokens.proofs.Tests.{and_parts, le_test}
+use Rattle.es3_tokens.specs.Characters.{is_hex}
+use Rattle.es3_tokens.specs.Texts.{broken, by_digits, closed}
 
 hex_value : (c : ℕ) → is_hex c ≡ true → digit_value c < 16
 hex_value c h = grind (arith, nat_tests)

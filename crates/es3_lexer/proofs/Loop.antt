@@ -1,19 +1,16 @@
 -- The loop over a source: what was cut so far, and what is cut of the rest.
-use Rattle.std.proofs.Common.{◌≡◌, ℕ, zero, suc, ◌+◌, ◌-◌, ◌≤◌, ◌<◌, ◌||◌, Bool, true, false, List, [], ◌∷◌, ◌++◌, Option, Some, None, Ok, Err, refl, sym, ap, ◌∙◌, arith, length, take, drop, append_assoc, append-nil, drop-drop}
-use Rattle.std.specs.Prelude.{if◌then◌else◌, nat_eq}
-use Rattle.std.specs.List.{sum_by}
+use Rattle.std.proofs.Common.{◌≡◌, ℕ, ◌+◌, ◌<◌, ◌||◌, Bool, false, List, [], ◌∷◌, ◌++◌, Ok, Err, refl, sym, ap, ◌∙◌, arith, length, take, drop, append_assoc, append-nil, drop-drop}
 use Rattle.std.specs.Char.{len_utf8}
-use Rattle.std.proofs.lemmas.List.Sums.{sum_by-cons, sum_by-take-drop}
+use Rattle.std.proofs.lemmas.List.Sums.{sum_by-take-drop}
 use Rattle.std.proofs.lemmas.List.{length-drop}
 use Rattle.std.proofs.Math.Seq.{drop-length}
 use Rattle.es3_tokens.proofs.Cut.{cut_accept, cut_nil, cut_refuse, cut_skip}
-use Rattle.es3_tokens.specs.Cut.{Answer, accept, cut, cut_from, front, point, refuse, skip, width}
+use Rattle.es3_tokens.specs.Cut.{Answer, accept, cut_from, front, point, refuse, skip, width}
 use Rattle.es3_tokens.specs.Refusals.{Refusal}
 use Rattle.es3_tokens.specs.Steps.{fronts}
 use Rattle.es3_tokens.specs.Tokens.{Placed, placed, wants_operand}
 use Rattle.es3_tree.specs.Token.{Token}
 
--- the loop: what stands before, and what is cut of the rest
 fronts_none : (a : Answer) → fronts [] a ≡ a
 fronts_none (Ok us) = refl
 fronts_none (Err e) = refl

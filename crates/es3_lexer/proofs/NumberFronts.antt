@@ -1,22 +1,18 @@
 -- The laws of numbers for characters that are not split.
-use Rattle.std.proofs.Common.{◌≡◌, ℕ, zero, suc, ◌+◌, ◌-◌, ◌*◌, ◌^◌, ◌≤◌, ◌<◌, ◌&&◌, ◌||◌, ◌≢◌, not, Bool, true, false, List, [], ◌∷◌, ◌++◌, Option, Some, None, refl, sym, ap, ◌∙◌, arith, nat_eq, nat_lt, nat_le, min, length, take, drop, get_or, add-one}
+use Rattle.std.proofs.Common.{◌≡◌, ℕ, suc, ◌+◌, ◌^◌, ◌≤◌, ◌<◌, ◌&&◌, Bool, true, false, List, [], ◌∷◌, Option, Some, None, refl, sym, ap, ◌∙◌, arith, nat_eq, nat_lt, min, length, take, drop}
 use Rattle.std.proofs.Common.{to_z, w64}
 use Rattle.std.proofs.lemmas.Int.{to_z_pos}
 use Rattle.caja_num.specs.Numbers.{whole}
 use Rattle.std.specs.Str.Parse.{digits_value}
 use Rattle.std.specs.Prelude.{ℤ, pos, if◌then◌else◌}
-use Rattle.std.specs.List.{list_all, list_any, prefix_len, All}
-use Rattle.std.proofs.Math.Seq.{drop-length, drop-cons, take-length}
-use Rattle.std.proofs.lemmas.List.{length-drop}
-use Rattle.std.proofs.lemmas.Grind.{common_steps}
-use Rattle.std.proofs.Math.Nat.{mul-le-mul_left}
+use Rattle.std.specs.List.{list_all, prefix_len, All}
 use Rattle.std.proofs.lemmas.Bool.Decides.{nat_tests}
 use Rattle.std.proofs.lemmas.List.Sums.{AllPass-from_list_all}
 use Rattle.es3_tokens.proofs.Longest.{passes}
 use Rattle.es3_tokens.proofs.Numbers.{longest_decimal, longest_hex, longest_no_hex, longest_zero, point_number}
 use Rattle.es3_tokens.proofs.Tests.{and_parts, eq_of, ge_test, lt_test}
 use Rattle.es3_tokens.specs.Characters.{begins, is_digit, is_hex}
-use Rattle.es3_tokens.specs.Cut.{Step, accept, front, goes, point, refusal_step, refuse}
+use Rattle.es3_tokens.specs.Cut.{Step, accept, point, refusal_step, refuse}
 use Rattle.es3_tokens.specs.Longest.{longest}
 use Rattle.es3_tokens.specs.Numbers.{is_x, number}
 use Rattle.es3_tokens.specs.Refusals.{goes_on, number_form, number_too_large}

@@ -1,5 +1,5 @@
 -- What holds of an Ok.
-use Rattle.std.proofs.Common.{ℕ, ◌≡◌, ◌<◌, Bool, List, Result, Ok, Err, IfOk, length, get_or, sym, ap, subst, ◌∙◌, drop}
+use Rattle.std.proofs.Common.{ℕ, ◌≡◌, Bool, List, Result, Ok, Err, IfOk, length, sym, subst}
 use Rattle.es3_lexer.specs.Views.{step_of}
 use Rattle.es3_tokens.proofs.Cut.{point_fits}
 use Rattle.es3_tokens.specs.Cut.{point}

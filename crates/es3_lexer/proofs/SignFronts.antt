@@ -1,16 +1,8 @@
 -- The laws of punctuators, of a point and of a slash for characters that are not split.
-use Rattle.std.proofs.Common.{◌≡◌, ℕ, zero, suc, ◌+◌, ◌-◌, ◌*◌, ◌^◌, ◌≤◌, ◌<◌, ◌&&◌, ◌||◌, ◌≢◌, not, Bool, true, false, List, [], ◌∷◌, ◌++◌, Option, Some, None, refl, sym, ap, ◌∙◌, arith, nat_eq, nat_lt, nat_le, min, length, take, drop, get_or, add-one}
+use Rattle.std.proofs.Common.{◌≡◌, ℕ, zero, suc, ◌-◌, ◌<◌, Bool, true, false, List, [], ◌∷◌, Option, None, refl, sym, ap, ◌∙◌, arith, nat_eq, length, take, drop, get_or}
 use Rattle.std.specs.Prelude.{if◌then◌else◌}
-use Rattle.std.specs.List.{list_all, list_any, prefix_len, All}
-use Rattle.std.proofs.Math.Seq.{drop-length, drop-cons, take-length}
-use Rattle.std.proofs.lemmas.List.{length-drop}
-use Rattle.std.proofs.lemmas.Grind.{common_steps}
-use Rattle.std.proofs.Math.Nat.{mul-le-mul_left}
-use Rattle.std.proofs.lemmas.Bool.Decides.{nat_tests}
-use Rattle.std.proofs.lemmas.List.Sums.{AllPass-from_list_all}
 use Rattle.es3_tokens.proofs.Classes.{Plain, Sign, Solid}
-use Rattle.es3_tokens.proofs.Punctuators.{point_dot, point_sign}
-use Rattle.es3_tokens.proofs.Slashes.{point_slash}
+use Rattle.es3_tokens.proofs.Punctuators.{point_dot, point_sign, point_slash}
 use Rattle.es3_tokens.proofs.Tests.{eq_of}
 use Rattle.es3_tokens.specs.Characters.{begins, is_digit, is_slash, is_star}
 use Rattle.es3_tokens.specs.Cut.{point, refuse}

@@ -1,12 +1,11 @@
 -- Spellings, and what stands beside them in a table.
-use Rattle.std.proofs.Common.{◌≡◌, ◌≢◌, ℕ, ◌+◌, ◌<◌, ◌&&◌, Bool, true, false, cond, List, [], ◌∷◌, Option, Some, None, refl, sym, ap, ◌∙◌, arith, nat_eq, length, get_or, drop, map, add-one}
+use Rattle.std.proofs.Common.{◌≡◌, ◌≢◌, ℕ, ◌+◌, ◌&&◌, Bool, true, false, cond, List, [], ◌∷◌, Option, Some, None, refl, ap, ◌∙◌, arith, nat_eq, length, map}
 use Rattle.std.specs.Borrow.{Bor}
 use Rattle.std.specs.Prelude.{if◌then◌else◌}
 use Rattle.std.specs.List.{position_from}
-use Rattle.std.proofs.Math.Seq.{drop-length, drop-cons}
 use Rattle.caja_units.specs.Units.{same_units}
-use Rattle.es3_lexer.specs.Numbers.{found_in}
-use Rattle.es3_tokens.proofs.Tests.{and_parts, and_false, eq_of}
+use Rattle.es3_lexer.specs.Tables.{found_in}
+use Rattle.es3_tokens.proofs.Tests.{and_false, and_parts, eq_of}
 
 pub same_longer : (s t : List ℕ) → length s ≢ length t → same_units s t ≡ false
 same_longer [] [] h = absurd (h refl)

@@ -1,10 +1,10 @@
 -- The loop over a text in quotes: what was read so far, and what is read of the rest.
-use Rattle.std.proofs.Common.{◌≡◌, ℕ, zero, suc, ◌+◌, ◌-◌, ◌*◌, ◌≤◌, ◌<◌, ◌&&◌, ◌||◌, ◌≢◌, not, Bool, true, false, List, [], ◌∷◌, ◌++◌, Option, Some, None, refl, sym, ap, ◌∙◌, arith, nat_eq, length, take, drop, append_assoc, append-nil, drop-drop, get_or, add-one}
+use Rattle.std.proofs.Common.{◌≡◌, ℕ, suc, ◌+◌, ◌≤◌, ◌<◌, ◌≢◌, true, false, List, [], ◌∷◌, ◌++◌, sym, ap, ◌∙◌, arith, nat_eq, length, drop, append-nil, drop-drop, get_or, add-one}
 use Rattle.std.specs.Prelude.{if◌then◌else◌}
 use Rattle.std.specs.Char.Escape.{encode_utf16}
 use Rattle.std.proofs.Math.Seq.{drop-cons}
 use Rattle.std.proofs.lemmas.Bool.Decides.{nat_tests}
-use Rattle.std.proofs.lemmas.List.{length-take-le, drop_all}
+use Rattle.std.proofs.lemmas.List.{drop_all}
 use Rattle.es3_tokens.proofs.Tests.{ne_test}
 use Rattle.es3_tokens.proofs.Texts.{after_after, at_char, body_cons, body_nil, body_pass}
 use Rattle.es3_tokens.specs.Characters.{is_line}

@@ -1,12 +1,12 @@
 -- What the program's tokens and steps are in the definition.
-use Rattle.std.specs.Prelude.{ℕ, ◌≤◌, [], ◌∷◌}
+use Rattle.std.specs.Prelude.{◌≤◌, [], ◌∷◌}
 use Rattle.std.specs.Char.Escape.{encode_utf16}
 use Rattle.es3_tree.specs.Token as t
 use Rattle.es3_tokens.specs.Tokens.{Placed, placed}
 use Rattle.es3_tokens.specs.Texts.{Reading, closed, unclosed, broken}
 use Rattle.es3_tokens.specs.Refusals as r
 use Rattle.es3_tokens.specs.Cut as c
-use Rattle.es3_lexer.specs.Numbers.{word_number, punct_number}
+use Rattle.es3_lexer.specs.Tables.{word_number, punct_number}
 use Rattle.es3_lexer.specs.declared.token.Kind.{Kind}
 use Rattle.es3_lexer.specs.declared.token.Kind.TheVariants as kinds
 use Rattle.es3_lexer.specs.declared.token.Token.{Token}

@@ -3,7 +3,7 @@
 ghost use Rattle.std.specs.Prelude.{◌≡◌, ◌∷◌, [], codes};
 ghost use Rattle.es3_tree.specs.Token.{puncts};
 ghost use Rattle.es3_tokens.specs.Tokens.{place_in, entry, is_one_of};
-ghost use Rattle.es3_lexer.specs.Numbers.{punct_number, punct_numbers};
+ghost use Rattle.es3_lexer.specs.Tables.{punct_number, punct_numbers};
 
 use crate::spelling::find_in;
 

@@ -2,7 +2,7 @@
 
 ghost use Rattle.std.specs.Prelude.{◌≡◌};
 ghost use Rattle.caja_units.specs.Units.{same_units};
-ghost use Rattle.es3_lexer.specs.Numbers.{found_in};
+ghost use Rattle.es3_lexer.specs.Tables.{found_in};
 
 /// Whether the characters are those of the entry, which is of ASCII.
 fn spells(s: &[char], entry: &[u8]) -> bool
@@ -20,7 +20,7 @@ fn spells(s: &[char], entry: &[u8]) -> bool
 }
 
 /// What stands in the table beside the spelling that these characters are, if it has them.
-#[tactic(auto, unfolding(crate::specs::Numbers::found_in))]
+#[tactic(auto, unfolding(crate::specs::Tables::found_in))]
 pub fn find_in<T: Copy>(table: &[(&str, T)], s: &[char]) -> Option<T>
     ensures { result ≡ found_in table.now s.now }
 {

@@ -14,7 +14,9 @@ use caja_units::{Memory, Units};
 pub enum Kind {
     /// A name, which is no reserved word: its letters, as 16-bit units.
     Name(Units),
+    /// A keyword, or another reserved word.
     Word(Word),
+    /// A punctuator.
     Punct(Punct),
     /// A number, from 0 to 2^53 - 1.
     Num(Whole),

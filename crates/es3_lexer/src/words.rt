@@ -3,7 +3,7 @@
 ghost use Rattle.std.specs.Prelude.{◌≡◌, ◌∷◌, [], codes};
 ghost use Rattle.es3_tree.specs.Token.{words};
 ghost use Rattle.es3_tokens.specs.Tokens.{place_in, entry, is_one_of};
-ghost use Rattle.es3_lexer.specs.Numbers.{word_number, word_numbers};
+ghost use Rattle.es3_lexer.specs.Tables.{word_number, word_numbers};
 
 use crate::spelling::find_in;
 

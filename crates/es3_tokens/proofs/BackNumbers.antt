@@ -1,7 +1,7 @@
 -- Reading back numbers: decimal digits before no point and no part of a name are the number.
-use Rattle.std.proofs.Common.{◌≡◌, ℕ, zero, suc, ◌+◌, ◌^◌, ◌≤◌, ◌<◌, ◌&&◌, ◌||◌, Bool, true, false, List, [], ◌∷◌, ◌++◌, Some, None, refl, sym, ap, ◌∙◌, arith, nat_eq, nat_lt, length, take, drop, get_or, lit<}
+use Rattle.std.proofs.Common.{◌≡◌, ℕ, zero, suc, ◌^◌, ◌<◌, ◌&&◌, ◌||◌, Bool, true, false, List, [], ◌∷◌, ◌++◌, Some, None, refl, sym, ap, ◌∙◌, arith, nat_eq, nat_lt, length, take, drop, get_or, lit<}
 use Rattle.std.specs.Prelude.{pos, if◌then◌else◌}
-use Rattle.std.specs.List.{list_all, prefix_len}
+use Rattle.std.specs.List.{list_all}
 use Rattle.std.specs.Char.{digit_value}
 use Rattle.std.specs.Fmt.{decimal}
 use Rattle.std.specs.Str.Parse.{digits_value, AllDigits}
@@ -16,7 +16,7 @@ use Rattle.es3_tokens.specs.Cut.{accept, point, refusal_step}
 use Rattle.es3_tokens.specs.Steps.{number_step}
 use Rattle.es3_tokens.proofs.BackNames.{drop_seam, prefix_seam}
 use Rattle.es3_tokens.proofs.Numbers.{point_number, longest_decimal, longest_zero}
-use Rattle.es3_tokens.proofs.Tests.{and_parts, lt_test, ne_test}
+use Rattle.es3_tokens.proofs.Tests.{lt_test, ne_test}
 
 no_digit_first : (r : List ℕ) → begins goes_on r ≡ false → begins is_digit r ≡ false
 no_digit_first [] h = refl
@@ -42,7 +42,7 @@ back_digits o c w r h z a e lt =
     let k = prefix_seam is_digit w r a (no_digit_first r e) in
     point_number o c (w ++ r) h
     ∙ ap (λ x. number_step x ((c ∷ w) ++ r))
-        (longest_decimal c (w ++ r) h z ∙ ap (λ (n : ℕ). Some (digits_value 10 (c ∷ take n (w ++ r)), suc n)) k ∙ ap (λ (v : List ℕ). Some (digits_value 10 (c ∷ v), suc (length w))) (take-append_seam w r))
+    (longest_decimal c (w ++ r) h z ∙ ap (λ (n : ℕ). Some (digits_value 10 (c ∷ take n (w ++ r)), suc n)) k ∙ ap (λ (v : List ℕ). Some (digits_value 10 (c ∷ v), suc (length w))) (take-append_seam w r))
     ∙ number_of ((c ∷ w) ++ r) r (digits_value 10 (c ∷ w)) (suc (length w)) (drop_seam w r) e lt
 
 back_zero : (o : Bool) (r : List ℕ) → begins goes_on r ≡ false → point o (48 ∷ r) ≡ accept (num (pos 0)) 1

@@ -1,22 +1,22 @@
 -- Reading back texts: a literal in double quotes is its units, whatever stands behind it.
-use Rattle.std.proofs.Common.{◌≡◌, ℕ, suc, ◌+◌, ◌*◌, ◌/◌, ◌%◌, ◌≤◌, ◌<◌, ◌&&◌, ◌||◌, not, Bool, true, false, List, [], ◌∷◌, ◌++◌, refl, sym, ap, ◌∙◌, arith, nat_eq, nat_lt, nat_le, length, take, drop, append_assoc, append-nil}
+use Rattle.std.proofs.Common.{◌≡◌, ℕ, suc, ◌+◌, ◌*◌, ◌/◌, ◌%◌, ◌<◌, Bool, true, false, List, [], ◌∷◌, ◌++◌, refl, sym, ap, ◌∙◌, arith, nat_eq, nat_lt, nat_le, length, append_assoc, append-nil}
 use Rattle.std.specs.Prelude.{if◌then◌else◌}
-use Rattle.std.specs.List.{list_all, flat_map, All}
+use Rattle.std.specs.List.{flat_map, All}
 use Rattle.std.specs.Char.{digit_value}
 use Rattle.std.specs.Char.Escape.{encode_utf16}
-use Rattle.std.specs.Str.Parse.{digits_value, digits_value_after}
+use Rattle.std.specs.Str.Parse.{digits_value}
 use Rattle.std.proofs.lemmas.List.{length-append}
 use Rattle.std.proofs.lemmas.List.Elements.{All-head, All-tail}
 use Rattle.std.proofs.lemmas.Bool.Decides.{nat_tests}
 use Rattle.caja_units.specs.Literal.{hex_char, is_plain, unit_text, literal}
 use Rattle.es3_tree.specs.Token.{text}
 use Rattle.es3_tokens.specs.Characters.{is_hex, is_line}
-use Rattle.es3_tokens.specs.Texts.{closed, broken, body, after, escape, escaped, by_digits}
+use Rattle.es3_tokens.specs.Texts.{closed, body, after, escape, escaped, by_digits}
 use Rattle.es3_tokens.specs.Cut.{accept, point}
 use Rattle.es3_tokens.specs.Steps.{text_step}
 use Rattle.es3_tokens.proofs.BackNames.{drop_seam}
 use Rattle.es3_tokens.proofs.Texts.{point_text, at_char, body_cons, body_pass, after_after}
-use Rattle.es3_tokens.proofs.Tests.{eq_of, ne_test, le_test}
+use Rattle.es3_tokens.proofs.Tests.{eq_of, le_test}
 
 hex_char_value : (d : ℕ) → d < 16 → digit_value (hex_char d) ≡ d
 hex_char_value d lt = grind (arith, nat_tests)
@@ -100,7 +100,7 @@ back_units (u ∷ us) r h =
     ∙ back_unit u ((flat_map unit_text us ++ 34 ∷ []) ++ r) (All-head (λ u. u < 65536) u us h)
     ∙ ap (after (u ∷ []) (length (unit_text u))) (back_units us r (All-tail (λ u. u < 65536) u us h))
     ∙ (let e : length (unit_text u) + length (flat_map unit_text us ++ 34 ∷ []) ≡ length ((unit_text u ++ flat_map unit_text us) ++ 34 ∷ [])
-        = sym (length-append (unit_text u) (flat_map unit_text us ++ 34 ∷ [])) ∙ ap length (sym (append_assoc (unit_text u) (flat_map unit_text us) (34 ∷ []))) in ap (λ n. closed (u ∷ us) n) e)
+    = sym (length-append (unit_text u) (flat_map unit_text us ++ 34 ∷ [])) ∙ ap length (sym (append_assoc (unit_text u) (flat_map unit_text us) (34 ∷ []))) in ap (λ n. closed (u ∷ us) n) e)
 
 pub back_text : (o : Bool) (us r : List ℕ) → All (λ u. u < 65536) us → point o (literal us ++ r) ≡ accept (text us) (length (literal us))
 back_text o us r h = point_text o 34 ((flat_map unit_text us ++ 34 ∷ []) ++ r) refl ∙ ap text_step (back_units us r h)

@@ -1,22 +1,22 @@
 -- Reading back tokens, one after another.
-use Rattle.std.proofs.Common.{◌≡◌, ℕ, zero, suc, ◌+◌, ◌<◌, ◌&&◌, not, Bool, true, false, List, [], ◌∷◌, ◌++◌, Option, Some, None, Ok, Err, refl, sym, ap, ◌∙◌, arith, subst, nat_eq, ◌||◌, length, take, drop, map}
+use Rattle.std.proofs.Common.{◌≡◌, ℕ, zero, suc, ◌+◌, ◌<◌, ◌&&◌, Bool, true, false, List, [], ◌∷◌, ◌++◌, Option, Some, None, Ok, Err, refl, sym, ap, ◌∙◌, arith, subst, nat_eq, ◌||◌, length, drop, map}
 use Rattle.std.specs.Prelude.{ℤ, if◌then◌else◌}
 use Rattle.std.proofs.Math.Seq.{take-append_seam}
 use Rattle.caja_units.specs.Number.{number_text}
-use Rattle.es3_tree.specs.Token.{Token, name, word, punct, num, text, words, puncts}
-use Rattle.es3_tokens.specs.Characters.{is_part, begins}
-use Rattle.es3_tokens.specs.Refusals.{goes_on}
-use Rattle.es3_tokens.specs.Tokens.{Placed, placed, is_name, name_or_word, place_in, entry, wants_operand}
-use Rattle.es3_tokens.specs.Cut.{Answer, Step, accept, skip, point, cut_from, front, width}
-use Rattle.es3_tokens.specs.Steps.{Fits}
-use Rattle.es3_tokens.specs.Back.{begins_sign, spelling, IsToken, stays, spelled, spaced, AllStay, tokens_in, is_apart, is_sign}
 use Rattle.es3_tokens.proofs.BackNames.{back_name, drop_seam}
 use Rattle.es3_tokens.proofs.BackNumbers.{back_number}
-use Rattle.es3_tokens.proofs.BackTexts.{back_text}
 use Rattle.es3_tokens.proofs.BackPunctuators.{back_sign}
-use Rattle.es3_tokens.proofs.Cut.{cut_accept, cut_skip, cut_nil, point_fits}
+use Rattle.es3_tokens.proofs.BackTexts.{back_text}
+use Rattle.es3_tokens.proofs.Cut.{cut_accept, cut_nil, cut_skip, point_fits}
 use Rattle.es3_tokens.proofs.Gaps.{point_white}
-use Rattle.es3_tokens.proofs.Tests.{and_parts, false_of, eq_of}
+use Rattle.es3_tokens.proofs.Tests.{and_parts, eq_of, false_of}
+use Rattle.es3_tokens.specs.Back.{AllStay, IsToken, is_apart, spaced, spelled, spelling, stays, tokens_in}
+use Rattle.es3_tokens.specs.Characters.{begins, is_part}
+use Rattle.es3_tokens.specs.Cut.{Answer, Step, accept, cut_from, front, point, width}
+use Rattle.es3_tokens.specs.Refusals.{goes_on}
+use Rattle.es3_tokens.specs.Steps.{Fits, begins_sign, is_sign}
+use Rattle.es3_tokens.specs.Tokens.{Placed, entry, is_name, name_or_word, place_in, placed, wants_operand}
+use Rattle.es3_tree.specs.Token.{Token, name, num, punct, puncts, text, word, words}
 
 -- a test that each entry of a table passes
 abbrev each : (ℕ → List ℕ → Bool) → ℕ → List (List ℕ) → Bool

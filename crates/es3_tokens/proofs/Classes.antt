@@ -1,13 +1,10 @@
 -- What a character of one class is not.
-use Rattle.std.proofs.Common.{◌≡◌, ℕ, ◌+◌, ◌<◌, ◌&&◌, ◌||◌, not, Bool, true, false, List, [], ◌∷◌, None, refl, subst, inl, inr, arith, nat_eq, cond, ap}
+use Rattle.std.proofs.Common.{◌≡◌, ℕ, ◌+◌, ◌&&◌, not, Bool, true, false, List, [], ◌∷◌, None, refl, subst, inl, inr, arith, nat_eq}
 use Rattle.std.specs.List.{position_from}
 use Rattle.std.proofs.lemmas.Bool.Decides.{eqb_tells, nat_tests}
 use Rattle.caja_units.specs.Units.{same_units}
-use Rattle.es3_tokens.proofs.Longest.{passes}
 use Rattle.es3_tokens.proofs.Tests.{and_parts, false_of}
-use Rattle.es3_tokens.specs.Characters.{begins, is_digit, is_letter, is_line, is_quote, is_slash, is_white}
-use Rattle.es3_tokens.specs.Gaps.{gap}
-use Rattle.es3_tokens.specs.Tokens.{entry}
+use Rattle.es3_tokens.specs.Characters.{is_digit, is_letter, is_line, is_quote, is_slash, is_white}
 
 -- what begins no gap
 pub record Solid (c : ℕ) : Type 0 where

@@ -1,17 +1,15 @@
 -- Comments (ES3 7.4).
-use Rattle.std.proofs.Common.{◌≡◌, ℕ, zero, suc, ◌+◌, ◌-◌, ◌≤◌, ◌<◌, ◌&&◌, ◌||◌, not, Bool, true, false, List, [], ◌∷◌, Option, Some, None, refl, sym, ap, ◌∙◌, arith, nat_eq, length, take, drop}
+use Rattle.std.proofs.Common.{◌≡◌, ℕ, zero, suc, ◌≤◌, ◌<◌, ◌&&◌, ◌||◌, not, Bool, true, false, List, [], ◌∷◌, Option, Some, None, refl, sym, ap, ◌∙◌, arith, nat_eq, length, take}
 use Rattle.std.specs.Prelude.{if◌then◌else◌}
 use Rattle.std.specs.List.{list_all, list_any, prefix_len}
-use Rattle.std.proofs.lemmas.Bool.Decides.{nat_tests}
 use Rattle.std.proofs.lemmas.List.{length-take-le}
 use Rattle.es3_tokens.proofs.Longest.{begins_take, longest_is, longest_none, passes, prefix_within, stops}
 use Rattle.es3_tokens.proofs.Tests.{and_false, and_parts, eq_test, ne_test}
 use Rattle.es3_tokens.specs.Characters.{begins, is_line, is_slash}
-use Rattle.es3_tokens.specs.Cut.{front, gap_step, point, refusal_step, refuse, skip, token_step}
+use Rattle.es3_tokens.specs.Cut.{gap_step, point, refusal_step, refuse, skip, token_step}
 use Rattle.es3_tokens.specs.Gaps.{comment_end, gap, is_count, not_line, one_more}
 use Rattle.es3_tokens.specs.Longest.{longest}
 use Rattle.es3_tokens.specs.Refusals.{open_comment, refusal_at}
-use Rattle.es3_tokens.specs.Texts.{closed}
 use Rattle.es3_tokens.specs.Tokens.{whole_token}
 
 no_line : (w : List ℕ) → list_all not_line w ≡ true → list_any is_line w ≡ false
@@ -70,7 +68,7 @@ end_within (c ∷ s) k e = by_test c s k (nat_eq c 42 && begins is_slash s) refl
         (omega arith, omega (arith, l))
     by_test c s k false h e f = by_rest s k (comment_end s) refl (ap (λ b. if b then Some 2 else one_more (comment_end s)) (sym h) ∙ e) f
 
--- the test at the front of a part is the one at the front of the closed
+-- the test at the front of a part is the one at the front of the whole
 abbrev test : ℕ → List ℕ → Bool
 test c s = nat_eq c 42 && begins is_slash s
 
@@ -138,4 +136,3 @@ unfolding point
 point_open o r e =
     ap (λ g. gap_step g (refusal_step (refusal_at o (47 ∷ 42 ∷ r)) (token_step (longest whole_token (length (47 ∷ 42 ∷ r)) (47 ∷ 42 ∷ r)))))
     (longest_none gap 47 (42 ∷ r) (length (47 ∷ 42 ∷ r)) (λ j lt. block_none r j e))
-

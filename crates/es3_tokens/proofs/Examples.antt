@@ -1,5 +1,5 @@
 -- Sources and what they are cut into.
-use Rattle.std.proofs.Common.{◌≡◌, ℕ, List, [], ◌∷◌, Ok, Err, true, false, refl}
+use Rattle.std.proofs.Common.{◌≡◌, [], ◌∷◌, Ok, Err, true, false, refl}
 use Rattle.std.specs.Prelude.{codes, pos}
 use Rattle.es3_tree.specs.Token.{name, word, punct, num, text}
 use Rattle.es3_tokens.specs.Longest.{longest}

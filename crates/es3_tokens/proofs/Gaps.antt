@@ -1,7 +1,6 @@
--- White space and line terminators, and points where there is no gap.
-use Rattle.std.proofs.Common.{◌≡◌, ℕ, zero, suc, ◌+◌, ◌-◌, ◌≤◌, ◌<◌, ◌&&◌, ◌||◌, not, Bool, true, false, List, [], ◌∷◌, Option, Some, None, refl, sym, ap, ◌∙◌, arith, nat_eq, length, take, drop}
+-- Gaps (ES3 7.2, 7.3): white space and line terminators, and points where there is no gap.
+use Rattle.std.proofs.Common.{◌≡◌, ℕ, Bool, true, false, List, ◌∷◌, Some, None, refl, ap, arith, length, take}
 use Rattle.std.specs.Prelude.{if◌then◌else◌}
-use Rattle.std.specs.List.{list_all, list_any, prefix_len}
 use Rattle.es3_tokens.proofs.Classes.{Plain, Solid, no_digit_no_zero}
 use Rattle.es3_tokens.proofs.Longest.{longest_is, longest_none, taken_some}
 use Rattle.es3_tokens.specs.Characters.{is_digit, is_empty, is_line, is_white}
@@ -44,4 +43,3 @@ point_line o c s n h = ap (λ g. gap_step g (refusal_step (refusal_at o (c ∷ s
 -- a backslash
 pub point_backslash : (o : Bool) (s : List ℕ) → point o (92 ∷ s) ≡ refuse escape_in_name
 point_backslash o s = at_solid o 92 s (record { white = refl; line = refl; slash = refl })
-

@@ -13,7 +13,6 @@ pub mod Longest
 pub mod Names
 pub mod Numbers
 pub mod Punctuators
-pub mod Slashes
 pub mod Sources
 pub mod Tests
 pub mod Texts

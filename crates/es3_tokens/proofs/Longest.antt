@@ -1,13 +1,11 @@
 -- The longest front.
-use Rattle.std.proofs.Common.{◌≡◌, ℕ, zero, suc, ◌+◌, ◌-◌, ◌≤◌, ◌<◌, ◌⊎◌, ◌&&◌, ◌||◌, not, Bool, true, false, cond, List, [], ◌∷◌, ◌++◌, Option, Some, None, IsTrue, refl, sym, ap, subst, inl, inr, ◌∙◌, arith, length, take, drop}
+use Rattle.std.proofs.Common.{◌≡◌, ℕ, zero, suc, ◌+◌, ◌≤◌, ◌<◌, Bool, true, false, cond, List, [], ◌∷◌, Option, Some, None, refl, sym, ap, subst, inl, inr, ◌∙◌, arith, length, take}
 use Rattle.std.specs.Prelude.{if◌then◌else◌}
 use Rattle.std.specs.List.{prefix_len, list_all}
 use Rattle.std.proofs.lemmas.List.Sums.{prefix_len-le-length}
-use Rattle.std.proofs.lemmas.Bool.Decides.{eqb_tells, nat_tests}
-use Rattle.caja_units.specs.Units.{same_units}
+use Rattle.std.proofs.lemmas.Bool.Decides.{eqb_tells}
 use Rattle.es3_tokens.proofs.Tests.{and_false}
 use Rattle.es3_tokens.specs.Characters.{begins, is_empty}
-use Rattle.es3_tokens.specs.Cut.{front}
 use Rattle.es3_tokens.specs.Longest.{longest, or_shorter}
 use Rattle.es3_tokens.specs.Tokens.{or_else}
 
@@ -27,7 +25,7 @@ longest_is f c s n (suc m) a lt e more =
       | inr p ↦ ap (λ o. or_shorter o (suc m) (longest f m (c ∷ s))) (more m (omega arith) (omega arith)) ∙ longest_is f c s n m a (omega arith) e (λ j l k. more j l (omega arith))
     ]
 
--- what is the same_units on all that begins with c has the same_units longest front there
+-- what is the same on all that begins with c has the same longest front there
 pub longest_same : {A : Type 0} (f g : List ℕ → Option A) (c : ℕ) (s : List ℕ) (m : ℕ) → ((w : List ℕ) → f (c ∷ w) ≡ g (c ∷ w)) → longest f m (c ∷ s) ≡ longest g m (c ∷ s)
 unfolding longest
 longest_same f g c s zero h = refl

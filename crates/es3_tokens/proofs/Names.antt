@@ -1,15 +1,14 @@
 -- Names and words (ES3 7.5, 7.6): where a letter stands, all that goes on is one name or word.
-use Rattle.std.proofs.Common.{◌≡◌, ℕ, zero, suc, ◌+◌, ◌-◌, ◌≤◌, ◌<◌, ◌&&◌, ◌||◌, not, Bool, true, false, List, [], ◌∷◌, Option, Some, None, refl, sym, ap, ◌∙◌, arith, nat_eq, length, take, drop}
-use Rattle.std.specs.Prelude.{if◌then◌else◌}
-use Rattle.std.specs.List.{list_all, list_any, prefix_len}
+use Rattle.std.proofs.Common.{◌≡◌, ℕ, suc, Bool, true, false, List, ◌∷◌, refl, ap, ◌∙◌, length, take}
+use Rattle.std.specs.List.{list_all, prefix_len}
 use Rattle.es3_tokens.proofs.Classes.{letter_no_digit, letter_no_zero, letter_plain, letter_solid, no_place}
 use Rattle.es3_tokens.proofs.Gaps.{at_solid, no_refusal}
 use Rattle.es3_tokens.proofs.Longest.{longest_while, where_all}
 use Rattle.es3_tokens.specs.Characters.{is_letter, is_part}
-use Rattle.es3_tokens.specs.Cut.{accept, goes, point, refusal_step, token_step}
+use Rattle.es3_tokens.specs.Cut.{accept, point, refusal_step, token_step}
 use Rattle.es3_tokens.specs.Longest.{longest}
 use Rattle.es3_tokens.specs.Tokens.{made, named, whole_token}
-use Rattle.es3_tree.specs.Token.{name, punct, puncts, words}
+use Rattle.es3_tree.specs.Token.{punct, puncts}
 
 name_token : (c : ℕ) (w : List ℕ) → is_letter c ≡ true → whole_token (c ∷ w) ≡ where_all is_part (λ w. named (c ∷ w)) w
 name_token c w h = by_all c w h (list_all is_part w) refl

@@ -1,9 +1,8 @@
 -- Numbers (ES3 7.8.3): where a digit stands, the longest number is the token, unless a refusal stands there.
-use Rattle.std.proofs.Common.{◌≡◌, ℕ, zero, suc, ◌+◌, ◌-◌, ◌*◌, ◌≤◌, ◌<◌, ◌&&◌, ◌||◌, not, Bool, true, false, List, [], ◌∷◌, pos, Option, Some, None, refl, sym, ap, ◌∙◌, arith, nat_eq, nat_lt, nat_le, min, length, take, drop}
+use Rattle.std.proofs.Common.{◌≡◌, ℕ, zero, suc, ◌≤◌, ◌<◌, ◌&&◌, not, Bool, true, false, List, [], ◌∷◌, pos, Option, Some, None, refl, sym, ap, ◌∙◌, arith, nat_eq, length, take}
 use Rattle.std.specs.Prelude.{if◌then◌else◌}
 use Rattle.std.specs.Str.Parse.{digits_value}
 use Rattle.std.specs.List.{list_all, prefix_len}
-use Rattle.std.proofs.lemmas.Bool.Decides.{nat_tests}
 use Rattle.es3_tokens.proofs.Classes.{digit_no_letter, digit_plain, digit_solid, no_place}
 use Rattle.es3_tokens.proofs.Gaps.{at_solid}
 use Rattle.es3_tokens.proofs.Longest.{longest_is, longest_same, longest_while, or_else_none, passes, prefix_within, stops, taken_some, where_all}

@@ -1,11 +1,9 @@
--- A closed source: the limit, UTF-8, and its characters.
-use Rattle.std.proofs.Common.{◌≡◌, ℕ, ◌+◌, ◌<◌, ◌≤◌, Bool, true, false, List, [], ◌∷◌, ◌++◌, Ok, Err, refl, sym, ap, ◌∙◌, arith, nat_lt, length}
+-- A whole source: the limit, UTF-8, and its characters.
+use Rattle.std.proofs.Common.{◌≡◌, ℕ, ◌+◌, ◌<◌, ◌≤◌, Bool, true, false, List, [], ◌∷◌, Err, refl, sym, ap, ◌∙◌, arith, length}
 use Rattle.std.specs.Prelude.{if◌then◌else◌}
-use Rattle.std.specs.List.{sum_by}
 use Rattle.std.specs.Char.{len_utf8}
-use Rattle.std.specs.Str.{chars, is_utf8, IsUtf8, encode_utf8_all}
+use Rattle.std.specs.Str.{chars, is_utf8, IsUtf8}
 use Rattle.std.specs.Str.Lossy.{utf8_valid_len}
-use Rattle.std.proofs.lemmas.Bool.Decides.{nat_tests}
 use Rattle.std.proofs.lemmas.List.{length-append}
 use Rattle.std.proofs.lemmas.List.Sums.{sum_by-cons}
 use Rattle.std.proofs.lemmas.Str.{length-encode, encodes-chars, is_utf8-from_IsUtf8, IsUtf8-from_is_utf8}
@@ -13,7 +11,6 @@ use Rattle.std.proofs.Math.Utf8.{encode, encodes}
 use Rattle.es3_tokens.proofs.Tests.{ge_test, lt_test}
 use Rattle.es3_tokens.specs.Cut.{cut, cut_chars, width}
 use Rattle.es3_tokens.specs.Refusals.{not_utf8, too_long}
-use Rattle.es3_tokens.specs.Texts.{closed}
 
 not_true : (b : Bool) → (b ≡ true → ⊥) → b ≡ false
 not_true true h = absurd (h refl)

@@ -1,13 +1,10 @@
 -- Texts (ES3 7.8.4): where a quote stands, what is read up to the closing one is the token, or the first fault is the refusal.
-use Rattle.std.proofs.Common.{◌≡◌, ℕ, zero, suc, ◌+◌, ◌-◌, ◌*◌, ◌≤◌, ◌<◌, ◌&&◌, ◌||◌, ◌≢◌, not, Bool, true, false, List, [], ◌∷◌, ◌++◌, Option, Some, None, refl, sym, ap, ◌∙◌, arith, nat_eq, nat_le, length, take, drop, append_assoc, append-nil, drop-drop, get_or, add-one}
+use Rattle.std.proofs.Common.{◌≡◌, ℕ, zero, suc, ◌+◌, ◌≤◌, ◌<◌, ◌&&◌, ◌||◌, ◌≢◌, Bool, true, false, List, [], ◌∷◌, ◌++◌, Some, None, refl, sym, ap, ◌∙◌, arith, nat_eq, nat_le, length, take, drop, append_assoc}
 use Rattle.std.specs.List.{list_all}
 use Rattle.std.specs.Str.Parse.{digits_value}
 use Rattle.std.specs.Prelude.{if◌then◌else◌}
 use Rattle.std.specs.Char.Escape.{encode_utf16}
-use Rattle.std.proofs.Math.Seq.{drop-cons}
-use Rattle.std.proofs.lemmas.Bool.Decides.{nat_tests}
-use Rattle.std.proofs.lemmas.List.{length-take, length-take-le, drop_all}
-use Rattle.caja_units.specs.Units.{same_units}
+use Rattle.std.proofs.lemmas.List.{length-take, length-take-le}
 use Rattle.es3_tokens.proofs.Classes.{no_digit_no_zero, no_place, quote_other, quote_solid}
 use Rattle.es3_tokens.proofs.Gaps.{at_solid}
 use Rattle.es3_tokens.proofs.Longest.{begins_take, longest_is, or_else_none}
@@ -21,7 +18,7 @@ use Rattle.es3_tokens.specs.Texts.{Reading, after, body, broken, by_digits, clos
 use Rattle.es3_tokens.specs.Tokens.{made, whole_token}
 use Rattle.es3_tree.specs.Token.{puncts, text}
 
--- what is closed in x is the same_units in y
+-- what is closed in x is the same in y
 abbrev pub Keeps : List ℕ → ℕ → Reading → Reading → Type 0
 Keeps us k x y = x ≡ closed us k → y ≡ closed us k
 
@@ -225,4 +222,3 @@ body_pass q (suc n) (c ∷ s) = body_skip q n c s ∙ ap (after [] 1) (body_pass
 pub at_char : (q c : ℕ) (t : List ℕ) (x : Reading) → c ≢ q → is_line c ≡ false → (if nat_eq c 92 then escaped (λ n. body q n t) (escape t) else after (encode_utf16 c) 1 (body q 0 t)) ≡ x → body q 0 (c ∷ t) ≡ x
 at_char q c t x h g e = body_cons q c t ∙ ap (λ b. if b then closed [] 1 else if is_line c then unclosed else if nat_eq c 92 then escaped (λ n. body q n t) (escape t) else after (encode_utf16 c) 1 (body q 0 t)) (ne_test c q h)
     ∙ ap (λ b. if b then unclosed else if nat_eq c 92 then escaped (λ n. body q n t) (escape t) else after (encode_utf16 c) 1 (body q 0 t)) g ∙ e
-

@@ -1,13 +1,14 @@
 -- How tokens are written, and when what is written is cut into the same tokens.
-use Rattle.std.specs.Prelude.{ℕ, ◌^◌, ◌<◌, ◌≡◌, ℤ, pos, List, [], ◌∷◌, ◌++◌, Bool, true, false, ◌&&◌, ◌||◌, not, nat_eq, Option, Some, None, Ok, Err, length, drop, map, if◌then◌else◌}
+use Rattle.std.specs.Prelude.{ℕ, ◌^◌, ◌<◌, ◌≡◌, pos, List, [], ◌∷◌, ◌++◌, Bool, true, false, ◌&&◌, not, nat_eq, Option, Some, None, Ok, Err, length, map}
 use Rattle.std.specs.List.{All}
 use Rattle.caja_units.specs.Literal.{literal}
 use Rattle.caja_units.specs.Number.{number_text}
 use Rattle.es3_tree.specs.Token.{Token, name, word, punct, num, text, words, puncts}
-use Rattle.es3_tokens.specs.Characters.{is_white, is_line, is_letter, is_quote, is_part, is_digit, is_slash, is_star, begins}
+use Rattle.es3_tokens.specs.Characters.{is_part, begins}
 use Rattle.es3_tokens.specs.Tokens.{is_name, place_in, entry, wants_operand}
 use Rattle.es3_tokens.specs.Refusals.{goes_on}
 use Rattle.es3_tokens.specs.Cut.{Answer}
+use Rattle.es3_tokens.specs.Steps.{is_sign}
 
 -- 7.5 to 7.8: how a token is written: a number in decimal digits, a text in double quotes
 abbrev pub spelling : Token → List ℕ
@@ -40,15 +41,6 @@ fronts_none s (p ∷ ps) = not (is_front s p) && fronts_none s ps
 abbrev pub is_apart : List ℕ → List ℕ → Bool
 is_apart w [] = true
 is_apart w (d ∷ r) = fronts_none (w ++ d ∷ []) puncts
-
--- 7.7: what begins a punctuator or nothing: no gap, but for a comment, no name, no number and no text
-abbrev pub begins_sign : ℕ → Bool
-begins_sign c = not (is_white c) && not (is_line c) && not (nat_eq c 92) && not (is_quote c) && not (is_letter c) && not (is_digit c)
-
--- 7.4, 7.8.3, 7.8.5: whether no number, no comment and no regular expression begins with these characters; o: an operand is wanted
-abbrev pub is_sign : Bool → List ℕ → Bool
-is_sign o [] = true
-is_sign o (c ∷ s) = not (nat_eq c 46 && begins is_digit s) && not (is_slash c && (o || begins is_slash s || begins is_star s))
 
 -- whether a token is read back as it is before the characters r; o: an operand is wanted where it stands
 abbrev pub stays : Bool → Token → List ℕ → Bool

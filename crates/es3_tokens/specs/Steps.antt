@@ -1,7 +1,7 @@
 -- Words for the laws of `point`. `cut` itself knows nothing of them.
-use Rattle.std.specs.Prelude.{ℕ, suc, ◌+◌, ◌^◌, ◌≡◌, ◌<◌, ◌≤◌, ◌++◌, Ok, Err, List, [], ◌∷◌, Bool, ◌&&◌, false, Option, Some, None, length, min, pos}
+use Rattle.std.specs.Prelude.{ℕ, suc, ◌+◌, ◌^◌, ◌≡◌, ◌<◌, ◌≤◌, ◌++◌, Ok, Err, List, [], ◌∷◌, Bool, true, false, ◌&&◌, ◌||◌, not, nat_eq, Option, Some, None, length, min, pos}
 use Rattle.es3_tree.specs.Token.{Token, punct, text, num, puncts}
-use Rattle.es3_tokens.specs.Characters.{begins, is_slash, is_star}
+use Rattle.es3_tokens.specs.Characters.{is_white, is_line, is_letter, is_digit, is_quote, is_slash, is_star, begins}
 use Rattle.es3_tokens.specs.Tokens.{Placed, made, place_in}
 use Rattle.es3_tokens.specs.Longest.{longest}
 use Rattle.es3_tokens.specs.Refusals.{open_string, bad_escape, number_fault}
@@ -14,6 +14,15 @@ sign w = made punct (place_in puncts w)
 -- the step at a character that begins a punctuator or nothing: no punctuator has more than four characters
 abbrev pub sign_step : List ℕ → Step
 sign_step s = token_step (longest sign (min 4 (length s)) s)
+
+-- 7.7: what begins a punctuator or nothing: no gap, but for a comment, no name, no number and no text
+abbrev pub begins_sign : ℕ → Bool
+begins_sign c = not (is_white c) && not (is_line c) && not (nat_eq c 92) && not (is_quote c) && not (is_letter c) && not (is_digit c)
+
+-- 7.4, 7.8.3, 7.8.5: whether no number, no comment and no regular expression begins with these characters; o: an operand is wanted
+abbrev pub is_sign : Bool → List ℕ → Bool
+is_sign o [] = true
+is_sign o (c ∷ s) = not (nat_eq c 46 && begins is_digit s) && not (is_slash c && (o || begins is_slash s || begins is_star s))
 
 abbrev pub text_step : Reading → Step
 text_step (closed us n) = accept (text us) (suc n)

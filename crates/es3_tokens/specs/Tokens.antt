@@ -1,5 +1,5 @@
 -- What a whole text is as a token (ES3 7.5 to 7.8), and tokens at their places.
-use Rattle.std.specs.Prelude.{ℕ, pos, List, [], ◌∷◌, Bool, true, false, ◌&&◌, not, nat_eq, Option, Some, None, codes, slice_get, unwrap_or, if◌then◌else◌}
+use Rattle.std.specs.Prelude.{ℕ, pos, List, [], ◌∷◌, Bool, false, ◌&&◌, not, Option, Some, None, codes, slice_get, unwrap_or, if◌then◌else◌}
 use Rattle.std.specs.List.{list_all, list_any, position_from}
 use Rattle.caja_units.specs.Units.{same_units}
 use Rattle.es3_tree.specs.Token.{Token, name, word, punct, num, text, words, puncts}

@@ -16,8 +16,8 @@ ghost use Rattle.es3_tokens.specs.Texts.{body};
 ghost use Rattle.es3_tokens.specs.Gaps.{comment_end, not_line};
 ghost use Rattle.es3_tokens.specs.Refusals.{open_comment, escape_in_name};
 ghost use Rattle.es3_tokens.specs.Cut.{point, skip, accept, refuse, cut, cut_from};
-ghost use Rattle.es3_tokens.specs.Steps.{number_step, text_step, sign_step};
-ghost use Rattle.es3_tokens.specs.Back.{spelling, IsToken, stays, spelled, AllStay, tokens_in, begins_sign, is_sign};
+ghost use Rattle.es3_tokens.specs.Steps.{number_step, text_step, sign_step, begins_sign, is_sign};
+ghost use Rattle.es3_tokens.specs.Back.{spelling, IsToken, stays, spelled, AllStay, tokens_in};
 
 /// Gaps (ES3 7.2, 7.3): white space and line terminators are skipped, one at a time, and a line terminator is told.
 #[tactic(auto, using(crate::proofs::Gaps::point_white, crate::proofs::Gaps::point_line))]
@@ -55,7 +55,7 @@ pub fn texts_are_closed()
 
 /// Punctuators (ES3 7.7): where no other token, no gap and no refusal begins, the longest punctuator is the token, and where there is
 /// none the character is refused.
-#[tactic(auto, using(crate::proofs::BackPunctuators::at_sign))]
+#[tactic(auto, using(crate::proofs::Punctuators::point_punctuator))]
 pub fn punctuators_are_longest()
     ensures { (o : Bool) (c : ℕ) (s : List ℕ) → begins_sign c ≡ true → is_sign o (c ∷ s) ≡ true → point o (c ∷ s) ≡ sign_step (c ∷ s) }
 {}

@@ -1,8 +1,7 @@
-use Rattle.std.proofs.Common.{ℕ, ◌≡◌, ◌+◌, ◌<◌, ◌≤◌, ◌||◌, Bool, true, false, List, [], ◌∷◌, ◌++◌, length, take, drop, map, sym, ap, subst, ◌∙◌, arith, refl, Ok, Err, rules}
+use Rattle.std.proofs.Common.{ℕ, ◌≡◌, ◌+◌, ◌<◌, ◌≤◌, ◌||◌, Bool, true, false, List, length, take, drop, map, sym, ap, subst, ◌∙◌, arith}
 use Rattle.std.specs.List.{sum_by}
 use Rattle.std.specs.Char.{len_utf8}
 use Rattle.std.proofs.lemmas.List.{map-append, length-drop}
-use Rattle.es3_lexer.specs.declared.step.Step.TheVariants as steps
 use Rattle.es3_lexer.proofs.cutting.cut_all.Goals as goal
 use Rattle.es3_lexer.proofs.cutting.cut_all.Goals.{then-line, else-line}
 use Rattle.es3_lexer.proofs.Fronts.{rest_is}

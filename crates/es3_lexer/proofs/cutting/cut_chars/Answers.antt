@@ -1,4 +1,4 @@
-use Rattle.std.proofs.Common.{sym, ap, subst, ◌∙◌}
+use Rattle.std.proofs.Common.{sym, subst, ◌∙◌}
 use Rattle.es3_lexer.proofs.cutting.cut_chars.Goals as goal
 use Rattle.es3_tokens.proofs.Cut.{unmarked}
 use Rattle.es3_lexer.specs.Answers.{Gives}

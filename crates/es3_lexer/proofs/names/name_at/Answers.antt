@@ -4,7 +4,7 @@ use Rattle.es3_tree.specs.Token.{Token, name, word, words}
 use Rattle.es3_tokens.specs.Characters.{begins, is_letter, is_part}
 use Rattle.es3_tokens.specs.Cut.{accept, point}
 use Rattle.es3_tokens.specs.Tokens.{name_or_word, place_in}
-use Rattle.es3_lexer.specs.Numbers.{word_number}
+use Rattle.es3_lexer.specs.Tables.{word_number}
 use Rattle.es3_lexer.proofs.Fronts.{rest_is}
 use Rattle.es3_lexer.proofs.NameFronts.{name_front, name_small}
 use Rattle.es3_lexer.proofs.names.name_at.Goals as goal

@@ -1,4 +1,4 @@
-use Rattle.std.proofs.Common.{◌≡◌, ◌<◌, ◌≤◌, length, sym, ap, ◌∙◌, arith}
+use Rattle.std.proofs.Common.{sym, ap, ◌∙◌}
 use Rattle.es3_tree.specs.Token.{num}
 use Rattle.es3_tokens.specs.Cut.{accept}
 use Rattle.es3_lexer.proofs.NumberFronts.{number_front, whole_some, whole_none, whole_cast}

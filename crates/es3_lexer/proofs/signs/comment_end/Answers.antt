@@ -1,4 +1,4 @@
-use Rattle.std.proofs.Common.{◌≡◌, ◌∙◌, sym, ap, arith}
+use Rattle.std.proofs.Common.{◌∙◌, sym, ap, arith}
 use Rattle.es3_lexer.proofs.signs.comment_end.Goals as goal
 use Rattle.es3_lexer.proofs.CommentFronts.{end_found, end_last, end_more}
 use Rattle.es3_lexer.proofs.Fronts.{rest_is}

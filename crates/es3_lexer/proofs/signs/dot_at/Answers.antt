@@ -1,4 +1,4 @@
-use Rattle.std.proofs.Common.{◌≡◌, sym, ap, ◌∙◌, true, false}
+use Rattle.std.proofs.Common.{sym, ap, ◌∙◌}
 use Rattle.std.specs.Prelude.{if◌then◌else◌}
 use Rattle.es3_lexer.proofs.signs.dot_at.Goals as goal
 use Rattle.es3_lexer.proofs.Fronts.{rest_is}

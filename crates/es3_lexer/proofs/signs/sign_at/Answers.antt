@@ -1,6 +1,5 @@
-use Rattle.std.proofs.Common.{ℕ, ◌≡◌, ◌<◌, ◌≤◌, ◌-◌, List, Option, Some, None, length, take, sym, ap, ◌∙◌, arith}
-use Rattle.es3_tokens.specs.Refusals as k
-use Rattle.es3_lexer.specs.Numbers.{punct_number}
+use Rattle.std.proofs.Common.{ℕ, ◌≡◌, ◌<◌, ◌-◌, List, Option, Some, None, take, sym, ap, ◌∙◌, arith}
+use Rattle.es3_lexer.specs.Tables.{punct_number}
 use Rattle.es3_lexer.proofs.signs.sign_at.Goals as goal
 use Rattle.es3_lexer.proofs.SignFronts.{longest_step, longest_zero_none}
 use Rattle.es3_tokens.specs.Cut.{Step, token_step}

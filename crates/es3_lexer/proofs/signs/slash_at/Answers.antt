@@ -1,4 +1,4 @@
-use Rattle.std.proofs.Common.{◌≡◌, sym, ap, ◌∙◌, true, false, refl}
+use Rattle.std.proofs.Common.{sym, ap, ◌∙◌, refl}
 use Rattle.std.specs.Prelude.{if◌then◌else◌}
 use Rattle.es3_lexer.proofs.signs.slash_at.Goals as goal
 use Rattle.es3_lexer.proofs.CommentFronts.{block_front, line_comment_front, open_front}

@@ -1,5 +1,4 @@
-use Rattle.std.proofs.Common.{◌≡◌, ◌<◌, ◌^◌, ◌∙◌, sym, arith}
-use Rattle.std.specs.Str.Parse.{digits_value}
+use Rattle.std.proofs.Common.{◌∙◌, sym, arith}
 use Rattle.es3_lexer.proofs.HexDigits.{hex_small, hex_reading}
 use Rattle.es3_lexer.proofs.texts.by_digits.Goals as goal
 

@@ -1,4 +1,4 @@
-use Rattle.std.proofs.Common.{ℕ, ◌≡◌, ◌+◌, ◌<◌, ◌≤◌, List, [], ◌∷◌, ◌++◌, Some, None, true, false, length, drop, get_or, sym, ap, ◌∙◌, arith, refl, subst}
+use Rattle.std.proofs.Common.{ℕ, ◌+◌, List, [], ◌∷◌, drop, sym, ap, ◌∙◌, arith, refl}
 use Rattle.es3_lexer.proofs.texts.text_at.Goals as goal
 use Rattle.es3_lexer.proofs.Fronts.{rest_is}
 use Rattle.es3_lexer.proofs.TextLoop.{text_char, text_closed, text_ended, text_escape, text_lined, text_past, text_start}

@@ -1,4 +1,4 @@
--- The places of the words and punctuators in their tables (ES3 7.5, 7.7).
+-- Tables of spellings: the places of the words and punctuators in theirs (ES3 7.5, 7.7), and what stands beside a spelling.
 use Rattle.std.specs.Prelude.{ℕ, List, [], ◌∷◌, Option, Some, None, if◌then◌else◌}
 use Rattle.std.specs.Borrow.{Bor}
 use Rattle.caja_units.specs.Units.{same_units}
