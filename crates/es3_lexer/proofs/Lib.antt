@@ -1,0 +1,11 @@
+pub mod CommentFronts
+pub mod Fronts
+pub mod HexDigits
+pub mod Loop
+pub mod NameFronts
+pub mod NumberFronts
+pub mod Oks
+pub mod SignFronts
+pub mod Tables
+pub mod TextLoop
+pub mod Values

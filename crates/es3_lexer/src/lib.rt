@@ -1,0 +1,24 @@
+//! A source of ECMAScript 3 as tokens (ES3 7).
+#![tactic(auto)]
+
+mod characters;
+mod cutting;
+mod names;
+mod numbers;
+mod point;
+mod puncts;
+mod signs;
+mod spelling;
+mod step;
+#[cfg(test)]
+mod test_tables;
+#[cfg(test)]
+mod tests;
+mod texts;
+mod token;
+mod words;
+
+pub use cutting::tokens;
+pub use puncts::Punct;
+pub use token::{Kind, LexError, Token, Tokens};
+pub use words::Word;

@@ -1,0 +1,98 @@
+use crate::test_tables::{BROKEN, GAPS_AND_COMMENTS, REFUSED, TOKENS, VALUES};
+use crate::{Kind, Tokens, tokens};
+use caja_units::Units;
+use std::alloc::Global;
+use std::str;
+use std::test::Fail;
+
+/// How many bytes the sources of the tables may have.
+const LIMIT: usize = 1000;
+
+fn write_name(out: &mut String, units: &Units) -> Result<(), Fail> {
+    let mut bytes = Vec::new(*out.allocator());
+    units.push_utf8(&mut bytes)?;
+    let name = str::from_utf8(&bytes)?;
+    write!(out, "`{name}`")?;
+    Ok(())
+}
+
+fn write_text(out: &mut String, units: &Units) -> Result<(), Fail> {
+    let bytes = units.to_ascii_literal(*out.allocator())?;
+    out.push_str(str::from_utf8(&bytes)?)?;
+    Ok(())
+}
+
+fn write_kind(out: &mut String, kind: &Kind) -> Result<(), Fail> {
+    match kind {
+        Kind::Name(name) => write_name(out, name)?,
+        Kind::Word(word) => write!(out, "{word:?}")?,
+        Kind::Punct(punct) => write!(out, "{punct:?}")?,
+        Kind::Num(number) => write!(out, "{}", number.get())?,
+        Kind::Text(text) => write_text(out, text)?,
+    }
+    Ok(())
+}
+
+fn written(alloc: Global, cut: &Tokens) -> Result<String, Fail> {
+    let mut out = String::new(alloc);
+    for token in &cut.list {
+        if token.line {
+            out.push('!')?;
+        }
+        write_kind(&mut out, &token.kind)?;
+        write!(out, "@{}-{} ", token.start, token.end)?;
+    }
+    write!(out, "{}", cut.end)?;
+    Ok(out)
+}
+
+/// What the source is cut into, or why it isn't.
+fn shown(alloc: Global, source: &[u8], limit: usize) -> Result<String, Fail> {
+    u32::try_from(source.len())?;
+    match tokens(alloc, source, limit) {
+        Ok(cut) => written(alloc, &cut),
+        Err(refusal) => Ok(format!(in alloc; "{refusal:?}")?),
+    }
+}
+
+#[test]
+fn sources_are_cut_or_refused(rt: HostRuntime) -> Result<(), Fail> {
+    let alloc = rt.alloc();
+    for (source, wanted) in GAPS_AND_COMMENTS
+        .iter()
+        .chain(TOKENS.iter())
+        .chain(VALUES.iter())
+        .chain(REFUSED.iter())
+    {
+        let cut = shown(alloc, source.as_bytes(), LIMIT)?;
+        assert_eq!(rt; cut.as_str(), *wanted, "{source}");
+    }
+    Ok(())
+}
+
+#[test]
+fn other_bytes_are_refused_by_their_place(rt: HostRuntime) -> Result<(), Fail> {
+    let alloc = rt.alloc();
+    for (source, wanted) in BROKEN.iter() {
+        let cut = shown(alloc, source, LIMIT)?;
+        assert_eq!(rt; cut.as_str(), *wanted, "{source:?}");
+    }
+    Ok(())
+}
+
+#[test]
+fn limit_comes_first(rt: HostRuntime) -> Result<(), Fail> {
+    let alloc = rt.alloc();
+    for (source, limit, wanted) in [
+        ("ab", 2, "`ab`@0-2 2"),
+        ("ab", 1, "TooLong(0)"),
+        ("", 0, "0"),
+        ("'", 0, "TooLong(0)"),
+    ] {
+        let cut = shown(alloc, source.as_bytes(), limit)?;
+        assert_eq!(rt; cut.as_str(), wanted, "{source}");
+    }
+    let cut = shown(alloc, &[b'#', 0xFF], 1)?;
+    assert_eq!(rt; cut.as_str(), "TooLong(0)");
+    Ok(())
+}

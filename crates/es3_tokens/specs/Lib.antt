@@ -1,0 +1,10 @@
+pub mod Characters
+pub mod Longest
+pub mod Tokens
+pub mod Numbers
+pub mod Texts
+pub mod Gaps
+pub mod Refusals
+pub mod Cut
+pub mod Steps
+pub mod Back
