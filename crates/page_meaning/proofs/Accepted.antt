@@ -58,19 +58,19 @@ left_there false b e = absurd cc
 
 -- what no fault says of a word
 
+none_there : (b : Bool) (f : Fault) → cond b (f ∷ []) [] ≡ [] → b ≡ false
+none_there true f e = absurd cc
+none_there false f e = refl
+
+none_else : (b : Bool) (f : Fault) → cond b [] (f ∷ []) ≡ [] → b ≡ true
+none_else true f e = refl
+none_else false f e = absurd cc
+
 not_hidden : (x : Word) → hidden x ≡ [] → is_hidden x.text ≡ false
-not_hidden x e =
-    let cases = elim (is_hidden x.text) as (λ b. cond b (record { rule = 1; at = x.at; text = x.text } ∷ []) [] ≡ [] → b ≡ false) [
-      | true ↦ λ h. absurd cc
-      | false ↦ λ h. refl
-    ] in cases e
+not_hidden x e = none_there (is_hidden x.text) _ e
 
 is_declared : (names : List (List ℕ)) (x : Word) → undeclared names x ≡ [] → is_among names x.text ≡ true
-is_declared names x e =
-    let cases = elim (is_among names x.text) as (λ b. cond b [] (record { rule = 10; at = x.at; text = x.text } ∷ []) ≡ [] → b ≡ true) [
-      | true ↦ λ h. refl
-      | false ↦ λ h. absurd cc
-    ] in cases e
+is_declared names x e = none_else (is_among names x.text) _ e
 
 -- and what the words say that mean something of their own: `eval`, `arguments`, `toString`, `valueOf`
 
@@ -131,20 +131,20 @@ accepted names _ (p.binary Add x y) e f d =
     (c.binary Add g.0 h.0, both-given (c.binary Add) _ _ g.0 h.0 g.1 h.1, (refl, g.2, h.2), refl)
 accepted names _ p.no_fields e f d = (c.no_fields, refl, tt, refl)
 accepted names _ (p.more_fields k x rest) e f d =
-    let tests = and_right _ _ f in
-    let g = accepted names _ x (no_back _ _ (no_front _ _ e)) (and_left _ _ (and_right _ _ tests)) (λ k h. absurd cc) in
-    let h = accepted names _ rest (no_back _ _ e) (and_right _ _ (and_right _ _ tests)) (λ k h. absurd cc) in
-    (c.more_fields k.text g.0 h.0, both-given (c.more_fields k.text) _ _ g.0 h.0 g.1 h.1, (guest_key k (no_front _ _ (no_front _ _ e)) (and_left _ _ f), g.2, h.2), refl)
+    let front = and_left _ _ f in
+    let g = accepted names _ x (no_back _ _ (no_front _ _ e)) (and_right _ _ front) (λ k h. absurd cc) in
+    let h = accepted names _ rest (no_back _ _ e) (and_right _ _ f) (λ k h. absurd cc) in
+    (c.more_fields k.text g.0 h.0, both-given (c.more_fields k.text) _ _ g.0 h.0 g.1 h.1, (guest_key k (no_front _ _ (no_front _ _ e)) (and_left _ _ (and_left _ _ front)), g.2, h.2), refl)
 accepted names _ p.no_expr e f d = (c.no_expr, refl, tt, refl)
 accepted names _ (p.some_expr x) e f d = let g = accepted names _ x e f (λ k h. absurd cc) in (c.some_expr g.0, ap (one c.some_expr) g.1, g.2, refl)
 accepted names _ (p.var is) e f d = let g = accepted names _ is e f d in (c.var g.0, ap (one c.var) g.1, g.2, g.3)
 accepted names _ (p.expression x) e f d = let g = accepted names _ x e f (λ k h. absurd cc) in (c.expression g.0, ap (one c.expression) g.1, g.2, refl)
 accepted names _ p.no_items e f d = (c.no_items, refl, tt, refl)
 accepted names _ (p.more_items k x rest) e f d =
-    let tests = and_right _ _ f in
-    let g = accepted names _ x (no_back _ _ (no_front _ _ e)) (and_left _ _ tests) (λ k h. absurd cc) in
-    let h = accepted names _ rest (no_back _ _ e) (and_right _ _ tests) (λ i there. d i (right_there (same_units i k.text) _ there)) in
-    (c.more_items k.text g.0 h.0, both-given (c.more_items k.text) _ _ g.0 h.0 g.1 h.1, (d k.text (left_there _ _ (same_key-refl k.text)), guest_name k (no_front _ _ (no_front _ _ e)) (and_left _ _ f), g.2, h.2), ap (λ l. k.text ∷ l) h.3)
+    let front = and_left _ _ f in
+    let g = accepted names _ x (no_back _ _ (no_front _ _ e)) (and_right _ _ front) (λ k h. absurd cc) in
+    let h = accepted names _ rest (no_back _ _ e) (and_right _ _ f) (λ i there. d i (right_there (same_units i k.text) _ there)) in
+    (c.more_items k.text g.0 h.0, both-given (c.more_items k.text) _ _ g.0 h.0 g.1 h.1, (d k.text (left_there _ _ (same_key-refl k.text)), guest_name k (no_front _ _ (no_front _ _ e)) (and_left _ _ front), g.2, h.2), ap (λ l. k.text ∷ l) h.3)
 accepted names _ p.no_stmts e f d = (c.no_stmts, refl, tt, refl)
 accepted names _ (p.more_stmts s rest) e f d =
     let g = accepted names _ s (no_front _ _ e) (and_left _ _ f) (λ k there. d k (list_any-append (same_units k) (rules.declared_by s) (rules.declared rest) ∙ left_there _ _ there)) in
