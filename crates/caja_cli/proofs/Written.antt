@@ -8,7 +8,6 @@ use Rattle.page_cajole.specs.Cajoled.{outcome}
 use Rattle.caja_io.specs.Sink.{Appends, AppendsPart}
 use Rattle.caja_cli.specs.Output.{output, source_output, refusal, is_command, longest_input}
 use Rattle.caja_cli.specs.Answered.{IsLeft, Wrote, WrotePart}
-use Rattle.caja_cli.proofs.Meant.{meant}
 use Rattle.caja_cli.specs.declared.status.Status.{Status}
 use Rattle.caja_cli.specs.declared.status.Status.TheVariants.{Refused}
 
@@ -43,7 +42,6 @@ wrote-too_long words status left left' written written' command far bytes refuse
       read = λ _ near. absurd (omega (arith, beyond, near));
       bytes = subst (λ (o : List ℕ × Status). Appends written written' o.0) (sym e) bytes;
       result = ap (λ (o : List ℕ × Status). o.1) e ∙ sym refused;
-      meant = λ _. meant l.input;
     }
 
 pub wrote_part-too_long : (words : List (List ℕ)) (left written written' : Option (List ℕ)) → is_command words ≡ true → IfSome left (λ all. longest_input < length all) → AppendsPart written written' (refusal (codes "input") 1 0) → WrotePart words left written written'

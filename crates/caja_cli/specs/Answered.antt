@@ -3,7 +3,6 @@ use Rattle.std.specs.Prelude.{◌≡◌, ℕ, ◌≤◌, List, Option, IfSome, I
 use Rattle.caja_io.specs.Source.{IsEmptied}
 use Rattle.caja_io.specs.Sink.{Appends, AppendsPart}
 use Rattle.caja_cli.specs.Output.{output, is_command, longest_input}
-use Rattle.caja_cli.specs.Meant.{IsMeant}
 use Rattle.caja_cli.specs.declared.status.Status.{Status}
 use Rattle.caja_cli.specs.declared.status.Status.TheVariants.{ReadFault, WriteFault, Memory, NoRoom}
 
@@ -23,14 +22,13 @@ IsAnswer NoRoom = ⊥
 IsAnswer Memory = ⊥
 IsAnswer status = Unit {0}
 
--- all was written, and the status is the defined one; the log of a source that is accepted is what the source means
+-- all was written, and the status is the defined one
 pub record Wrote (words : List (List ℕ)) (status : Status) (left left' written written' : Option (List ℕ)) : Type 0 where
   pub input : List ℕ
   pub of_source : IsTrue (is_command words) → IsLeft left input
   pub read : IsRead words input left left'
   pub bytes : Appends written written' (output words input).0
   pub result : (output words input).1 ≡ status
-  pub meant : IsTrue (is_command words) → IsMeant input
 
 -- what was written is a front of the defined output
 pub record WrotePart (words : List (List ℕ)) (left written written' : Option (List ℕ)) : Type 0 where

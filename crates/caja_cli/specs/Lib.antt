@@ -1,4 +1,3 @@
 pub mod Codes
 pub mod Output
 pub mod Answered
-pub mod Meant

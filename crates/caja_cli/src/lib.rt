@@ -1,11 +1,12 @@
 //! The top call of Caja: words, an input, an output and a status.
 #![tactic(auto)]
 
-ghost use Rattle.std.specs.Prelude.{◌≡◌, ◌≢◌, ◌+◌, ◌≤◌, map, string_bytes, false, IsTrue};
+ghost use Rattle.std.specs.Prelude.{◌≡◌, ◌≢◌, ◌+◌, ◌≤◌, map, string_bytes, false, IsTrue, ℕ, List};
 ghost use Rattle.caja_io.specs.Count.{Rose};
 ghost use Rattle.caja_io.specs.Source.{TakesUpTo};
 ghost use Rattle.caja_io.specs.Sink.{Appends, AppendsPart};
 ghost use Rattle.caja_cli.specs.Output.{is_command, longest_input};
+ghost use Rattle.page_meaning.specs.Meant.{IsMeant};
 ghost use Rattle.caja_cli.specs.Answered.{IsAnswer, Wrote, WrotePart};
 
 #[cfg(test)]
@@ -29,16 +30,19 @@ const LONGEST_INPUT: usize = 4_194_304;
 /// The words are those behind the program's name. The one command is `solo`: the input is the source of a module, and
 /// the output is its cajoled text and the log of its load. Where the words are no command, nothing is read, and the
 /// line `usage` is written.
-#[tactic(auto, using(crate::proofs::Meant::meant))]
+#[tactic(auto, using(page_meaning::proofs::Meant::meant))]
 pub fn caja<S: Source, K: Sink>(
     words: &[String],
     source: &mut S,
     sink: &mut K,
     alloc: Global,
 ) -> Status
-    // The whole output was written, and the status is the defined one; the log of an accepted source is what the source means.
+    // The whole output was written, and the status is the defined one.
     ensures answer { IsAnswer result
         → Wrote (map string_bytes words.now) result (S.left source.old) (S.left source.new) (K.written sink.old) (K.written sink.new) }
+
+    // The log of an input that is an accepted source is what that source means.
+    ensures meant { (input : List ℕ) → IsMeant input }
 
     // Each of the other four, and its cause.
     ensures read_fault { result ≡ Status.ReadFault

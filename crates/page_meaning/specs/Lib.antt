@@ -1,2 +1,3 @@
 pub mod DirectLog
 pub mod Means
+pub mod Meant

@@ -25,5 +25,5 @@ pub record Meant (input : List ℕ) (p : t.Tree t.program) : Type 0 where
   pub means : SourceMeans its_module
 
 -- so it is where the source is accepted
-abbrev pub IsMeant : List ℕ → Type 0
-IsMeant input = (p : t.Tree t.program) → outcome input ≡ cajoled p → Meant input p
+pub record IsMeant (input : List ℕ) : Type 0 where
+  pub where_accepted : (p : t.Tree t.program) → outcome input ≡ cajoled p → Meant input p

@@ -11,7 +11,7 @@ use Rattle.cajita_rewrite.specs.Rewrite.{program_of}
 use Rattle.page_cajole.specs.Cajoled.{Outcome, unread, cajoled, rewritten, judged, outcome_of, outcome}
 use Rattle.page_meaning.proofs.Theorem.{guests_mean}
 use Rattle.page_meaning.proofs.Accepted.{guest_of}
-use Rattle.caja_cli.specs.Meant.{module_read, Meant, IsMeant}
+use Rattle.page_meaning.specs.Meant.{module_read, Meant, IsMeant}
 
 -- what was judged to be a program: there is no fault, and a module
 judged_program : (fault : Option Fault) (m : Option (c.Tree c.program)) (p : t.Tree t.program) → judged fault m ≡ cajoled p → (fault ≡ None) × (x : c.Tree c.program) × (m ≡ Some x) × (p ≡ program_of x)
@@ -39,4 +39,4 @@ read_means input (Some body) p is e =
     }
 
 pub meant : (input : List ℕ) → IsMeant input
-meant input p e = read_means input (read input) p refl e
+meant input = record { where_accepted = λ p e. read_means input (read input) p refl e }
