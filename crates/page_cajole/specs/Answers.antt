@@ -1,6 +1,5 @@
 -- What an answer says of what becomes of the source.
-use Rattle.std.specs.Prelude.{◌≡◌, List, ℕ}
-use Rattle.es3_tree.specs.Tree as t
+use Rattle.std.specs.Prelude.{◌≡◌}
 use Rattle.es3_tree.specs.View.{program}
 use Rattle.es3_printer.specs.Tokens.{printed}
 use Rattle.page_cajole.specs.Cajoled.{Outcome, unread, broken, cajoled}

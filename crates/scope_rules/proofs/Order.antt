@@ -1,5 +1,5 @@
 -- The first of some faults: of a list in two parts, and as the lists of a program are gone over.
-use Rattle.std.proofs.Common.{◌≡◌, ℕ, ◌+◌, ◌<◌, ◌≤◌, List, [], ◌∷◌, ◌++◌, Option, Some, None, Bool, true, false, cond, refl, sym, ap, ◌∙◌, arith, nat_eq, nat_lt}
+use Rattle.std.proofs.Common.{◌≡◌, List, [], ◌∷◌, ◌++◌, Option, Some, None, Bool, true, false, cond, refl, sym, ap, ◌∙◌, arith}
 use Rattle.std.proofs.lemmas.Bool.Decides.{nat_tests}
 use Rattle.scope_rules.specs.Faults.{Fault, is_before, inserted, ordered, first}
 use Rattle.scope_rules.specs.Found.{first_in, earlier_of}
