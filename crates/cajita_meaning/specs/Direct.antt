@@ -1,8 +1,7 @@
 -- What a Cajita module does, by cases on its tree: each form is a plan, and steps are the interpreter's. Nothing here knows of guards, prototypes or marks.
 -- A form that isn't given here yet enters itself again: it has no end.
-use Rattle.std.specs.Prelude.{ℕ, zero, suc, ◌+◌, List, [], ◌∷◌, ◌++◌, Option, Some, None, length, slice_get, slice_set, is_some, codes, if◌then◌else◌}
+use Rattle.std.specs.Prelude.{ℕ, zero, suc, List, [], ◌∷◌, ◌++◌, Option, Some, None, length, slice_get, slice_set, is_some, codes, if◌then◌else◌}
 use Rattle.plans.specs.Plans.{number_fault, Plan as PlanOf, ends, stops, enter, tick, told, Language, Run as RunOf, run}
-use Rattle.caja_units.specs.Units.{same_units}
 use Rattle.es3_tree.specs.declared.BinOp.TheVariants.{Add}
 use Rattle.cajita_tree.specs.Tree as c
 use Rattle.cajita_meaning.specs.World.{Name, Value, undefined, null, number, text, object, Pairs, Object, a_record, an_error, World, empty_world, with_object, with_scope, with_scopes, next_name, value_at, with_value as with_pair, with_values, undefined_names}

@@ -1,8 +1,8 @@
 -- Calls of the runtime's guards: from the call's node to the row of the guard.
-use Rattle.std.proofs.Common.{◌≡◌, ℕ, zero, suc, ◌≤◌, ◌<◌, Bool, true, false, List, [], ◌∷◌, Option, Some, None, refl, sym, ap, ◌∙◌, subst, arith}
-use Rattle.std.specs.Prelude.{codes, nat_lt}
+use Rattle.std.proofs.Common.{◌≡◌, ℕ, suc, ◌≤◌, true, false, List, [], refl, sym, subst, arith}
+use Rattle.std.specs.Prelude.{nat_lt}
 use Rattle.std.proofs.lemmas.Bool.Decides.{nat_tests}
-use Rattle.plans.specs.Plans.{ends, enter, bind}
+use Rattle.plans.specs.Plans.{enter, bind}
 use Rattle.matching.proofs.Rules.{right_enter, right_past}
 use Rattle.es3_tree.specs.Tree as t
 use Rattle.es3_heap.specs.declared.value.Value.TheVariants as es
@@ -15,10 +15,9 @@ use Rattle.cajita_meaning.specs.Direct as Source
 use Rattle.cajita_meaning.specs.Direct.{Item, printed}
 use Rattle.module_loader.specs.Opened.{runtime_id}
 use Rattle.module_loader.specs.Page.{Kept, page_table}
-use Rattle.cajita_simulation.specs.Alike.{shown, IsPrefix}
 use Rattle.cajita_simulation.proofs.Heaps.Opened.{IsOpened}
 use Rattle.cajita_simulation.proofs.Heaps.Guards.{IsGuard, guard_call}
-use Rattle.cajita_simulation.proofs.Relation.{EsValue, Here, env_of, Temps, Found, Rel, ObjectsAre, rel_pay}
+use Rattle.cajita_simulation.proofs.Relation.{EsValue, Here, env_of, Temps, Rel, ObjectsAre, rel_pay}
 use Rattle.cajita_simulation.proofs.Forms.Name.{name_plan}
 use Rattle.cajita_simulation.proofs.Laws.{Cont', M, most_steps, steps_hold}
 

@@ -1,7 +1,7 @@
 -- What each kind of change leaves of the relation.
-use Rattle.std.proofs.Common.{◌≡◌, ◌≢◌, ℕ, zero, suc, ◌+◌, ◌*◌, ◌≤◌, ◌<◌, Bool, true, false, List, [], ◌∷◌, ◌++◌, length, Option, Some, None, cond, refl, sym, ap, ◌∙◌, subst, arith}
-use Rattle.std.specs.Prelude.{slice_get, slice_set, codes, nat_eq, min}
-use Rattle.std.proofs.lemmas.Option.{slice_get_within, none-some}
+use Rattle.std.proofs.Common.{◌≡◌, ℕ, zero, suc, ◌+◌, ◌≤◌, ◌<◌, true, false, List, [], ◌∷◌, ◌++◌, length, Option, Some, None, cond, refl, sym, ap, ◌∙◌, subst, arith}
+use Rattle.std.specs.Prelude.{slice_get, slice_set, codes, nat_eq}
+use Rattle.std.proofs.lemmas.Option.{slice_get_within}
 use Rattle.std.proofs.lemmas.List.{length-append}
 use Rattle.std.proofs.lemmas.Bool.Decides.{nat_tests}
 use Rattle.std.specs.Cmp.Lexicographic.{same_text}
@@ -10,7 +10,6 @@ use Rattle.es3_heap.specs.declared.value.Tag.TheVariants as tag
 use Rattle.es3_heap.specs.Objects as heap
 use Rattle.es3_heap.specs.Objects.{Objects}
 use Rattle.es3_heap.specs.Making.{count_at, raised}
-use Rattle.es3_meaning.specs.Store as store
 use Rattle.es3_meaning.specs.Store.{Store, name_value, with_heap}
 use Rattle.es3_meaning.specs.References.{slot, resolve, with_slot}
 use Rattle.cajita_simulation.proofs.Heaps.Names.{name_value-with_name}
@@ -18,10 +17,9 @@ use Rattle.cajita_meaning.specs.World as World
 use Rattle.cajita_meaning.specs.World.{Value, Pairs, Object, value_at, with_value, with_last, with_object, next_name, World as State}
 use Rattle.cajita_meaning.specs.Direct.{Item, printed, scope_at, lookup, assigned, assign}
 use Rattle.module_loader.specs.Page.{Kept}
-use Rattle.cajita_simulation.specs.Guest.{is_among}
 use Rattle.cajita_simulation.proofs.Heaps.Made.{tagged, with_named}
 use Rattle.cajita_simulation.proofs.Heaps.Lists.{slice_get-set, slice_get-push, slice_get-push-other}
-use Rattle.cajita_simulation.proofs.Relation.{EsValue, Named, Val, OptVal, Is, Stands, Here, Temps, Slot, unknown, holds, SlotIs, Found, ScopeIs, names_at, ObjectsAre, VariablesAre, Rel, Keeps, keeps_refl, val_keep, optval_keep, is_keep}
+use Rattle.cajita_simulation.proofs.Relation.{EsValue, Named, Val, OptVal, Is, Stands, Here, Temps, Slot, unknown, holds, SlotIs, Found, names_at, ObjectsAre, VariablesAre, Rel, Keeps, val_keep, optval_keep, is_keep}
 use Rattle.cajita_simulation.proofs.Scopes.{BothFind, found_kept, resolve_same, written_same, scopes_assigned, slot_kept, variable_kept, lookup_assigned, value_at-with_value, names_at-written}
 use Rattle.cajita_simulation.proofs.Laws.{hold, result_name}
 
@@ -104,12 +102,16 @@ objects_named {by = by} {objects = objects} {h = h} {m = m} o x few is r =
     tagged_is : (g : Objects) (o : Object) (x : heap.Object) (t : Rattle.es3_heap.specs.declared.value.Tag.Tag) → Is g o x → Is g o (tagged x t)
     tagged_is g (World.a_record ps) x t p = record { class = p.class; proto = p.proto; pairs = p.pairs; no_text = p.no_text; no_value = p.no_value }
     tagged_is g (World.an_error name message) x t p = record { class = p.class; proto = p.proto; has_name = p.has_name; has_message = p.has_message; no_text = p.no_text; no_value = p.no_value }
+
     more : length (with_last by o objects by) ≡ length (objects by) + 1
     more = ap length (last_there by o objects) ∙ length-append (objects by) (o ∷ [])
+
     raise : raised (length (objects by)) ≡ length (objects by) + 1
     raise = omega (arith, r.few, few)
+
     same_tag : (n a b : ℕ) → tag.Made by n ≡ tag.Made a b → (by ≡ a) × (n ≡ b)
     same_tag n a b e = (cc, cc)
+
     new_stands : (a b i : ℕ) → i ≡ length h.list → tag.Made by (count_at (slice_get h.counts by)) ≡ tag.Made a b → Stands (with_last by o objects a) (with_named h x by) b i
     new_stands a b i at t =
         let parts = same_tag (count_at (slice_get h.counts by)) a b t in
@@ -202,6 +204,7 @@ variables_assigned {H = H} {T = T} {scopes = scopes} {s = s} x v u e f guest is 
           | true ↦ λ at. (v, subst (λ k. value_at y (scope_at (slice_get after k)) ≡ Some v) (sym (Rattle.cajita_simulation.proofs.Scopes.same_place n p at)) (subst (λ k. value_at k (scope_at (slice_get after p)) ≡ Some v) (sym alike) (ap (value_at x) (Rattle.cajita_simulation.proofs.Scopes.scope_at-written scopes p x u v f.here) ∙ value_at-with_value x v (scope_at (slice_get scopes p)))))
           | false ↦ λ at. (q, ap (value_at y) (Rattle.cajita_simulation.proofs.Scopes.scope_at-other scopes p n _ (Rattle.cajita_simulation.proofs.Scopes.other_place n p at)) ∙ there)
         ] in cases refl
+
     stays : (y : List ℕ) (n : ℕ) (q : Value) → value_at y (scope_at (slice_get scopes n)) ≡ Some q → (w : Value) × (value_at y (scope_at (slice_get (slice_set scopes f.found.place (with_value x v (scope_at (slice_get scopes f.found.place)))) n)) ≡ Some w)
     stays y n q there =
         let after = slice_set scopes f.found.place (with_value x v (scope_at (slice_get scopes f.found.place))) in
@@ -234,6 +237,7 @@ variables_held {H = H} {T = T} {scopes = scopes} {s = s} v e u f place is r =
           | true ↦ λ same. cc (sym guest ∙ ap is_hidden (same_text x result_name (sym same)))
           | false ↦ λ same. refl
         ] in cases refl
+
     held : (x : List ℕ) → is_hidden x ≡ true → name_value result_name (names_at s (H.place result_name)) ≡ Some u → Found H.env.chain (with_slot (H.place result_name) result_name e s) result_name e → SlotIs H.env.chain (with_slot (H.place result_name) result_name e s) x (hold result_name v T x)
     held x hidden here found =
         let after = with_slot (H.place result_name) result_name e s in
@@ -256,5 +260,6 @@ rel_assigned {H = H} {T = T} {w = w} {s = s} x v u e guest f at is r =
   where
     same_slot : (a b : ℕ) → slot a x ≡ slot b x → a ≡ b
     same_slot a b e = cc
+
     list_there : (xs : List Pairs) → World.with_list H.env.by xs w.scopes H.env.by ≡ xs
     list_there xs = rw (same_module H.env.by) refl

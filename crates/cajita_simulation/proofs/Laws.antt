@@ -2,10 +2,10 @@
 use Rattle.std.proofs.Common.{◌≡◌, ℕ, zero, suc, ◌+◌, ◌*◌, ◌≤◌, ◌<◌, Bool, true, false, List, [], ◌∷◌, ◌++◌, Option, Some, None, refl, sym, ap, ◌∙◌, subst, arith}
 use Rattle.std.specs.Prelude.{codes}
 use Rattle.std.proofs.lemmas.List.{append-nil}
-use Rattle.plans.specs.Plans.{Fault, ends, stops, enter, bind}
+use Rattle.plans.specs.Plans.{Fault, enter, bind}
 use Rattle.matching.specs.Unlimited.{Grows}
 use Rattle.matching.specs.Sides.{Sides, Match}
-use Rattle.matching.proofs.Rules.{both_end, both_stop, both_cut, both_enter, right_enter}
+use Rattle.matching.proofs.Rules.{both_cut, both_enter}
 use Rattle.es3_tree.specs.Tree as t
 use Rattle.es3_heap.specs.Objects.{Objects}
 use Rattle.es3_meaning.specs.Store.{Store}
@@ -19,7 +19,7 @@ use Rattle.cajita_meaning.specs.Direct.{Item, printed, direct}
 use Rattle.module_loader.specs.Page.{Kept, page_table}
 pub use Rattle.cajita_simulation.specs.Alike.{most_steps}
 use Rattle.cajita_simulation.specs.Alike.{shown, IsPrefix, GuestFault}
-use Rattle.cajita_simulation.proofs.Relation.{EsValue, Val, ObjectsAre, Here, env_of, Temps, Slot, holds, Rel, Keeps, keeps_refl, keeps_trans, keeps_step, keeps_before, more, rel_less, rel_both, rel_pay}
+use Rattle.cajita_simulation.proofs.Relation.{EsValue, Val, ObjectsAre, Here, env_of, Temps, holds, Rel, Keeps, keeps_refl, keeps_trans, keeps_step, keeps_before, more, rel_less, rel_both}
 
 -- the end of a module's load, and that of its program
 abbrev pub Ends : ℕ → Source.Completion → World → List Item → Target.Completion → Store → Kept → Type 0

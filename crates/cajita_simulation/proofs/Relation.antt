@@ -1,31 +1,21 @@
 -- The relation between the world of the direct meaning and the store of the interpreter.
-use Rattle.std.proofs.Common.{◌≡◌, ℕ, zero, suc, ◌+◌, ◌*◌, ◌≤◌, ◌<◌, Bool, true, false, List, [], ◌∷◌, length, Option, Some, None, cond, refl, sym, ap, ◌∙◌, subst, arith}
+use Rattle.std.proofs.Common.{◌≡◌, ℕ, suc, ◌+◌, ◌*◌, ◌≤◌, ◌<◌, true, false, List, [], ◌∷◌, length, Option, Some, None, arith}
 use Rattle.std.specs.Prelude.{slice_get, codes}
-use Rattle.plans.specs.Plans.{Fault}
-use Rattle.matching.specs.Unlimited.{Grows}
-use Rattle.matching.specs.Sides.{Sides, Match}
-use Rattle.caja_units.specs.Units.{same_units, is_hidden}
-use Rattle.es3_heap.specs.declared.value.Value as es_value
+use Rattle.caja_units.specs.Units.{is_hidden}
 use Rattle.es3_heap.specs.declared.value.Value.TheVariants as es
-use Rattle.es3_heap.specs.declared.value.Class.TheVariants as class
-use Rattle.es3_heap.specs.declared.value.Proto.TheVariants as proto
-use Rattle.es3_heap.specs.declared.value.Tag.TheVariants as tag
 use Rattle.es3_heap.specs.Objects as heap
 use Rattle.es3_heap.specs.Objects.{Property, Objects}
-use Rattle.es3_heap.specs.Properties.{find}
-use Rattle.es3_heap.specs.Making.{proto_id}
 use Rattle.es3_meaning.specs.Store as store
 use Rattle.es3_meaning.specs.Store.{Store, name_value}
-use Rattle.es3_meaning.specs.References.{Ref, slot, resolve}
+use Rattle.es3_meaning.specs.References.{slot, resolve}
 use Rattle.es3_meaning.specs.Meaning as Target
 use Rattle.es3_meaning.specs.Meaning.{es3}
-use Rattle.es3_meaning.specs.Natives.{Touched}
 use Rattle.cajita_meaning.specs.World as World
 use Rattle.cajita_meaning.specs.World.{Name, Value, Pairs, Object, a_record, an_error, World as State}
 use Rattle.cajita_meaning.specs.Direct as Source
 use Rattle.cajita_meaning.specs.Direct.{Item, printed, direct, scope_at, lookup}
 use Rattle.module_loader.specs.Opened.{opened, runtime_id}
-use Rattle.module_loader.specs.Page.{Kept, page_table, first_kept}
+use Rattle.module_loader.specs.Page.{Kept, first_kept}
 use Rattle.cajita_simulation.specs.Guest.{is_among}
 use Rattle.cajita_simulation.specs.Alike.{shown}
 pub use Rattle.cajita_simulation.specs.Correspond.{EsValue, Named, Val, guests, PairsAre, IsRecord, value_is, IsError, Is, Stands, AllStand}

@@ -1,20 +1,19 @@
 -- Variables on both sides: where a name is found, and what an assignment leaves.
-use Rattle.std.proofs.Common.{◌≡◌, ◌≢◌, ℕ, zero, suc, ◌≤◌, ◌<◌, Bool, true, false, List, [], ◌∷◌, length, Option, Some, None, cond, refl, sym, ap, ◌∙◌, subst, arith}
-use Rattle.std.specs.Prelude.{slice_get, slice_set, is_some, codes, nat_eq}
+use Rattle.std.proofs.Common.{◌≡◌, ◌≢◌, ℕ, true, false, List, [], ◌∷◌, Option, Some, None, cond, refl, sym, ap, ◌∙◌, subst, arith}
+use Rattle.std.specs.Prelude.{slice_get, slice_set, is_some, nat_eq}
 use Rattle.std.specs.Cmp.Lexicographic.{same_text}
-use Rattle.std.proofs.lemmas.Option.{slice_get_within, none-some}
+use Rattle.std.proofs.lemmas.Option.{none-some}
 use Rattle.std.proofs.lemmas.Bool.Decides.{nat_tests}
 use Rattle.caja_units.specs.Units.{same_units, is_hidden}
-use Rattle.es3_heap.specs.Objects.{Objects}
 use Rattle.es3_heap.proofs.Keys.{same_key-refl}
 use Rattle.es3_meaning.specs.Store as store
 use Rattle.es3_meaning.specs.Store.{Store, name_value, with_name}
-use Rattle.es3_meaning.specs.References.{Ref, slot, unresolved, named, resolve, global_name, with_slot}
+use Rattle.es3_meaning.specs.References.{slot, unresolved, named, resolve, global_name, with_slot}
 use Rattle.cajita_meaning.specs.World.{Value, Pairs, value_at, with_value}
 use Rattle.cajita_meaning.specs.Direct.{lookup, first_of, scope_at, assigned}
 use Rattle.cajita_simulation.proofs.Heaps.Lists.{slice_get-set, slice_get-set-other}
 use Rattle.cajita_simulation.proofs.Heaps.Names.{name_value-with_name, name_value-with_name-other}
-use Rattle.cajita_simulation.proofs.Relation.{EsValue, Val, OptVal, Found, ScopeIs, names_at, val_keep, optval_keep}
+use Rattle.cajita_simulation.proofs.Relation.{EsValue, Val, OptVal, Found, ScopeIs, names_at}
 
 -- a name is at no place where it belongs to the global object, or to nothing
 global_is_no_slot : (s : Store) (x : List ℕ) (c : ℕ) → global_name s x ≡ slot c x → ⊥

@@ -1,7 +1,6 @@
 -- The law of each form of a guest's module, one line a form.
 use Rattle.std.proofs.Common.{ℕ, zero, suc, sym, subst}
 use Rattle.es3_tree.specs.Tree as t
-use Rattle.es3_tree.specs.declared.BinOp.TheVariants.{Add}
 use Rattle.cajita_tree.specs.Tree as c
 use Rattle.cajita_rewrite.specs.Rewrite.{rewritten}
 use Rattle.cajita_simulation.specs.Guest.{Guest}

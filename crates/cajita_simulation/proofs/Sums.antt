@@ -1,5 +1,5 @@
 -- Both sums of values that correspond.
-use Rattle.std.proofs.Common.{◌≡◌, ℕ, List, [], ◌∷◌, ◌++◌, Option, Some, None, Result, Ok, Err, true, false, refl, sym, ap, ◌∙◌, subst, arith}
+use Rattle.std.proofs.Common.{◌≡◌, ℕ, List, ◌++◌, Option, Some, None, Result, Ok, Err, true, false, refl, sym, ap}
 use Rattle.std.specs.Prelude.{codes, ℤ, pos}
 use Rattle.std.specs.Option.{option_map}
 use Rattle.plans.specs.Plans.{Fault, number_fault}

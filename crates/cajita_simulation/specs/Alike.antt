@@ -1,10 +1,6 @@
 -- When the run of a rewritten module is alike to the direct run of its source.
-use Rattle.std.specs.Prelude.{◌≡◌, ℕ, Bool, List, [], ◌++◌, Option, Some, None, slice_get, codes}
+use Rattle.std.specs.Prelude.{◌≡◌, ℕ, List, [], ◌++◌}
 use Rattle.plans.specs.Plans.{Fault, number_fault, depth_fault, convert_fault}
-use Rattle.es3_heap.specs.declared.value.Value as es_value
-use Rattle.es3_heap.specs.declared.value.Value.TheVariants as es
-use Rattle.es3_heap.specs.declared.value.Tag.TheVariants as tag
-use Rattle.es3_heap.specs.Objects.{Objects, object_at, tag_of}
 use Rattle.module_loader.specs.Page.{Kept}
 use Rattle.cajita_meaning.specs.Direct.{Item}
 

@@ -1,8 +1,7 @@
 -- How two plans are matched, a step at a time.
-use Rattle.std.proofs.Common.{◌≡◌, ℕ, zero, suc, ◌+◌, ◌*◌, ◌≤◌, ◌<◌, refl, arith}
-use Rattle.plans.specs.Plans.{Fault, Plan, ends, stops, enter, tick, told, Language, bind, Run, over, stopped, out, run, count_of, kept_of}
-use Rattle.matching.specs.Unlimited.{ran, Grows}
-use Rattle.matching.specs.Sides.{Sides, Alike, Meets, alike, past, Match}
+use Rattle.std.proofs.Common.{ℕ, suc, ◌*◌, ◌≤◌, ◌<◌, arith}
+use Rattle.plans.specs.Plans.{Fault, Plan, ends, stops, enter, tick, told, bind, Run}
+use Rattle.matching.specs.Sides.{Sides, Meets, alike, past, Match}
 use Rattle.matching.proofs.Limits.{ran_count, ran_grows}
 
 module _ {T E X I S T' E' X' I' S' : Type 0} where

@@ -1,10 +1,10 @@
 -- Two plans that match, under limits of steps.
-use Rattle.std.proofs.Common.{◌≡◌, ℕ, zero, suc, ◌+◌, ◌*◌, ◌≤◌, ◌<◌, refl, sym, ◌∙◌, subst, arith}
+use Rattle.std.proofs.Common.{◌≡◌, ℕ, ◌+◌, ◌*◌, ◌≤◌, sym, subst, arith}
 use Rattle.plans.specs.Plans.{Plan, Run, over, stopped, out, run, count_of, kept_of}
 use Rattle.matching.specs.Unlimited.{ran}
 use Rattle.matching.specs.Sides.{Sides, Together, Alike, Meets, alike, past, Match}
 use Rattle.matching.specs.Sentences.{IsFinished, Simulates}
-use Rattle.matching.proofs.Limits.{ran_count, Below, Within, IsCut, run_below, ran_within, ran_past, below_kept, within_kept}
+use Rattle.matching.proofs.Limits.{Below, Within, IsCut, run_below, ran_within, ran_past, below_kept, within_kept}
 
 module _ {T E X I S T' E' X' I' S' : Type 0} (A : Sides T E X I S T' E' X' I' S') where
   abbrev Left : Type 0

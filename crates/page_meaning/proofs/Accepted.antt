@@ -10,8 +10,8 @@ use Rattle.es3_tree.specs.Placed as p
 use Rattle.es3_tree.specs.Placed.{Placed, Word}
 use Rattle.es3_tree.specs.declared.BinOp.TheVariants.{Add}
 use Rattle.cajita_tree.specs.Tree as c
-use Rattle.scope_rules.specs.Rules.{fixed_names, text_keys, own_words, is_free_name, is_free_key, is_record_key}
-use Rattle.scope_rules.specs.Language.{is_first, has_field}
+use Rattle.scope_rules.specs.Rules.{own_words, is_free_name, is_record_key}
+use Rattle.scope_rules.specs.Language.{is_first}
 use Rattle.scope_rules.specs.Resolve as rules
 use Rattle.scope_rules.specs.Resolve.{of_sort, one, both, resolved, once_after, vars_of, module_of}
 use Rattle.scope_rules.specs.Faults.{Fault, hidden, undeclared, faults_in, ordered, inserted, faults, first, is_before}

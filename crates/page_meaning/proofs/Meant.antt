@@ -1,5 +1,5 @@
 -- An accepted source is meant by its log.
-use Rattle.std.proofs.Common.{◌≡◌, ℕ, Bool, true, false, List, Option, Some, None, cond, refl, sym, ap, ◌∙◌}
+use Rattle.std.proofs.Common.{◌≡◌, ℕ, true, false, List, Option, Some, None, cond, refl, ap, ◌∙◌}
 use Rattle.es3_tree.specs.Tree as t
 use Rattle.es3_tree.specs.Placed.{Placed}
 use Rattle.cajita_tree.specs.Tree as c
@@ -8,7 +8,7 @@ use Rattle.scope_rules.specs.Language.{is_first}
 use Rattle.scope_rules.specs.Faults.{Fault, faults, first}
 use Rattle.scope_rules.specs.Resolve.{module_of}
 use Rattle.cajita_rewrite.specs.Rewrite.{program_of}
-use Rattle.page_cajole.specs.Cajoled.{Outcome, unread, cajoled, rewritten, judged, outcome_of, outcome}
+use Rattle.page_cajole.specs.Cajoled.{unread, cajoled, judged, outcome_of}
 use Rattle.page_meaning.proofs.Theorem.{guests_mean}
 use Rattle.page_meaning.proofs.Accepted.{guest_of}
 use Rattle.page_meaning.specs.Meant.{module_read, Meant, IsMeant}

@@ -1,7 +1,7 @@
 -- Statements in a list, each with its law, and then what follows the list.
-use Rattle.std.proofs.Common.{◌≡◌, ℕ, suc, ◌≤◌, ◌<◌, Option, Some, None, refl, sym, subst, arith}
+use Rattle.std.proofs.Common.{◌≡◌, ℕ, suc, ◌≤◌, ◌<◌, Option, Some, None, refl, subst, arith}
 use Rattle.std.specs.Prelude.{true, List}
-use Rattle.plans.specs.Plans.{ends, enter, bind}
+use Rattle.plans.specs.Plans.{bind}
 use Rattle.es3_tree.specs.Tree as t
 use Rattle.es3_heap.specs.Objects.{Objects}
 use Rattle.es3_meaning.specs.Store.{Store}
@@ -44,7 +44,9 @@ unfolding rewritten
 list_match law c.no_stmts g acc acc' rest' a k end end' next next' lt r x = x.on a (omega arith) acc acc' _ _ _ _ _ _ r keeps_refl
 list_match {H = H} {T = T} law (c.more_stmts u ss) g acc acc' rest' a k {w = w} {z = z} {n = n} {s = s} {y = y} {m = m} end end' next next' lt r x =
     (law u g.0).on lt r (record {
-      finishes = record { on = λ b le v v' w1 z1 n1 s1 y1 m1 r1 k1.
-          list_match law ss g.1 (Source.later v acc) (Target.later v' acc') rest' b k end end' next next' (omega arith) (subst (λ t. Rel H t k w1 z1 n1 s1 y1 m1) (after_later T acc v) (rel_less (omega arith) r1)) (list_end_since le k1 x) };
+      finishes = record {
+        on = λ b le v v' w1 z1 n1 s1 y1 m1 r1 k1.
+            list_match law ss g.1 (Source.later v acc) (Target.later v' acc') rest' b k end end' next next' (omega arith) (subst (λ t. Rel H t k w1 z1 n1 s1 y1 m1) (after_later T acc v) (rel_less (omega arith) r1)) (list_end_since le k1 x);
+      };
       throws = record { on = λ b le v e w1 z1 n1 s1 y1 m1 is r1 k1. (x.throws acc).on b le v e w1 z1 n1 s1 y1 m1 is (rel_less (omega arith) r1) (keeps_before k1) };
     })

@@ -1,20 +1,17 @@
 -- Variables.
-use Rattle.std.proofs.Common.{◌≡◌, ℕ, suc, ◌≤◌, Bool, true, false, List, [], ◌∷◌, Option, Some, None, cond, refl, sym, ap, ◌∙◌, subst, arith}
-use Rattle.std.specs.Prelude.{slice_get, is_some}
+use Rattle.std.proofs.Common.{◌≡◌, ℕ, ◌≤◌, true, false, List, Some, refl, sym, subst, arith}
 use Rattle.plans.specs.Plans.{bind}
-use Rattle.caja_units.specs.Units.{is_hidden}
 use Rattle.es3_tree.specs.Tree as t
-use Rattle.es3_meaning.specs.Store.{Store, name_value}
-use Rattle.es3_meaning.specs.References.{slot, resolve}
+use Rattle.es3_meaning.specs.Store.{Store}
 use Rattle.es3_meaning.specs.Meaning as Target
 use Rattle.es3_meaning.specs.Meaning.{is_arguments}
 use Rattle.cajita_tree.specs.Tree as c
-use Rattle.cajita_meaning.specs.World.{Value, World, Pairs, value_at}
+use Rattle.cajita_meaning.specs.World.{Value, World}
 use Rattle.cajita_meaning.specs.Direct as Source
 use Rattle.cajita_meaning.specs.Direct.{Item, lookup, first_of, scope_at}
 use Rattle.module_loader.specs.Page.{Kept}
 use Rattle.cajita_simulation.specs.Guest.{is_among, GuestName}
-use Rattle.cajita_simulation.proofs.Relation.{EsValue, Val, Here, env_of, Temps, Found, Rel}
+use Rattle.cajita_simulation.proofs.Relation.{EsValue, Here, env_of, Temps, Found, Rel}
 use Rattle.cajita_simulation.proofs.Scopes.{BothFind, both_find}
 use Rattle.cajita_simulation.proofs.Laws.{ValueBody, NextValue, Cont, Cont', M, give}
 
@@ -29,6 +26,8 @@ name_end {H = H} {d = d} x {w = w} {z = z} {n = n} {s = s} {y = y} {m = m} v {ne
     (subst (λ p. M H d (next (Source.gave v) w) z n (bind p next') y m) (sym (name_plan x (env_of H) s f.value guest.own_name f.found)) (give less few x1 f.same r))
 
 pub name_body : {H : Here} {d : ℕ} (x : List ℕ) → is_among H.vars x ≡ true → GuestName x → ValueBody H d (c.name x) (t.name x)
-name_body {H = H} x known guest = record { on = λ lt r next.
-    let b = r.variables.bound x known in
-    name_end x b.0 guest (omega arith) (omega arith) b.1 (both_find H.env.chain _ _ x b.0 r.variables.scopes guest.open_name b.1) r next }
+name_body {H = H} x known guest = record {
+  on = λ lt r next.
+      let b = r.variables.bound x known in
+      name_end x b.0 guest (omega arith) (omega arith) b.1 (both_find H.env.chain _ _ x b.0 r.variables.scopes guest.open_name b.1) r next;
+}

@@ -6,21 +6,20 @@ use Rattle.plans.specs.Plans.{bind}
 use Rattle.matching.proofs.Rules.{right_enter}
 use Rattle.es3_tree.specs.Tree as t
 use Rattle.es3_heap.specs.declared.value.Value.TheVariants as es
-use Rattle.es3_heap.specs.Objects as heap
 use Rattle.es3_meaning.specs.Store.{Store}
 use Rattle.es3_meaning.specs.References.{member}
 use Rattle.es3_meaning.specs.Meaning as Target
 use Rattle.cajita_tree.specs.Tree as c
-use Rattle.cajita_rewrite.specs.Rewrite.{rewritten, runtime_call, single}
-use Rattle.cajita_meaning.specs.World.{Value, Pairs, World}
+use Rattle.cajita_rewrite.specs.Rewrite.{rewritten, single}
+use Rattle.cajita_meaning.specs.World.{Pairs, World}
 use Rattle.cajita_meaning.specs.Direct as Source
 use Rattle.cajita_meaning.specs.Direct.{Item}
 use Rattle.module_loader.specs.Opened.{runtime_id}
 use Rattle.module_loader.specs.Page.{Kept}
 use Rattle.cajita_simulation.specs.Guest.{Guest}
 use Rattle.cajita_simulation.proofs.Heaps.Pairs.{in_turn}
-use Rattle.cajita_simulation.proofs.Relation.{EsValue, Here, env_of, Temps, Rel, Keeps, keeps_step, keeps_before, rel_pay, rel_less}
-use Rattle.cajita_simulation.proofs.Laws.{ValueLaw, ValueBody, NextValue, gives_from, throws_from, value_from, value_since, Cont, Cont', M, with_part}
+use Rattle.cajita_simulation.proofs.Relation.{EsValue, Here, env_of, Temps, Rel, keeps_step, keeps_before, rel_pay}
+use Rattle.cajita_simulation.proofs.Laws.{ValueLaw, ValueBody, NextValue, value_from, value_since, Cont, Cont', M, with_part}
 use Rattle.cajita_simulation.proofs.Calls.{callee_match}
 use Rattle.cajita_simulation.proofs.Rows.InitializeMap.{Paired, paired_keep, paired_add, in_turn-add, record_match}
 
@@ -44,6 +43,8 @@ fields_match {H = H} {T = T} law (c.more_fields key e rest) g ps qs a k next nex
 
 pub record_body : {H : Here} {d : ℕ} (law : (e : c.Tree c.expr) → Guest H.vars c.expr e → ValueLaw H d e (rewritten c.expr e)) (fs : c.Tree c.fields) → Guest H.vars c.fields fs → ValueBody H d (c.record_of fs) (rewritten c.expr (c.record_of fs))
 unfolding rewritten
-record_body law fs g = record { on = λ {next = next} {next' = next'} lt r x.
-    callee_match (codes "initializeMap") (single (t.array (rewritten c.fields fs))) next' r (λ r1.
-    right_enter (fields_match law fs g [] [] _ _ next next' lt tt (omega arith) (rel_pay r1) (value_from (omega arith) (omega arith) (keeps_step (omega arith)) x))) }
+record_body law fs g = record {
+  on = λ {next = next} {next' = next'} lt r x.
+      callee_match (codes "initializeMap") (single (t.array (rewritten c.fields fs))) next' r (λ r1.
+      right_enter (fields_match law fs g [] [] _ _ next next' lt tt (omega arith) (rel_pay r1) (value_from (omega arith) (omega arith) (keeps_step (omega arith)) x)));
+}

@@ -1,7 +1,6 @@
 -- Statements: an expression statement directly in the module is `moduleResult___=e;`, a `var` statement is itself.
-use Rattle.std.proofs.Common.{◌≡◌, ℕ, suc, ◌≤◌, ◌<◌, true, List, Option, Some, None, refl, sym, ap, ◌∙◌, subst, arith}
-use Rattle.std.specs.Prelude.{codes}
-use Rattle.plans.specs.Plans.{ends, enter, bind}
+use Rattle.std.proofs.Common.{◌≡◌, ℕ, suc, ◌<◌, true, List, Some, None, sym, subst, arith}
+use Rattle.plans.specs.Plans.{bind}
 use Rattle.matching.proofs.Rules.{right_enter}
 use Rattle.es3_tree.specs.Tree as t
 use Rattle.es3_meaning.specs.Store.{Store}
@@ -14,10 +13,10 @@ use Rattle.cajita_meaning.specs.Direct as Source
 use Rattle.cajita_meaning.specs.Direct.{Item}
 use Rattle.module_loader.specs.Page.{Kept}
 use Rattle.cajita_simulation.specs.Guest.{is_among, GuestName, Guest}
-use Rattle.cajita_simulation.proofs.Relation.{EsValue, Val, Here, env_of, Temps, Rel, Keeps, keeps_step, keeps_before, keeps_trans, rel_pay, rel_less}
-use Rattle.cajita_simulation.proofs.Scopes.{BothFind, both_find}
-use Rattle.cajita_simulation.proofs.Changes.{variables_held, variables_assigned, rel_assigned}
-use Rattle.cajita_simulation.proofs.Laws.{ValueLaw, EffectBody, NextEffect, effect_since, Cont, Cont', M, with_part, hold, result_name, after}
+use Rattle.cajita_simulation.proofs.Relation.{EsValue, Val, Here, env_of, Temps, Rel, keeps_step, keeps_trans, rel_pay, rel_less}
+use Rattle.cajita_simulation.proofs.Scopes.{both_find}
+use Rattle.cajita_simulation.proofs.Changes.{variables_held, rel_assigned}
+use Rattle.cajita_simulation.proofs.Laws.{ValueLaw, EffectBody, NextEffect, effect_since, Cont, Cont', M, with_part, result_name, after}
 
 -- the relation after the module's result was written
 rel_held : {H : Here} {T : Temps} {k : ℕ} {w : World} {z : List Item} {n : ℕ} {s : Store} {y : Kept} {m : ℕ} (v : Value) (e : EsValue) → Val s.heap v e → Rel H T k w z n s y m → Rel H (after T (Some v)) k w z n (with_slot (H.place result_name) result_name e s) y m
@@ -28,10 +27,12 @@ result_at : {H : Here} {T : Temps} {k : ℕ} {w : World} {z : List Item} {n : �
 result_at {H = H} {s = s} r = subst (λ q. resolve H.env.chain s result_name ≡ slot q result_name) r.variables.result.2 r.variables.result.1.at
 
 pub expression_body : {H : Here} {d : ℕ} {e : c.Tree c.expr} {e' : t.Tree t.expr} → ValueLaw H d e e' → EffectBody H d (c.expression e) (t.expression (t.assign None (t.name result_name) e'))
-expression_body {H = H} {e = e} {e' = e'} pe = record { on = λ {a = a} {w = w} {z = z} {n = n} {s = s} {y = y} {m = m} {next = next} {next' = next'} lt r x.
-    right_enter (right_enter (subst (λ q. M H a (bind (Source.stmt_plan (c.expression e) H.env w) next) z n (bind (Target.on_target_of (Target.assign_to e' (env_of H)) (Target.found q) s) (λ e1 s1. bind (Target.on_value_of Target.to_normal e1 s1) next')) y (suc (suc m))) (sym (result_at r))
-    (with_part lt (omega arith) (omega arith) pe (rel_pay (rel_pay r)) (record { on = λ b le v u w1 z1 n1 s1 y1 m1 is r1 k1. x.throws.on b le v u w1 z1 n1 s1 y1 m1 is r1 k1 }) (λ c1 le1 v1 e1 w1 z1 n1 s1 y1 m1 is1 r1 k1.
-    x.finishes.on c1 le1 (Some v1) (Some e1) _ _ _ _ _ _ (rel_less (omega arith) (rel_held v1 e1 is1 r1)) (keeps_trans (keeps_step (omega arith)) k1))))) }
+expression_body {H = H} {e = e} {e' = e'} pe = record {
+  on = λ {a = a} {w = w} {z = z} {n = n} {s = s} {y = y} {m = m} {next = next} {next' = next'} lt r x.
+      right_enter (right_enter (subst (λ q. M H a (bind (Source.stmt_plan (c.expression e) H.env w) next) z n (bind (Target.on_target_of (Target.assign_to e' (env_of H)) (Target.found q) s) (λ e1 s1. bind (Target.on_value_of Target.to_normal e1 s1) next')) y (suc (suc m))) (sym (result_at r))
+      (with_part lt (omega arith) (omega arith) pe (rel_pay (rel_pay r)) (record { on = λ b le v u w1 z1 n1 s1 y1 m1 is r1 k1. x.throws.on b le v u w1 z1 n1 s1 y1 m1 is r1 k1 }) (λ c1 le1 v1 e1 w1 z1 n1 s1 y1 m1 is1 r1 k1.
+      x.finishes.on c1 le1 (Some v1) (Some e1) _ _ _ _ _ _ (rel_less (omega arith) (rel_held v1 e1 is1 r1)) (keeps_trans (keeps_step (omega arith)) k1)))));
+}
 
 -- a variable that is declared is written where it stands
 var_at : {H : Here} {T : Temps} {k : ℕ} {w : World} {z : List Item} {n : ℕ} {s : Store} {y : Kept} {m : ℕ} (x : List ℕ) (v : Value) (e : EsValue) → is_among H.vars x ≡ true → GuestName x → Val s.heap v e → Rel H T k w z n s y m → Rel H T k (Source.assign H.env x v w) z n (with_slot (H.place x) x e s) y m

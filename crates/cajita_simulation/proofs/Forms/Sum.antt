@@ -1,6 +1,6 @@
 -- Sums.
-use Rattle.std.proofs.Common.{◌≡◌, ℕ, suc, ◌≤◌, List, Option, Some, None, Result, Ok, Err, refl, sym, subst, arith}
-use Rattle.plans.specs.Plans.{Fault, number_fault, bind}
+use Rattle.std.proofs.Common.{ℕ, ◌≤◌, List, Option, Some, None, refl, sym, subst, arith}
+use Rattle.plans.specs.Plans.{bind}
 use Rattle.matching.proofs.Rules.{both_stop}
 use Rattle.es3_tree.specs.Tree as t
 use Rattle.es3_tree.specs.declared.BinOp.TheVariants.{Add}
@@ -12,7 +12,7 @@ use Rattle.cajita_meaning.specs.Sums.{primitive, sum_of}
 use Rattle.cajita_meaning.specs.Direct as Source
 use Rattle.cajita_meaning.specs.Direct.{Item}
 use Rattle.module_loader.specs.Page.{Kept}
-use Rattle.cajita_simulation.proofs.Relation.{EsValue, Val, val_keep, Here, env_of, Temps, Rel, Keeps}
+use Rattle.cajita_simulation.proofs.Relation.{EsValue, Val, val_keep, Here, Temps, Rel}
 use Rattle.cajita_simulation.proofs.Laws.{ValueLaw, ValueBody, NextValue, Cont, Cont', M, give, value_since, with_part, steps_hold}
 use Rattle.cajita_simulation.proofs.Sums.{IsPlain, result_of, sum_is, sum_plain, plain_val}
 
@@ -25,8 +25,10 @@ sum_match {H = H} {d = d} v1 v2 e1 e2 {w = w} {z = z} {n = n} {s = s} {y = y} {m
     subst (λ o. M H d (bind (Source.add_right v1 v2 w) next) z n (bind (Target.value_or_stop o s) next') y m) (sym (sum_is r.objects v1 v2 e1 e2 p q)) (sum_end (sum_of v1 v2) (sum_plain (primitive v1) (primitive v2)) le few x r)
 
 pub sum_body : {H : Here} {d : ℕ} {a b : c.Tree c.expr} {a' b' : t.Tree t.expr} → ValueLaw H d a a' → ValueLaw H d b b' → ValueBody H d (c.binary Add a b) (t.binary Add a' b')
-sum_body pa pb = record { on = λ lt r x.
-    with_part lt (omega arith) (omega arith) pa r x.throws (λ c1 le1 v1 e1 w1 z1 n1 s1 y1 m1 is1 r1 k1.
-    let x1 = value_since le1 k1 x in
-    with_part (omega arith) (omega arith) (omega arith) pb r1 x1.throws (λ c2 le2 v2 e2 w2 z2 n2 s2 y2 m2 is2 r2 k2.
-    sum_match v1 v2 e1 e2 (val_keep k2 v1 e1 is1) is2 (omega arith) (omega arith) (value_since le2 k2 x1) r2)) }
+sum_body pa pb = record {
+  on = λ lt r x.
+      with_part lt (omega arith) (omega arith) pa r x.throws (λ c1 le1 v1 e1 w1 z1 n1 s1 y1 m1 is1 r1 k1.
+      let x1 = value_since le1 k1 x in
+      with_part (omega arith) (omega arith) (omega arith) pb r1 x1.throws (λ c2 le2 v2 e2 w2 z2 n2 s2 y2 m2 is2 r2 k2.
+      sum_match v1 v2 e1 e2 (val_keep k2 v1 e1 is1) is2 (omega arith) (omega arith) (value_since le2 k2 x1) r2));
+}

@@ -1,20 +1,19 @@
 -- An error that a form or a guard throws: it is made by the running module, and has that module's next name.
-use Rattle.std.proofs.Common.{◌≡◌, ℕ, suc, ◌≤◌, List, [], Option, Some, None, refl, sym, ap, subst, arith}
+use Rattle.std.proofs.Common.{ℕ, suc, ◌≤◌, List, refl, arith}
 use Rattle.std.specs.Prelude.{codes, length}
-use Rattle.plans.specs.Plans.{ends, bind}
+use Rattle.plans.specs.Plans.{bind}
 use Rattle.matching.proofs.Rules.{left_told}
 use Rattle.es3_heap.specs.declared.value.Value.TheVariants as es
-use Rattle.es3_heap.specs.Objects as heap
 use Rattle.es3_heap.specs.Objects.{Objects}
 use Rattle.es3_meaning.specs.Store.{Store, with_heap}
 use Rattle.es3_meaning.specs.Meaning as Target
-use Rattle.cajita_meaning.specs.World.{Value, object, World, an_error, with_object, next_name}
+use Rattle.cajita_meaning.specs.World.{object, World, an_error, next_name}
 use Rattle.cajita_meaning.specs.Direct as Source
 use Rattle.cajita_meaning.specs.Direct.{Item, made}
 use Rattle.module_loader.specs.Page.{Kept}
 use Rattle.cajita_simulation.proofs.Heaps.Made.{with_named}
 use Rattle.cajita_simulation.proofs.Heaps.Natives.{type_error}
-use Rattle.cajita_simulation.proofs.Relation.{Here, Temps, Is, IsError, Rel, Keeps}
+use Rattle.cajita_simulation.proofs.Relation.{Here, Temps, Is, Rel}
 use Rattle.cajita_simulation.proofs.Changes.{rel_told, rel_named, named_keeps, named_there}
 use Rattle.cajita_simulation.proofs.Laws.{Throws, Cont, Cont', M}
 

@@ -1,14 +1,14 @@
 -- `initializeMap`: a record of keys and values.
-use Rattle.std.proofs.Common.{◌≡◌, ℕ, suc, ◌+◌, ◌≤◌, ◌<◌, Bool, true, false, List, [], ◌∷◌, ◌++◌, Option, Some, None, cond, refl, sym, ap, ◌∙◌, subst, arith, append_assoc}
+use Rattle.std.proofs.Common.{◌≡◌, ℕ, suc, ◌≤◌, true, false, List, [], ◌∷◌, ◌++◌, cond, refl, sym, ap, subst, arith}
 use Rattle.std.specs.Prelude.{codes, length}
 use Rattle.std.specs.Cmp.Lexicographic.{same_text}
-use Rattle.plans.specs.Plans.{ends, bind}
+use Rattle.plans.specs.Plans.{bind}
 use Rattle.matching.proofs.Rules.{left_told}
 use Rattle.caja_units.specs.Units.{same_units, is_hidden}
 use Rattle.es3_heap.specs.declared.value.Value.TheVariants as es
 use Rattle.es3_heap.specs.Objects as heap
 use Rattle.es3_heap.specs.Objects.{Property, Objects, plain_attrs}
-use Rattle.es3_heap.specs.Properties.{find, defined}
+use Rattle.es3_heap.specs.Properties.{defined}
 use Rattle.es3_heap.specs.Making.{array_object}
 use Rattle.es3_meaning.specs.Store.{Store, with_heap}
 use Rattle.es3_meaning.specs.References.{member}
@@ -18,14 +18,14 @@ use Rattle.cajita_meaning.specs.World.{Value, Pairs, a_record, with_object, with
 use Rattle.cajita_meaning.specs.Direct as Source
 use Rattle.cajita_meaning.specs.Direct.{Item, made}
 use Rattle.module_loader.specs.Opened.{runtime_id}
-use Rattle.module_loader.specs.Page.{Kept, page_table}
+use Rattle.module_loader.specs.Page.{Kept}
 use Rattle.cajita_simulation.specs.Guest.{GuestKey}
 use Rattle.cajita_simulation.proofs.Heaps.Made.{with_named}
 use Rattle.cajita_simulation.proofs.Heaps.Pairs.{pairs_defined, in_turn, NoKey, find-pairs_defined-other}
 use Rattle.cajita_simulation.proofs.Heaps.Replies.{record_object}
 use Rattle.cajita_simulation.proofs.Heaps.Natives.{makes_record}
 use Rattle.cajita_simulation.proofs.Heaps.Guards.{initialize_map-guard}
-use Rattle.cajita_simulation.proofs.Relation.{EsValue, Val, guests, PairsAre, Is, Here, env_of, Temps, Rel, Keeps, keeps_refl, keeps_trans, keeps_step, val_keep, pairs_keep}
+use Rattle.cajita_simulation.proofs.Relation.{EsValue, Val, guests, PairsAre, Is, Here, env_of, Temps, Rel, Keeps, keeps_trans, keeps_step, val_keep}
 use Rattle.cajita_simulation.proofs.Changes.{pushed_keeps, rel_told, rel_unnamed, rel_named, named_keeps, named_there}
 use Rattle.cajita_simulation.proofs.Calls.{guard_match}
 use Rattle.cajita_simulation.proofs.Laws.{Gives, Cont, Cont', M}

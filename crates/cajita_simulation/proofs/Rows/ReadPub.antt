@@ -1,8 +1,8 @@
 -- `readPub`: what a module may read of a value.
-use Rattle.std.proofs.Common.{◌≡◌, ℕ, suc, ◌≤◌, Bool, true, false, List, [], ◌∷◌, Option, Some, None, cond, refl, sym, ap, ◌∙◌, subst, arith}
-use Rattle.std.specs.Prelude.{codes, length, pos, slice_get, ◌||◌}
+use Rattle.std.proofs.Common.{◌≡◌, ℕ, suc, ◌≤◌, true, false, List, [], ◌∷◌, Option, Some, None, cond, refl, sym, ap, ◌∙◌, subst, arith}
+use Rattle.std.specs.Prelude.{codes, length, pos, ◌||◌}
 use Rattle.std.specs.Cmp.Lexicographic.{same_text}
-use Rattle.plans.specs.Plans.{ends, bind}
+use Rattle.plans.specs.Plans.{bind}
 use Rattle.matching.proofs.Rules.{left_told}
 use Rattle.caja_units.specs.Units.{same_units, is_hidden}
 use Rattle.es3_heap.specs.declared.value.Value.TheVariants as es
