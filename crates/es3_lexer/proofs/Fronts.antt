@@ -26,10 +26,6 @@ pub first_front : (p : ℕ → Bool) (s : List ℕ) (d : ℕ) → 0 < length s �
 first_front p [] d lt h = absurd (omega arith)
 first_front p (c ∷ s) d lt h = h
 
-pub first_some : (p : ℕ → Bool) (s : List ℕ) → begins p s ≡ true → 0 < length s
-first_some p [] h = absurd cc
-first_some p (c ∷ s) h = omega arith
-
 pub backslash_front : (o : Bool) (s : List ℕ) (d : ℕ) → 0 < length s → get_or s 0 d ≡ 92 → point o s ≡ refuse escape_in_name
 backslash_front o [] d lt h = absurd (omega arith)
 backslash_front o (c ∷ s) d lt h = rw h (point_backslash o s)

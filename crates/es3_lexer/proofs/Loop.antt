@@ -19,12 +19,6 @@ pub fronts_front : (ts : List Placed) (t : Placed) (a : Answer) → fronts ts (f
 fronts_front ts t (Ok us) = ap (λ (w : List Placed). Ok w) (sym (append_assoc ts (t ∷ []) us))
 fronts_front ts t (Err e) = refl
 
-pub all_none : (p : ℕ) (l o : Bool) (s : List ℕ) → fronts [] (cut_from 0 p l o s) ≡ cut_from 0 p l o s
-all_none p l o s = fronts_none (cut_from 0 p l o s)
-
-drop_more : (s : List ℕ) (i k : ℕ) → drop k (drop i s) ≡ drop (i + k) s
-drop_more s i k = drop-drop k i s
-
 pub loop_skip : (ts : List Placed) (s w : List ℕ) (i p q k : ℕ) (l o m : Bool) (a : Answer) → w ≡ drop i s → i < length s → point o w ≡ skip m k → 0 < k → q ≡ p + width (take k w)
     → fronts ts (cut_from 0 p l o (drop i s)) ≡ a → fronts ts (cut_from 0 q (l || m) o (drop (i + k) s)) ≡ a
 loop_skip ts s w i p q k l o m a e lt h pos f g = by_rest ts s (drop i s) i p q k l o m a refl (omega (arith, length-drop i s)) (ap (point o) (sym e) ∙ h) pos (f ∙ ap (λ (w : List ℕ). p + width (take k w)) e) g

@@ -15,9 +15,6 @@ name_front o (c ∷ s) k n h e i =
     let f : suc (prefix_len is_part s) ≡ n = omega (arith, e) in
     point_name o c s h ∙ ap (λ j. accept (named (take j (c ∷ s))) j) f
 
-letter_small : (c : ℕ) → is_letter c ≡ true → c < 128
-letter_small c h = grind (arith, nat_tests)
-
 part_small : (c : ℕ) → is_part c ≡ true → c < 128
 part_small c h = grind (arith, nat_tests)
 

@@ -8,6 +8,7 @@ use crate::puncts::Punct;
 use crate::words::Word;
 use caja_num::Whole;
 use caja_units::{Memory, Units};
+use thiserror::Error;
 
 /// What a token is (ES3 7.5 to 7.8).
 #[derive(Debug, Drop)]
@@ -45,29 +46,40 @@ pub struct Tokens {
 }
 
 /// Why a source isn't cut. Each place is the byte where the token begins that can't be read, from 0.
-#[derive(Debug, Drop)]
+#[derive(Debug, Drop, Error)]
 pub enum LexError {
     /// The first byte of the first sequence that is not UTF-8.
+    #[error("byte {0} begins no UTF-8")]
     NotUtf8(u32),
     /// A character that begins no token.
+    #[error("the character at byte {0} begins no token")]
     BadChar(u32),
     /// A text that isn't closed before a line terminator or the end (ES3 7.8.4).
+    #[error("the text at byte {0} isn't closed")]
     OpenString(u32),
     /// `/*` with no `*/` (ES3 7.4).
+    #[error("the comment at byte {0} doesn't end")]
     OpenComment(u32),
     /// A text whose first fault is an escape that isn't one (ES3 7.8.4).
+    #[error("the text at byte {0} has an escape that isn't one")]
     BadEscape(u32),
     /// A point before a digit, or a number directly followed by a point or by part of a name (ES3 7.8.3).
+    #[error("the number at byte {0} is malformed")]
     NumberForm(u32),
     /// A number above 2^53 - 1.
+    #[error("the number at byte {0} is too large")]
     NumberTooLarge(u32),
     /// A backslash outside texts and comments (ES3 7.6).
+    #[error("a backslash stands at byte {0}")]
     EscapeInName(u32),
     /// A `/` where an operand is wanted (ES3 7.8.5).
+    #[error("a regular expression begins at byte {0}")]
     RegExp(u32),
     /// The source is longer than its limit; the place is 0.
+    #[error("the source is too long")]
     TooLong(u32),
     /// Memory is wanting.
+    #[error("out of memory")]
     Memory,
 }
 

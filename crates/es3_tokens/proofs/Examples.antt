@@ -2,6 +2,7 @@
 use Rattle.std.proofs.Common.{◌≡◌, [], ◌∷◌, Ok, Err, true, false, refl}
 use Rattle.std.specs.Prelude.{codes, pos}
 use Rattle.es3_tree.specs.Token.{name, word, punct, num, text}
+use Rattle.es3_tokens.specs.Back.{stays, spelled}
 use Rattle.es3_tokens.specs.Longest.{longest}
 use Rattle.es3_tokens.specs.Texts.{body}
 use Rattle.es3_tokens.specs.Tokens.{placed}
@@ -64,3 +65,49 @@ mark = refl
 past_ascii : cut_chars (97 ∷ 233 ∷ []) ≡ Err (bad_char, 1)
 unfolding longest body comment_end point cut_from
 past_ascii = refl
+
+-- and what stays before what follows it
+point_before_name : stays false (punct 6) (codes "x") ≡ true
+point_before_name = refl
+
+point_before_digit : stays false (punct 6) (codes "5") ≡ false
+point_before_digit = refl
+
+division_before_name : stays false (punct 46) (codes "b") ≡ true
+division_before_name = refl
+
+division_for_an_operand : stays true (punct 46) (codes "b") ≡ false
+division_for_an_operand = refl
+
+division_before_slash : stays false (punct 46) (codes "/b/") ≡ false
+division_before_slash = refl
+
+division_before_star : stays false (punct 46) (codes "*") ≡ false
+division_before_star = refl
+
+division_before_equals : stays false (punct 46) (codes "=") ≡ false
+division_before_equals = refl
+
+divided_assignment : stays false (punct 47) (codes "b") ≡ true
+divided_assignment = refl
+
+divided_assignment_for_an_operand : stays true (punct 47) (codes "b") ≡ false
+divided_assignment_for_an_operand = refl
+
+plus_before_plus : stays false (punct 17) (codes "+") ≡ false
+plus_before_plus = refl
+
+plus_before_space : stays false (punct 17) (codes " +") ≡ true
+plus_before_space = refl
+
+less_before_not : stays true (punct 9) (codes "!a") ≡ true
+less_before_not = refl
+
+name_before_digit : stays false (name (codes "a")) (codes "1") ≡ false
+name_before_digit = refl
+
+number_before_point : stays false (num (pos 1)) (codes ".x") ≡ false
+number_before_point = refl
+
+written : spelled ((false, word 15) ∷ (true, name (codes "x")) ∷ (false, punct 46) ∷ (false, text (codes "a\n")) ∷ []) ≡ codes "return x/\"a\\n\""
+written = refl

@@ -16,9 +16,6 @@ not_true : (b : Bool) → (b ≡ true → ⊥) → b ≡ false
 not_true true h = absurd (h refl)
 not_true false h = refl
 
-pub cut_long : (n : ℕ) (s : List ℕ) → n < length s → cut n s ≡ Err (too_long, 0)
-cut_long n s h = ap (λ b. if b then Err (too_long, 0) else if is_utf8 s then cut_chars (chars s) else Err (not_utf8, utf8_valid_len s)) (lt_test n (length s) h)
-
 pub cut_bad : (n : ℕ) (s : List ℕ) → length s ≤ n → (IsUtf8 s → ⊥) → cut n s ≡ Err (not_utf8, utf8_valid_len s)
 cut_bad n s h g =
     ap (λ b. if b then Err (too_long, 0) else if is_utf8 s then cut_chars (chars s) else Err (not_utf8, utf8_valid_len s)) (ge_test n (length s) h)
