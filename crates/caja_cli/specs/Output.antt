@@ -1,10 +1,10 @@
 -- What the program writes for its words and its input, and the status that it ends with.
-use Rattle.std.specs.Prelude.{ℕ, ◌++◌, Bool, false, List, [], ◌∷◌, Option, Some, None, length, nat_lt, codes, if◌then◌else◌}
+use Rattle.std.specs.Prelude.{ℕ, ◌++◌, Bool, false, List, [], ◌∷◌, length, nat_lt, codes, if◌then◌else◌}
 use Rattle.std.specs.Str.{bytes_eq}
 use Rattle.caja_units.specs.Index.{number_units}
 use Rattle.es3_tree.specs.Tree as t
 use Rattle.es3_printer.specs.Tokens.{printed}
-use Rattle.page_cajole.specs.Cajoled.{cajoled}
+use Rattle.page_cajole.specs.Cajoled.{Outcome, unread, broken, cajoled, outcome}
 use Rattle.page_runner.specs.declared.End.{End}
 use Rattle.page_runner.specs.declared.End.TheVariants as the_end
 use Rattle.page_runner.specs.Log.{main_name, line_end, page_log, page_end}
@@ -24,9 +24,9 @@ abbrev pub is_command : List (List ℕ) → Bool
 is_command (w ∷ []) = bytes_eq w (codes "solo")
 is_command words = false
 
--- `refused main STAGE 1 0`
-abbrev pub refusal : List ℕ → List ℕ
-refusal stage = codes "refused " ++ main_name ++ codes " " ++ stage ++ codes " 1 0" ++ line_end
+-- `refused main STAGE NUMBER PLACE`
+abbrev pub refusal : List ℕ → ℕ → ℕ → List ℕ
+refusal stage number place = codes "refused " ++ main_name ++ codes " " ++ stage ++ codes " " ++ number_units number ++ codes " " ++ number_units place ++ line_end
 
 -- `module main LENGTH`, and the text
 abbrev pub module_part : List ℕ → List ℕ
@@ -53,12 +53,13 @@ end_status the_end.Steps = status.Steps
 abbrev pub solo_parts : t.Tree t.program → List ℕ
 solo_parts p = module_part (printed p) ++ page_log p page_steps ++ end_line (page_end p page_steps)
 
-abbrev pub program_output : Option (t.Tree t.program) → List ℕ × Status
-program_output None = (refusal (codes "read"), status.Refused)
-program_output (Some p) = (solo_parts p, end_status (page_end p page_steps))
+abbrev pub source_output : Outcome → List ℕ × Status
+source_output unread = (refusal (codes "read") 1 0, status.Refused)
+source_output (broken number place) = (refusal (codes "rule") number place, status.Refused)
+source_output (cajoled p) = (solo_parts p, end_status (page_end p page_steps))
 
 abbrev pub solo_output : List ℕ → List ℕ × Status
-solo_output input = if nat_lt longest_input (length input) then (refusal (codes "input"), status.Refused) else program_output (cajoled input)
+solo_output input = if nat_lt longest_input (length input) then (refusal (codes "input") 1 0, status.Refused) else source_output (outcome input)
 
 -- what is written, and the status
 abbrev pub output : List (List ℕ) → List ℕ → List ℕ × Status

@@ -13,6 +13,8 @@ mod page_tests;
 mod solo;
 mod status;
 #[cfg(test)]
+mod table_tests;
+#[cfg(test)]
 mod tests;
 
 use caja_io::{InputFault, OutputFault, Sink, Source, read_all, write_all};

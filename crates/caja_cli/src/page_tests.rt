@@ -38,12 +38,26 @@ fn tail(output: &[u8], n: usize) -> &[u8] {
 fn a_module_is_answered_by_its_text_and_its_log(rt: HostRuntime) -> Result<(), Fail> {
     let alloc = rt.alloc();
     // The input, its first line, the length of its text, what stands behind the text, and the status.
-    let rows: [(&str, &str, usize, &str, Status); 3] = [
+    let rows: [(&str, &str, usize, &str, Status); 5] = [
         (
             "",
             "module main 86",
             86,
             "\nload main return undefined\nend done\n",
+            Status::Done,
+        ),
+        (
+            "var o = {x: 1}; o.x + 2;",
+            "module main 156",
+            156,
+            "\nload main return 3\nend done\n",
+            Status::Done,
+        ),
+        (
+            "'a' + {};",
+            "module main 128",
+            128,
+            "\nload main return \"a[object Object]\"\nend done\n",
             Status::Done,
         ),
         (
@@ -78,9 +92,18 @@ fn a_module_is_answered_by_its_text_and_its_log(rt: HostRuntime) -> Result<(), F
 #[test]
 fn an_input_that_is_no_module_is_refused(rt: HostRuntime) -> Result<(), Fail> {
     let alloc = rt.alloc();
-    let (status, output) = solo_run(alloc, b"if (a) b;")?;
-    assert_eq!(rt; status, Status::Refused);
-    assert_eq!(rt; output.as_slice(), b"refused main read 1 0\n".as_slice());
+    // The input, and the line.
+    let rows: [(&str, &str); 4] = [
+        ("if (a) b;", "refused main read 1 0\n"),
+        ("foo__;", "refused main rule 1 0\n"),
+        ("foo_;", "refused main rule 10 0\n"),
+        ("var o = {x: y};", "refused main rule 10 12\n"),
+    ];
+    for (input, line) in rows {
+        let (status, output) = solo_run(alloc, input.as_bytes())?;
+        assert_eq!(rt; status, Status::Refused, "{input}");
+        assert_eq!(rt; output.as_slice(), line.as_bytes(), "{input}");
+    }
     Ok(())
 }
 

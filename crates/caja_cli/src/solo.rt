@@ -1,15 +1,15 @@
 // The command `solo`: one module, without grants, events and document.
 
-ghost use Rattle.std.specs.Prelude.{◌≡◌, IfOk, codes};
-ghost use Rattle.page_cajole.specs.Cajoled.{cajoled};
+ghost use Rattle.std.specs.Prelude.{◌≡◌, IfOk};
+ghost use Rattle.page_cajole.specs.Cajoled.{outcome};
 ghost use Rattle.es3_tree.specs.View.{program};
 ghost use Rattle.es3_printer.specs.Tokens.{printed};
-ghost use Rattle.caja_cli.specs.Output.{program_output, solo_parts, end_line as end_line_of, end_status as end_status_of, module_part, refusal, page_steps};
+ghost use Rattle.caja_cli.specs.Output.{source_output, solo_parts, end_line as end_line_of, end_status as end_status_of, module_part, refusal, page_steps};
 ghost use Rattle.page_runner.specs.Log.{page_log, page_end};
 
 use crate::status::Status;
 use caja_units::Memory;
-use page_cajole::{CajoledModule, cajole};
+use page_cajole::{Answer, CajoledModule, cajole};
 use page_runner::{End, run_page};
 use std::alloc::Global;
 
@@ -18,21 +18,30 @@ const PAGE_STEPS: u64 = 64_000_000;
 
 /// What is written for an input, and the status.
 pub fn solo(alloc: Global, input: &[u8]) -> Result<(Vec<u8>, Status), Memory>
-    ensures text { IfOk result (λ r. r.0.items ≡ (program_output (cajoled input.now)).0) }
-    ensures status { IfOk result (λ r. r.1 ≡ (program_output (cajoled input.now)).1) }
+    ensures text { IfOk result (λ r. r.0.items ≡ (source_output (outcome input.now)).0) }
+    ensures status { IfOk result (λ r. r.1 ≡ (source_output (outcome input.now)).1) }
 {
     match cajole(alloc, input)? {
-        None => refused(alloc),
-        Some(main) => run(alloc, main),
+        Answer::Unread => refused(alloc, "read", 1, 0),
+        Answer::Broken(number, place) => refused(alloc, "rule", number, place),
+        Answer::Module(main) => run(alloc, main),
     }
 }
 
-/// What is written for an input that is no module.
-fn refused(alloc: Global) -> Result<(Vec<u8>, Status), Memory>
-    ensures text { IfOk result (λ r. r.0.items ≡ refusal (codes "read")) }
+/// What is written for an input that a stage refuses: the stage, the number of the refusal there, and its byte.
+fn refused(alloc: Global, stage: &str, number: u8, place: u32) -> Result<(Vec<u8>, Status), Memory>
+    ensures text { IfOk result (λ r. r.0.items ≡ refusal stage.now number place) }
     ensures status { IfOk result (λ r. r.1 ≡ Status.Refused) }
 {
-    let line = Vec::from_slice(alloc, b"refused main read 1 0\n")?;
+    let mut line = Vec::from_slice(alloc, b"refused main ")?;
+    line.extend_from_slice(stage.as_bytes())?;
+    line.push(b' ')?;
+    let number = number.to_string(alloc)?;
+    line.extend_from_slice(number.as_bytes())?;
+    line.push(b' ')?;
+    let place = place.to_string(alloc)?;
+    line.extend_from_slice(place.as_bytes())?;
+    line.push(b'\n')?;
     Ok((line, Status::Refused))
 }
 

@@ -1,0 +1,203 @@
+//! Sources at the edges of the first language, each with the exact output.
+
+use super::*;
+use caja_io::{MemSink, MemSource};
+use std::test::Fail;
+
+/// What stands before the statements of a module in its cajoled text.
+const BEFORE: &str = "___.loadModule(function(___,IMPORTS___){var moduleResult___;";
+
+/// What stands behind them.
+const BEHIND: &str = "return moduleResult___;});";
+
+/// A source, its cajoled statements, and what stands behind the text; a refused source has a line alone.
+type Row = (&'static str, &'static str, &'static str);
+
+static ROWS: [Row; 69] = [
+    (
+        "'a' + {};",
+        "moduleResult___=\"a\"+___.initializeMap([]);",
+        "load main return \"a[object Object]\"\nend done\n",
+    ),
+    (
+        "\"a\";",
+        "moduleResult___=\"a\";",
+        "load main return \"a\"\nend done\n",
+    ),
+    (
+        "'';",
+        "moduleResult___=\"\";",
+        "load main return \"\"\nend done\n",
+    ),
+    (
+        "\"it's\";",
+        "moduleResult___=\"it's\";",
+        "load main return \"it's\"\nend done\n",
+    ),
+    (
+        "'a \"b\"';",
+        "moduleResult___=\"a \\\"b\\\"\";",
+        "load main return \"a \\\"b\\\"\"\nend done\n",
+    ),
+    (
+        "'<~ >';",
+        "moduleResult___=\"\\x3C~ \\x3E\";",
+        "load main return \"\\x3C~ \\x3E\"\nend done\n",
+    ),
+    (
+        "1 + 'a' + 2;",
+        "moduleResult___=1+\"a\"+2;",
+        "load main return \"1a2\"\nend done\n",
+    ),
+    (
+        "var a; 'a' + a;",
+        "var a;moduleResult___=\"a\"+a;",
+        "load main return \"aundefined\"\nend done\n",
+    ),
+    (
+        "'a'.x;",
+        "moduleResult___=___.readPub(\"a\",\"x\");",
+        "load main return undefined\nend done\n",
+    ),
+    (
+        "({x: 'y'}).x;",
+        "moduleResult___=___.readPub(___.initializeMap([\"x\",\"y\"]),\"x\");",
+        "load main return \"y\"\nend done\n",
+    ),
+    (
+        "'a__' + \"undefined\";",
+        "moduleResult___=\"a__\"+\"undefined\";",
+        "load main return \"a__undefined\"\nend done\n",
+    ),
+    ("'a\";", "", "refused main read 1 0\n"),
+    ("'a", "", "refused main read 1 0\n"),
+    ("'", "", "refused main read 1 0\n"),
+    ("'\\n';", "", "refused main read 1 0\n"),
+    ("'\t';", "", "refused main read 1 0\n"),
+    ("'\x7F';", "", "refused main read 1 0\n"),
+    ("({'a': 1});", "", "refused main read 1 0\n"),
+    (
+        "9007199254740991;",
+        "moduleResult___=9007199254740991;",
+        "load main return 9007199254740991\nend done\n",
+    ),
+    ("9007199254740992;", "", "refused main read 1 0\n"),
+    ("01;", "", "refused main read 1 0\n"),
+    ("1.x;", "", "refused main read 1 0\n"),
+    (
+        "1 .x;",
+        "moduleResult___=___.readPub(1,\"x\");",
+        "load main return undefined\nend done\n",
+    ),
+    (
+        "((((((((((((((((((((((((((((((1))))))))))))))))))))))))))))));",
+        "moduleResult___=1;",
+        "load main return 1\nend done\n",
+    ),
+    (
+        "(((((((((((((((((((((((((((((((1)))))))))))))))))))))))))))))));",
+        "",
+        "refused main read 1 0\n",
+    ),
+    (
+        "1+1+1+1+1+1+1+1+1+1+1+1+1+1+1+1+1+1+1+1+1+1+1+1+1+1+1+1+1+1+1;",
+        "moduleResult___=1+1+1+1+1+1+1+1+1+1+1+1+1+1+1+1+1+1+1+1+1+1+1+1+1+1+1+1+1+1+1;",
+        "load main return 31\nend done\n",
+    ),
+    (
+        "1+1+1+1+1+1+1+1+1+1+1+1+1+1+1+1+1+1+1+1+1+1+1+1+1+1+1+1+1+1+1+1;",
+        "",
+        "refused main read 1 0\n",
+    ),
+    (
+        "var aaaaaaaaaaaaaaaaaaaaaaaaaaaaaaaaaaaaaaaaaaaaaaaaaaaaaaaaaaaaaaaaaaaaaaaaaaaaaaaaaaaaaaaaaaaaaaaaaaaaaaaaaaaaaaaaaaaaaaaaaaaaaaaaaaaaaaaaaaaaaaaaaaaaaaaaaaaaaaaaaaaaaaaaaaaaaaaaaaaaaaaaaaaaaaaaaaaaaaaa; aaaaaaaaaaaaaaaaaaaaaaaaaaaaaaaaaaaaaaaaaaaaaaaaaaaaaaaaaaaaaaaaaaaaaaaaaaaaaaaaaaaaaaaaaaaaaaaaaaaaaaaaaaaaaaaaaaaaaaaaaaaaaaaaaaaaaaaaaaaaaaaaaaaaaaaaaaaaaaaaaaaaaaaaaaaaaaaaaaaaaaaaaaaaaaaaaaaaaaaa;",
+        "var aaaaaaaaaaaaaaaaaaaaaaaaaaaaaaaaaaaaaaaaaaaaaaaaaaaaaaaaaaaaaaaaaaaaaaaaaaaaaaaaaaaaaaaaaaaaaaaaaaaaaaaaaaaaaaaaaaaaaaaaaaaaaaaaaaaaaaaaaaaaaaaaaaaaaaaaaaaaaaaaaaaaaaaaaaaaaaaaaaaaaaaaaaaaaaaaaaaaaaaa;moduleResult___=aaaaaaaaaaaaaaaaaaaaaaaaaaaaaaaaaaaaaaaaaaaaaaaaaaaaaaaaaaaaaaaaaaaaaaaaaaaaaaaaaaaaaaaaaaaaaaaaaaaaaaaaaaaaaaaaaaaaaaaaaaaaaaaaaaaaaaaaaaaaaaaaaaaaaaaaaaaaaaaaaaaaaaaaaaaaaaaaaaaaaaaaaaaaaaaaaaaaaaaa;",
+        "load main return undefined\nend done\n",
+    ),
+    (
+        "var length; length;",
+        "var length;moduleResult___=length;",
+        "load main return undefined\nend done\n",
+    ),
+    (
+        "a; var a; var a;",
+        "moduleResult___=a;var a;var a;",
+        "load main return undefined\nend done\n",
+    ),
+    (
+        "({length: 1, say: 2}).say;",
+        "moduleResult___=___.readPub(___.initializeMap([\"length\",1,\"say\",2]),\"say\");",
+        "load main return 2\nend done\n",
+    ),
+    (
+        "({_: {}});",
+        "moduleResult___=___.initializeMap([\"_\",___.initializeMap([])]);",
+        "load main return record main#1\nend done\n",
+    ),
+    (
+        "var a; a.say;",
+        "var a;moduleResult___=___.readPub(a,\"say\");",
+        "load main throw error main#0 TypeError \"no object\"\nend done\n",
+    ),
+    ("var a; a.length;", "", "refused main read 1 0\n"),
+    ("({}).charAt;", "", "refused main read 1 0\n"),
+    ("var undefined;", "", "refused main read 1 0\n"),
+    ("say;", "", "refused main read 1 0\n"),
+    ("({x: Math});", "", "refused main read 1 0\n"),
+    ("({x: 1, x: 2});", "", "refused main read 1 0\n"),
+    ("({x: a, x__: 1, x: 2});", "", "refused main read 1 0\n"),
+    ("({eval: 1});", "", "refused main read 1 0\n"),
+    ("({}).toString;", "", "refused main read 1 0\n"),
+    ("var if;", "", "refused main read 1 0\n"),
+    ("var arguments;", "", "refused main read 1 0\n"),
+    ("var x, y;", "", "refused main read 1 0\n"),
+    ("{};", "", "refused main read 1 0\n"),
+    (";", "", "refused main read 1 0\n"),
+    ("a", "", "refused main read 1 0\n"),
+    ("({x: 1,});", "", "refused main read 1 0\n"),
+    ("a = 1;", "", "refused main read 1 0\n"),
+    ("a['x'];", "", "refused main read 1 0\n"),
+    ("foo__;", "", "refused main rule 1 0\n"),
+    ("__;", "", "refused main rule 1 0\n"),
+    ("var foo__;", "", "refused main rule 1 4\n"),
+    ("var a; a.b__;", "", "refused main rule 1 9\n"),
+    ("({a__: 1});", "", "refused main rule 1 2\n"),
+    ("var a = {x: {y__: 1}};", "", "refused main rule 1 13\n"),
+    ("foo_;", "", "refused main rule 10 0\n"),
+    ("length;", "", "refused main rule 10 0\n"),
+    ("({x: y});", "", "refused main rule 10 5\n"),
+    ("var o = {x: {y: z}};", "", "refused main rule 10 16\n"),
+    ("var a = b;", "", "refused main rule 10 8\n"),
+    ("1 + (a);", "", "refused main rule 10 5\n"),
+    ("\n a.x;", "", "refused main rule 10 2\n"),
+    ("b; c__;", "", "refused main rule 10 0\n"),
+    ("c__; b;", "", "refused main rule 1 0\n"),
+    ("x__ + y;", "", "refused main rule 1 0\n"),
+    ("({a: b, c__: 1});", "", "refused main rule 10 5\n"),
+    ("a.b__;", "", "refused main rule 10 0\n"),
+];
+
+/// The whole output of a row.
+fn wanted(alloc: Global, row: &Row) -> Result<String, Fail> {
+    let (_, statements, end) = *row;
+    if statements.is_empty() {
+        return Ok(String::from_str(alloc, end)?);
+    }
+    let text = format!(in alloc; "{BEFORE}{statements}{BEHIND}")?;
+    let length = text.len();
+    Ok(format!(in alloc; "module main {length}\n{text}\n{end}")?)
+}
+
+#[test]
+fn each_source_has_its_output(rt: HostRuntime) -> Result<(), Fail> {
+    let alloc = rt.alloc();
+    let words = vec![in alloc; String::from_str(alloc, "solo")?]?;
+    for row in ROWS.iter() {
+        let mut source = MemSource::new(row.0.as_bytes().to_vec(alloc)?, 4096, Vec::new(alloc));
+        let mut sink = MemSink::new(4096, vec![in alloc; 0; 1024]?, Vec::new(alloc));
+        let status = caja(&words, &mut source, &mut sink, alloc);
+        assert_eq!(rt; sink.written(), wanted(alloc, row)?.as_bytes(), "{}", row.0);
+        assert_eq!(rt; status == Status::Refused, row.1.is_empty(), "{}", row.0);
+    }
+    Ok(())
+}
