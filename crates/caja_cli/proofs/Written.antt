@@ -1,15 +1,31 @@
 -- What a call wrote, by how far it came: an input that is too long, or an input that was read.
 use Rattle.std.specs.Prelude.{codes, IfSome}
-use Rattle.std.proofs.Common.{◌≡◌, ℕ, ◌+◌, ◌<◌, ◌≤◌, true, List, Option, Some, None, length, refl, sym, ap, subst, ◌∙◌, arith}
+use Rattle.std.proofs.Common.{◌≡◌, ℕ, ◌+◌, ◌<◌, ◌≤◌, true, List, [], ◌∷◌, ◌++◌, Option, Some, None, length, refl, sym, ap, subst, ◌∙◌, arith}
 use Rattle.std.proofs.Math.ListN.{replicate}
 use Rattle.std.proofs.lemmas.List.{length-replicate}
 use Rattle.std.proofs.lemmas.Bool.{lt-ltb, le-ltb}
+use Rattle.std.proofs.lemmas.Fmt.{decimal_digit}
+use Rattle.caja_units.specs.Index.{number_units}
+use Rattle.page_runner.specs.Log.{main_name, line_end}
 use Rattle.page_cajole.specs.Cajoled.{outcome}
 use Rattle.caja_io.specs.Sink.{Appends, AppendsPart}
 use Rattle.caja_cli.specs.Output.{output, source_output, refusal, is_command, longest_input}
 use Rattle.caja_cli.specs.Answered.{IsLeft, Wrote, WrotePart}
 use Rattle.caja_cli.specs.declared.status.Status.{Status}
 use Rattle.caja_cli.specs.declared.status.Status.TheVariants.{Refused}
+
+-- the line for an input that is too long, as it is written
+abbrev too_long_text : List ℕ
+too_long_text = codes "refused main input 1 0" ++ line_end
+
+refused_at : List ℕ → List ℕ → List ℕ
+refused_at number place = codes "refused " ++ main_name ++ codes " " ++ codes "input" ++ codes " " ++ number ++ codes " " ++ place ++ line_end
+
+too_long_line : refusal (codes "input") 1 0 ≡ too_long_text
+unfolding refused_at
+too_long_line =
+    ap (λ (n : List ℕ). refused_at n (number_units 0)) (decimal_digit 1 (omega arith))
+    ∙ ap (refused_at (49 ∷ [])) (decimal_digit 0 (omega arith))
 
 output-too_long : (words : List (List ℕ)) (input : List ℕ) → is_command words ≡ true → longest_input < length input → output words input ≡ (refusal (codes "input") 1 0, Refused)
 output-too_long words input command far = rw (command, lt-ltb longest_input (length input) far) refl
@@ -31,7 +47,7 @@ is_left : (left : Option (List ℕ)) (input : List ℕ) → IfSome left (λ all.
 is_left (Some all) input e = sym e
 is_left None input _ = tt
 
-pub wrote-too_long : (words : List (List ℕ)) (status : Status) (left left' written written' : Option (List ℕ)) → is_command words ≡ true → IfSome left (λ all. longest_input < length all) → Appends written written' (refusal (codes "input") 1 0) → status ≡ Refused → Wrote words status left left' written written'
+pub wrote-too_long : (words : List (List ℕ)) (status : Status) (left left' written written' : Option (List ℕ)) → is_command words ≡ true → IfSome left (λ all. longest_input < length all) → Appends written written' too_long_text → status ≡ Refused → Wrote words status left left' written written'
 wrote-too_long words status left left' written written' command far bytes refused =
     let l = longer longest_input left far in
     let e = output-too_long words l.input command l.far in
@@ -40,17 +56,17 @@ wrote-too_long words status left left' written written' command far bytes refuse
       input = l.input;
       of_source = λ _. l.of_source;
       read = λ _ near. absurd (omega (arith, beyond, near));
-      bytes = subst (λ (o : List ℕ × Status). Appends written written' o.0) (sym e) bytes;
+      bytes = subst (λ (o : List ℕ × Status). Appends written written' o.0) (sym e) (subst (λ (b : List ℕ). Appends written written' b) (sym too_long_line) bytes);
       result = ap (λ (o : List ℕ × Status). o.1) e ∙ sym refused;
     }
 
-pub wrote_part-too_long : (words : List (List ℕ)) (left written written' : Option (List ℕ)) → is_command words ≡ true → IfSome left (λ all. longest_input < length all) → AppendsPart written written' (refusal (codes "input") 1 0) → WrotePart words left written written'
+pub wrote_part-too_long : (words : List (List ℕ)) (left written written' : Option (List ℕ)) → is_command words ≡ true → IfSome left (λ all. longest_input < length all) → AppendsPart written written' too_long_text → WrotePart words left written written'
 wrote_part-too_long words left written written' command far part =
     let l = longer longest_input left far in
     record {
       input = l.input;
       of_source = λ _. l.of_source;
-      bytes = subst (λ (o : List ℕ × Status). AppendsPart written written' o.0) (sym (output-too_long words l.input command l.far)) part;
+      bytes = subst (λ (o : List ℕ × Status). AppendsPart written written' o.0) (sym (output-too_long words l.input command l.far)) (subst (λ (b : List ℕ). AppendsPart written written' b) (sym too_long_line) part);
     }
 
 pub wrote_part-read : (words : List (List ℕ)) (left written written' : Option (List ℕ)) (all input text bytes : List ℕ) → is_command words ≡ true → IfSome left (λ told. all ≡ told) → length all ≤ longest_input → input ≡ all → text ≡ (source_output (outcome input)).0 → bytes ≡ text → AppendsPart written written' bytes → WrotePart words left written written'

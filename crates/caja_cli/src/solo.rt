@@ -29,12 +29,7 @@ pub fn solo(alloc: Global, input: &[u8]) -> Result<(Vec<u8>, Status), Memory>
 }
 
 /// What is written for an input that a stage refuses: the stage, the number of the refusal there, and its byte.
-fn refused(
-    alloc: Global,
-    stage: &str,
-    number: u8,
-    place: u32,
-) -> Result<(Vec<u8>, Status), Memory>
+fn refused(alloc: Global, stage: &str, number: u8, place: u32) -> Result<(Vec<u8>, Status), Memory>
     ensures text { IfOk result (λ r. r.0.items ≡ refusal stage.now number place) }
     ensures status { IfOk result (λ r. r.1 ≡ Status.Refused) }
 {
