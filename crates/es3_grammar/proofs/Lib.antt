@@ -1,0 +1,6 @@
+pub mod Tables
+pub mod Follow
+pub mod First
+pub mod Complete
+pub mod OneTree
+pub mod Examples

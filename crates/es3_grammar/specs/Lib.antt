@@ -1,0 +1,5 @@
+pub mod Spots
+pub mod Levels
+pub mod Grammar
+pub mod Frames
+pub mod Machine
