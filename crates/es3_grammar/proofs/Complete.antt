@@ -552,7 +552,6 @@ complete _ _ _ _ _ (s_more_stmts l s ss u v h i) = λ o acc f k le n. at u v k (
     ∙ ap (λ z. run k (start (body o z ∷ f))) (append_assoc acc (s ∷ []) (stmts_in ss))
 complete _ _ _ _ _ (s_declaration a m ps inner ss u v h i) = λ o acc f k le n. declared o acc f a ((u ++ v) ++ k) le ∙ at u v k (func true a (body o acc ∷ f))
     ∙ complete _ _ _ _ _ h true (body o acc ∷ f) (v ++ k) refl
-    ∙ takes_statement o acc (tree.declare (tree.fun (Some m) ps inner a)) f (v ++ k)
     ∙ complete _ _ _ _ _ i o (acc ++ tree.declare (tree.fun (Some m) ps inner a) ∷ []) f k le n
     ∙ ap (λ z. run k (start (body o z ∷ f))) (append_assoc acc (tree.declare (tree.fun (Some m) ps inner a) ∷ []) (stmts_in ss))
 complete _ _ _ _ _ (s_script ss u h) = ap (λ (v : List Spot). run v beginning) (sym (append-nil u)) ∙ complete _ _ _ _ _ h a_program [] [] [] (omega arith) tt ∙ ap (λ z. whole (tree.script z)) (stmts_back ss)

@@ -98,9 +98,11 @@ param_end_step h ps k c = if is comma c then Some (param h ps k) else when (is c
 abbrev pub func_of : Head → List Word → List S → Placed t.func
 func_of h ps ss = tree.fun h.called ps (stmts_of ss) h.begins
 
+-- a declaration is one more statement of its list
 abbrev pub func_made : Bool → Placed t.func → Stack → State
-func_made true f k = ended (tree.declare f) k
 func_made false f k = have (tree.function f) k
+func_made true f (body b ss ∷ k) = start (body b (ss ++ tree.declare f ∷ []) ∷ k)
+func_made true f k = start k
 
 -- ---- behind an expression
 
