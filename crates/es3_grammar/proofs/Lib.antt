@@ -4,3 +4,5 @@ pub mod First
 pub mod Complete
 pub mod OneTree
 pub mod Examples
+pub mod Longer
+pub mod Stands
