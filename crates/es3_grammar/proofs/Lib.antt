@@ -6,3 +6,4 @@ pub mod OneTree
 pub mod Examples
 pub mod Longer
 pub mod Stands
+pub mod SoundParts
