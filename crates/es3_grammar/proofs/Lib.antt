@@ -7,3 +7,4 @@ pub mod Examples
 pub mod Longer
 pub mod Stands
 pub mod SoundParts
+pub mod SoundExpr

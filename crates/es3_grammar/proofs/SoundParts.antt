@@ -82,7 +82,7 @@ pub asked_within : (g : Frame) (f : Stack) (L : List Spot → Type 0) (u : List 
 asked_within g f L u o = o.2.4
 
 -- the same, and then a token
-closing_to : (g : Frame) (f : Stack) (L M : List Spot → Type 0) (u : List Spot) (c : Spot) → Over (g ∷ f) L u → ((v w : List Spot) → Leads f g v → L w → M (v ++ (w ++ c ∷ []))) → Over f M (u ++ c ∷ [])
+pub closing_to : (g : Frame) (f : Stack) (L M : List Spot → Type 0) (u : List Spot) (c : Spot) → Over (g ∷ f) L u → ((v w : List Spot) → Leads f g v → L w → M (v ++ (w ++ c ∷ []))) → Over f M (u ++ c ∷ [])
 closing_to g f L M u c o h = inward g f (λ z. (w : List Spot) × L w × (z ≡ w ++ c ∷ [])) M (u ++ c ∷ []) (over_on (g ∷ f) L _ u (c ∷ []) o (λ w p. (w, p, refl))) (λ v z i p. subst (λ (q : List Spot). M (v ++ q)) (sym p.2) (h v p.0 i p.1))
 
 -- ---- levels
@@ -184,18 +184,18 @@ shift_sound (a_step up) f c n x u s o is_i le h e = when_so (is_target x) (past 
     (over_on f (Part (bars_of f) n x) _ u (c ∷ []) o (λ w p. (subst (λ (z : Token). Spells t.expr (bars_of f) 14 (tree.step up false x) (w ++ (z, c.1) ∷ [])) (sym (step_is (no_in_here f) c.0 up is_i))
         (s_postfix (bars_of f) 14 c.1 up x w (omega arith) g (part_of (bars_of f) n 15 x w p (p.high g))), refl)), le))
 
-shifted_sound : (o : Option Infix) (f : Stack) (c : Spot) (n : ℕ) (x : E) (u : List Spot) (s : State) → infix_of (no_in_here f) c.0 ≡ o → Over f (Part (bars_of f) n x) u → ((i : Infix) → o ≡ Some i → asked f ≤ infix_own i)
+pub shifted_sound : (o : Option Infix) (f : Stack) (c : Spot) (n : ℕ) (x : E) (u : List Spot) (s : State) → infix_of (no_in_here f) c.0 ≡ o → Over f (Part (bars_of f) n x) u → ((i : Infix) → o ≡ Some i → asked f ≤ infix_own i)
     → soft_in o ≤ n → shifted o x f ≡ Some s → StandsFor s (u ++ c ∷ [])
 shifted_sound None f c n x u s is_o st le h e = none_some s e
 shifted_sound (Some i) f c n x u s is_o st le h e = shift_sound i f c n x u s st is_o (le i refl) h e
 
-bound : (o : Option Infix) (f : Frame) → binds o f ≡ true → (i : Infix) → o ≡ Some i → asks f ≤ infix_own i
+pub bound : (o : Option Infix) (f : Frame) → binds o f ≡ true → (i : Infix) → o ≡ Some i → asks f ≤ infix_own i
 bound None f b i e = none_some i e
 bound (Some j) f b i e = subst (λ (k : Infix). asks f ≤ infix_own k) (some_is j i e) (leb-true (asks f) (infix_own j) b)
 
 -- ---- a frame that is filled
 
-filled_in : (f : Frame) (fs : Stack) (x y : E) → filled f x ≡ Some y → no_in_here (f ∷ fs) ≡ no_in_here fs
+pub filled_in : (f : Frame) (fs : Stack) (x y : E) → filled f x ≡ Some y → no_in_here (f ∷ fs) ≡ no_in_here fs
 filled_in new_of fs x y e = refl
 filled_in (prefix_step up) fs x y e = refl
 filled_in (prefix op a) fs x y e = refl
