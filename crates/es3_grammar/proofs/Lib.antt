@@ -8,3 +8,4 @@ pub mod Longer
 pub mod Stands
 pub mod SoundParts
 pub mod SoundExpr
+pub mod SoundFunctions
