@@ -9,3 +9,4 @@ pub mod Stands
 pub mod SoundParts
 pub mod SoundExpr
 pub mod SoundFunctions
+pub mod Sound

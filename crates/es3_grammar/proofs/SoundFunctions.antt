@@ -28,7 +28,7 @@ longer_body f o ss x u h = over_frame (body o (ss ++ x ∷ [])) f u
     (inward (body o ss) f (Spells t.stmt free 0 x) (Leads f (body o (ss ++ x ∷ []))) u h (λ v w i p. (i.0, i.1 ++ w, i.2, stmts_so (of_bool (holds o)) ss i.1 x w i.3 p, ap (λ z. z ++ w) i.4 ∙ append_assoc i.0 i.1 w)))
     (asked_within (body o ss) f _ u h)
 
-open_sound : (o : Opened) (xs : List E) (f : Stack) (c : Spot) (u : List Spot) (s : State) → StandsFor (listed o xs f) u → open_step o xs f c ≡ Some s → StandsFor s (u ++ c ∷ [])
+pub open_sound : (o : Opened) (xs : List E) (f : Stack) (c : Spot) (u : List Spot) (s : State) → StandsFor (listed o xs f) u → open_step o xs f c ≡ Some s → StandsFor s (u ++ c ∷ [])
 open_sound o xs f c u s st e = token_or (closer o) c (have (closed_list o xs) f) _ s u e (whole o xs st)
     (λ e g. within_sound (items o xs) f c s u (over_frame (items o xs) f u st.0 (let a = asked_fits f in omega arith)) tt e)
   where
@@ -47,7 +47,7 @@ open_sound o xs f c u s st e = token_or (closer o) c (have (closed_list o xs) f)
           (sym (ap (λ k. k ++ (close_bracket, c.1) ∷ []) (i.4 ∙ ap (λ k. k ++ i.1) i.2.1 ∙ ap (λ k. (open_bracket, i.2.0) ∷ k) r.3) ∙ ap (λ k. (open_bracket, i.2.0) ∷ k) (append_assoc r.0 ((comma, r.1) ∷ []) ((close_bracket, c.1) ∷ []))))
           (s_array_comma (bars_of f) 16 i.2.0 c.1 r.1 (exprs_of (x ∷ xs)) r.0 (omega arith) r.2))
 
-key_sound : (fs : List Field) (f : Stack) (c : Spot) (u : List Spot) (s : State) → StandsFor (key fs f) u → key_step fs f c ≡ Some s → StandsFor s (u ++ c ∷ [])
+pub key_sound : (fs : List Field) (f : Stack) (c : Spot) (u : List Spot) (s : State) → StandsFor (key fs f) u → key_step fs f c ≡ Some s → StandsFor s (u ++ c ∷ [])
 key_sound fs f c u s st e = elim (chosen (is close_brace c) (when (none_yet fs) (have (tree.object tree.no_fields) f)) (keyed fs f (key_of c)) (Some s) e) [
     | inl g ↦ when_so (none_yet fs) (have (tree.object tree.no_fields) f) s (u ++ c ∷ []) g.1 (λ h. empty_one fs h st (spot_is close_brace c g.0))
     | inr g ↦ at_key (key_of c) refl g.1 ]
@@ -63,7 +63,7 @@ key_sound fs f c u s st e = elim (chosen (is close_brace c) (when (none_yet fs) 
         (over_frame (field fs n) f _ (subst (λ (z : List Spot). Over f (Leads f (field fs n)) z) (sym (append_assoc u (c ∷ []) ((colon, m.0) ∷ [])))
           (over_on f _ (Leads f (field fs n)) u (c ∷ (colon, m.0) ∷ []) st (λ w i. (i.0, c, i.1, m.0, i.2, k, ap (λ z. z ++ c ∷ (colon, m.0) ∷ []) i.3)))) (let a = asked_fits f in omega arith), tt)))
 
-member_sound : (x : E) (f : Stack) (c : Spot) (u : List Spot) (s : State) → StandsFor (member x f) u → member_step x f c ≡ Some s → StandsFor s (u ++ c ∷ [])
+pub member_sound : (x : E) (f : Stack) (c : Spot) (u : List Spot) (s : State) → StandsFor (member x f) u → member_step x f c ≡ Some s → StandsFor s (u ++ c ∷ [])
 member_sound x f (name us, a) u s st e = the_state _ _ s e (over_on f _ _ u _ st (λ w i. subst (λ z. Spells t.expr (bars_of f) 16 (tree.dot x (placed_word us a)) z) (sym (ap (λ z. z ++ (name us, a) ∷ []) i.3 ∙ append_assoc i.0 ((point, i.1) ∷ []) ((name us, a) ∷ [])))
     (s_dot (bars_of f) 16 i.1 x (placed_word us a) i.0 (omega arith) i.2)))
 member_sound x f _ u s st e = none_some s e
@@ -81,7 +81,7 @@ unnamed_head true b c a f u s g st e = none_some s e
 unnamed_head false true c a f u s g st e = the_state _ _ s e (subst (λ (z : Spot). Over f (HeadTokens (head false None a)) (u ++ z ∷ [])) (sym (spot_is open_paren c g)) (head_so f false None a c.1 u tt st.0), st.1)
 unnamed_head false false c a f u s g st e = none_some s e
 
-func_sound : (d : Bool) (a : ℕ) (f : Stack) (c : Spot) (u : List Spot) (s : State) → StandsFor (func d a f) u → func_step d a f c ≡ Some s → StandsFor s (u ++ c ∷ [])
+pub func_sound : (d : Bool) (a : ℕ) (f : Stack) (c : Spot) (u : List Spot) (s : State) → StandsFor (func d a f) u → func_step d a f c ≡ Some s → StandsFor s (u ++ c ∷ [])
 func_sound d a f (name us, b) u s st e = the_state _ _ s e (λ q h. (let m = one_mark open_paren q h in
     subst (λ (z : List Spot). Over f (HeadTokens (head d (Some (placed_word us b)) a)) ((u ++ (name us, b) ∷ []) ++ z) × FuncPlace d f a) (sym m.1)
     (subst (λ (z : List Spot). Over f (HeadTokens (head d (Some (placed_word us b)) a)) z) (sym (append_assoc u ((name us, b) ∷ []) ((open_paren, m.0) ∷ []))) (head_so f d (Some (placed_word us b)) a m.0 u (named_any d (placed_word us b)) st.0), st.1)))
@@ -101,7 +101,7 @@ bodied_so h ps f a u pl o = λ q e. (let m = one_mark open_brace q e in
 no_params : (h : Head) (f : Stack) (c : Spot) (u : List Spot) (s : State) → StandsFor (params h f) u → when (is close_paren c) (bodied h [] f) ≡ Some s → StandsFor s (u ++ c ∷ [])
 no_params h f c u s st e = token_so close_paren c (bodied h [] f) s u e (bodied_so h [] f c.1 u st.1 (over_as f _ _ u st.0 (λ w i. (w, [], i, no_name, sym (append-nil w)))))
 
-params_sound : (h : Head) (f : Stack) (c : Spot) (u : List Spot) (s : State) → StandsFor (params h f) u → params_step h f c ≡ Some s → StandsFor s (u ++ c ∷ [])
+pub params_sound : (h : Head) (f : Stack) (c : Spot) (u : List Spot) (s : State) → StandsFor (params h f) u → params_step h f c ≡ Some s → StandsFor s (u ++ c ∷ [])
 params_sound h f (name us, b) u s st e = the_state _ _ s e (over_on f _ (Parameters h (placed_word us b ∷ [])) u _ st.0 (λ w i. (w, (name us, b) ∷ [], i, one_name (placed_word us b), λ z. cc, refl)), st.1)
 params_sound h f (word n, b) u s st e = no_params h f (word n, b) u s st e
 params_sound h f (punct n, b) u s st e = no_params h f (punct n, b) u s st e
@@ -112,13 +112,13 @@ not_empty : (ps : List Word) (n : Word) → ps ++ n ∷ [] ≡ [] → ⊥
 not_empty [] n e = cc
 not_empty (p ∷ ps) n e = cc
 
-param_sound : (h : Head) (ps : List Word) (f : Stack) (c : Spot) (u : List Spot) (s : State) → StandsFor (param h ps f) u → param_step h ps f c ≡ Some s → StandsFor s (u ++ c ∷ [])
+pub param_sound : (h : Head) (ps : List Word) (f : Stack) (c : Spot) (u : List Spot) (s : State) → StandsFor (param h ps f) u → param_step h ps f c ≡ Some s → StandsFor s (u ++ c ∷ [])
 param_sound h ps f (name us, b) u s st e = the_state _ _ s e (over_on f _ (Parameters h (ps ++ placed_word us b ∷ [])) u ((name us, b) ∷ []) st.0
     (λ z i. let p = i.2 in (p.0, p.1 ++ (comma, i.1) ∷ (name us, b) ∷ [], p.2, names_so ps p.1 i.1 (placed_word us b) p.3 p.4, not_empty ps (placed_word us b),
       ap (λ k. k ++ (name us, b) ∷ []) (i.3 ∙ ap (λ k. k ++ (comma, i.1) ∷ []) p.5) ∙ append_assoc (p.0 ++ p.1) ((comma, i.1) ∷ []) ((name us, b) ∷ []) ∙ append_assoc p.0 p.1 ((comma, i.1) ∷ (name us, b) ∷ []))), st.1)
 param_sound h ps f _ u s st e = none_some s e
 
-param_end_sound : (h : Head) (ps : List Word) (f : Stack) (c : Spot) (u : List Spot) (s : State) → StandsFor (param_end h ps f) u → param_end_step h ps f c ≡ Some s → StandsFor s (u ++ c ∷ [])
+pub param_end_sound : (h : Head) (ps : List Word) (f : Stack) (c : Spot) (u : List Spot) (s : State) → StandsFor (param_end h ps f) u → param_end_step h ps f c ≡ Some s → StandsFor s (u ++ c ∷ [])
 param_end_sound h ps f c u s st e = token_or comma c (param h ps f) _ s u e (over_on f _ _ u ((comma, c.1) ∷ []) st.0 (λ w i. (w, c.1, i, refl)), st.1)
     (λ e g. token_so close_paren c (bodied h ps f) s u e (bodied_so h ps f c.1 u st.1 (over_as f _ _ u st.0 (λ w i. (i.0, i.1, i.2, i.3, i.5)))))
 
@@ -141,7 +141,7 @@ declared_name h e g = go h.called (subst (λ d. NamedIf d h.called) e g)
     go None g = absurd g
     go (Some n) g = (n, refl)
 
-func_closed : (h : Head) (ps : List Word) (ss : List S) (f : Stack) (c : ℕ) (u : List Spot) → Stands (body (a_function h ps) ss ∷ f) u → StandsFor (func_made h.declared (func_of h ps ss) f) (u ++ (close_brace, c) ∷ [])
+pub func_closed : (h : Head) (ps : List Word) (ss : List S) (f : Stack) (c : ℕ) (u : List Spot) → Stands (body (a_function h ps) ss ∷ f) u → StandsFor (func_made h.declared (func_of h ps ss) f) (u ++ (close_brace, c) ∷ [])
 func_closed h ps ss f c u st = by_kind h.declared refl
   where
     tokens_of : Over f (λ z. (r : List Spot) × Spells t.func free 0 (func_of h ps ss) r × (z ≡ (function_word, h.begins) ∷ r) × NamedIf h.declared h.called × FuncPlace h.declared f h.begins) (u ++ (close_brace, c) ∷ [])
