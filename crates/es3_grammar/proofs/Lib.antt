@@ -10,3 +10,7 @@ pub mod SoundParts
 pub mod SoundExpr
 pub mod SoundFunctions
 pub mod Sound
+pub mod Exact
+pub mod Fits
+pub mod Viable
+pub mod Stops

@@ -8,7 +8,7 @@ use Rattle.es3_grammar.specs.Grammar.{Spells, free, spells}
 use Rattle.es3_grammar.specs.Machine.{whole, read}
 use Rattle.es3_grammar.proofs.Complete.{complete}
 
-whole_is : (p q : Placed t.program) → whole p ≡ whole q → p ≡ q
+pub whole_is : (p q : Placed t.program) → whole p ≡ whole q → p ≡ q
 whole_is p q e = cc
 
 pub spots_read : (p : Placed t.program) (u : List Spot) → Spells t.program free 0 p u → read u ≡ whole p

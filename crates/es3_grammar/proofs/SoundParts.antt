@@ -1,22 +1,20 @@
 -- What is read is spelled so: operands, lists, and what stands behind an expression.
-use Rattle.std.proofs.Common.{◌≡◌, ℕ, zero, suc, ◌+◌, ◌≤◌, ◌<◌, ◌⊎◌, Bool, true, false, cond, not, ◌&&◌, ◌||◌, List, [], ◌∷◌, ◌++◌, Option, Some, None, refl, sym, ap, subst, inl, inr, ◌∙◌, arith, append_assoc, nat_le, map}
+use Rattle.std.proofs.Common.{◌≡◌, ℕ, ◌≤◌, ◌<◌, Bool, true, false, cond, List, [], ◌∷◌, ◌++◌, Option, Some, None, refl, sym, ap, subst, inl, inr, ◌∙◌, arith, append_assoc}
 use Rattle.std.proofs.lemmas.Bool.{leb-true, leb-false}
-use Rattle.std.proofs.lemmas.List.{append-nil}
-use Rattle.es3_tree.specs.Token.{Token, name, word, punct, num, text}
+use Rattle.es3_tree.specs.Token.{Token}
 use Rattle.es3_tree.specs.Tree as t
 use Rattle.es3_tree.specs.Placed as tree
 use Rattle.es3_tree.specs.Placed.{Placed, Word}
-use Rattle.es3_tree.specs.declared.BinOp.{BinOp}
-use Rattle.es3_grammar.specs.Spots.{Spot, is, same_token, look_up, else_word, finally_word, function_word, in_word, open_brace, close_brace, open_paren, close_paren, open_bracket, close_bracket, point, semicolon, comma, colon, query, equals}
+use Rattle.es3_grammar.specs.Spots.{Spot, is, colon, query}
 use Rattle.es3_grammar.specs.Levels.{E, Join, an_op, an_and, an_or, an_assign, a_comma, own, left, right, joined, is_target, takes_left, Infix, joins, a_query, a_step, infix_of, Opening, a_this, a_null, a_bool, a_paren, an_object, a_prefix, a_prefix_step, openings, unary_sign, step_sign}
 use Rattle.es3_grammar.specs.Levels as l
-use Rattle.es3_grammar.specs.Grammar.{S, Bars, free, no_in, no_call, bars_in, bars_call, is_open, ends_statement, named, naming, key_of, one_default, has_default, is_plain, BeginsPlain, placed_word, Names, Spells, s_this, s_null, s_true, s_false, s_num, s_text, s_name, s_paren, s_array, s_array_comma, s_object, s_function, s_dot, s_index, s_call, s_new_call, s_new, s_postfix, s_prefix_step, s_prefix, s_join, s_choice, s_no_exprs, s_some_exprs, s_no_fields, s_some_fields, s_func, s_value, s_first_var, s_first_expr, s_some_expr, s_loop_expr, s_expression, s_var, s_return, s_throw, s_do}
-use Rattle.es3_grammar.specs.Frames.{Field, Item, Clause, exprs_of, fields_of, stmts_of, items_of, cases_of, Opened, an_array, a_call, a_new, Head, Body, Frame, paren, subscript, items, field, new_of, prefix_step, prefix, join, test, either, statement, value, if_test, while_test, do_test, for_first, for_test, for_step, for_object, giving, throwing, with_head, switch_head, case_test, then_of, while_body, do_body, for_body, in_body, with_body, a_clause, body, Stack, State, want, have, past, listed, member, key, func, start, ended, closing, item, for_second, for_third, clauses, await, asks, asked, behind_new, no_in_here}
-use Rattle.es3_grammar.specs.Machine.{when, operand, opened, closer, closed_list, behind_comma, after_expr, open_step, none_yet, key_step, keyed, after_field, infix_own, binds, shifted, filled, closes, settle, past_step, have_step, arguments, after_item}
-use Rattle.es3_grammar.proofs.Tables.{chosen, some_is, none_some, spot_is, opening_sign, opening_is, query_is, step_is}
-use Rattle.es3_grammar.proofs.Follow.{level_fits, infix_left, left_in, barred, bars_of, low_bars, in_of, not_behind}
-use Rattle.es3_grammar.proofs.Longer.{weaken, Listed, ListedFields, ListedItems, exprs_so, fields_so, items_so, listed_on, fields_on, items_on}
-use Rattle.es3_grammar.proofs.Stands.{Said, Headed, Place, Before, FuncPlace, VarTokens, VarItems, VarItem, ForFirst, ForSecond, ForObject, HeadOf, Word2, Leads, makes, Stands, Over, OnlyInArray, StandsFor, Switched}
+use Rattle.es3_grammar.specs.Grammar.{Bars, no_call, BeginsPlain, Spells, s_new, s_postfix, s_prefix_step, s_prefix, s_join, s_choice}
+use Rattle.es3_grammar.specs.Frames.{Frame, new_of, prefix_step, prefix, join, test, either, statement, Stack, State, want, past, asks, asked, no_in_here}
+use Rattle.es3_grammar.specs.Machine.{when, infix_own, binds, shifted, filled}
+use Rattle.es3_grammar.proofs.Tables.{chosen, some_is, none_some, spot_is, query_is, step_is}
+use Rattle.es3_grammar.proofs.Follow.{level_fits, barred, bars_of, low_bars, in_of}
+use Rattle.es3_grammar.proofs.Longer.{weaken}
+use Rattle.es3_grammar.proofs.Stands.{Headed, Place, Leads, makes, Stands, Over, StandsFor}
 
 -- ---- states
 
@@ -175,14 +173,21 @@ left_part a_comma b n x w p le h = part_of b n 0 x w p le
 
 shift_sound : (i : Infix) (f : Stack) (c : Spot) (n : ℕ) (x : E) (u : List Spot) (s : State) → Over f (Part (bars_of f) n x) u → infix_of (no_in_here f) c.0 ≡ Some i → asked f ≤ infix_own i → soft i ≤ n
     → shifted (Some i) x f ≡ Some s → StandsFor s (u ++ c ∷ [])
-shift_sound (joins j) f c n x u s o is_i le h e = when_so (takes_left j x) (want (join j x ∷ f)) s (u ++ c ∷ []) e (λ g.
-    (over_frame (join j x) f (u ++ c ∷ []) (over_on f (Part (bars_of f) n x) (Leads f (join j x)) u (c ∷ []) o
-      (λ w p. (w, c.0, c.1, subst (λ b. infix_of b c.0 ≡ Some (joins j)) (in_of f (bars_of f) (omega (arith, own_fits j)) refl) is_i, g, left_part j (bars_of f) n x w p h g, refl))) le, tt))
+shift_sound (joins j) f c n x u s o is_i le h e = when_so (takes_left j x) (want (join j x ∷ f)) s (u ++ c ∷ []) e (λ g. (
+  over_frame (join j x) f (u ++ c ∷ []) (over_on f (Part (bars_of f) n x) (Leads f (join j x)) u (c ∷ []) o
+      (λ w p. (w, c.0, c.1, subst (λ b. infix_of b c.0 ≡ Some (joins j)) (in_of f (bars_of f) (omega (arith, own_fits j)) refl) is_i, g, left_part j (bars_of f) n x w p h g, refl))) le,
+  tt,
+))
 shift_sound a_query f c n x u s o is_i le h e = the_state (u ++ c ∷ []) (want (test x ∷ f)) s e
     (over_frame (test x) f (u ++ c ∷ []) (over_on f (Part (bars_of f) n x) (Leads f (test x)) u (c ∷ []) o (λ w p. (w, c.1, part_of (bars_of f) n 3 x w p h, ap (λ (z : Token). w ++ (z, c.1) ∷ []) (query_is (no_in_here f) c.0 is_i)))) le, tt)
-shift_sound (a_step up) f c n x u s o is_i le h e = when_so (is_target x) (past (tree.step up false x) f) s (u ++ c ∷ []) e (λ g.
-    (over_on f (Part (bars_of f) n x) _ u (c ∷ []) o (λ w p. (subst (λ (z : Token). Spells t.expr (bars_of f) 14 (tree.step up false x) (w ++ (z, c.1) ∷ [])) (sym (step_is (no_in_here f) c.0 up is_i))
-        (s_postfix (bars_of f) 14 c.1 up x w (omega arith) g (part_of (bars_of f) n 15 x w p (p.high g))), refl)), le))
+shift_sound (a_step up) f c n x u s o is_i le h e = when_so (is_target x) (past (tree.step up false x) f) s (u ++ c ∷ []) e (λ g. (
+  over_on f (Part (bars_of f) n x) _ u (c ∷ []) o (λ w p. (
+    subst (λ (z : Token). Spells t.expr (bars_of f) 14 (tree.step up false x) (w ++ (z, c.1) ∷ [])) (sym (step_is (no_in_here f) c.0 up is_i))
+        (s_postfix (bars_of f) 14 c.1 up x w (omega arith) g (part_of (bars_of f) n 15 x w p (p.high g))),
+    refl,
+  )),
+  le,
+))
 
 pub shifted_sound : (o : Option Infix) (f : Stack) (c : Spot) (n : ℕ) (x : E) (u : List Spot) (s : State) → infix_of (no_in_here f) c.0 ≡ o → Over f (Part (bars_of f) n x) u → ((i : Infix) → o ≡ Some i → asked f ≤ infix_own i)
     → soft_in o ≤ n → shifted o x f ≡ Some s → StandsFor s (u ++ c ∷ [])
@@ -203,7 +208,7 @@ filled_in (join j z) fs x y e = refl
 filled_in (either z q) fs x y e = refl
 filled_in _ fs x y e = none_some y e
 
-not_target : (j : Join) (x y : E) → is_target (joined j x y) ≡ false
+pub not_target : (j : Join) (x y : E) → is_target (joined j x y) ≡ false
 not_target (an_op op) x y = refl
 not_target an_and x y = refl
 not_target an_or x y = refl
@@ -219,13 +224,14 @@ as_bars fs n x w le p = subst (λ b. Part b n x w) (low_bars fs le) p
 pub plug : (f : Frame) (fs : Stack) (n : ℕ) (x y : E) (v w : List Spot) → filled f x ≡ Some y → Leads fs f v → Part (bars_of (f ∷ fs)) n x w → asks f ≤ n → asked fs ≤ makes f → Part (bars_of fs) (makes f) y (v ++ w)
 plug new_of fs n x y v w e i p le h = subst (λ y. Part (bars_of fs) 15 y (v ++ w)) (some_is _ y e) (whole_part _ 15 _ _ (rw i.1 (s_new (bars_of fs) 15 i.0 x w (omega arith) (part_of no_call n 15 x w p le))) refl)
 plug (prefix_step up) fs n x y v w e i p le h = elim (chosen (is_target x) (Some (tree.step up true x)) None (Some y) e) [
-    | inl g ↦ subst (λ y. Part (bars_of fs) 13 y (v ++ w)) (some_is _ y g.1) (whole_part _ 13 _ _ (rw i.1 (s_prefix_step (bars_of fs) 13 i.0 up x w (omega arith) g.0 (part_of (bars_of fs) n 15 x w (as_bars fs n x w (omega arith) p) le))) refl)
-    | inr g ↦ none_some y g.1 ]
+  | inl g ↦ subst (λ y. Part (bars_of fs) 13 y (v ++ w)) (some_is _ y g.1) (whole_part _ 13 _ _ (rw i.1 (s_prefix_step (bars_of fs) 13 i.0 up x w (omega arith) g.0 (part_of (bars_of fs) n 15 x w (as_bars fs n x w (omega arith) p) le))) refl)
+  | inr g ↦ none_some y g.1
+]
 plug (prefix op a) fs n x y v w e i p le h = subst (λ y. Part (bars_of fs) 13 y (v ++ w)) (some_is _ y e) (whole_part _ 13 _ _ (rw i (s_prefix (bars_of fs) 13 a op x w (omega arith) (part_of (bars_of fs) n 13 x w (as_bars fs n x w (omega arith) p) le))) refl)
 plug (join j z) fs n x y v w e i p le h = subst (λ y. Part (bars_of fs) (own j) y (v ++ w)) (some_is _ y e) (whole_part _ (own j) _ _
     (subst (λ q. Spells t.expr (bars_of fs) (own j) (joined j z x) q) (sym (ap (λ q. q ++ w) i.6 ∙ append_assoc i.0 ((i.1, i.2) ∷ []) w))
-      (s_join (bars_of fs) (own j) i.2 j i.1 z x i.0 w (omega arith) i.3 i.4 i.5 (part_of (bars_of fs) n (right j) x w (as_bars fs n x w (omega (arith, own_fits j)) p) le))) (not_target j z x))
+    (s_join (bars_of fs) (own j) i.2 j i.1 z x i.0 w (omega arith) i.3 i.4 i.5 (part_of (bars_of fs) n (right j) x w (as_bars fs n x w (omega (arith, own_fits j)) p) le))) (not_target j z x))
 plug (either z q) fs n x y v w e i p le h = subst (λ y. Part (bars_of fs) 2 y (v ++ w)) (some_is _ y e) (whole_part _ 2 _ _
     (subst (λ k. Spells t.expr (bars_of fs) 2 (tree.choice z q x) k) (sym (ap (λ k. k ++ w) i.6 ∙ append_assoc i.0 ((query, i.2) ∷ (i.1 ++ (colon, i.3) ∷ [])) w ∙ ap (λ k. i.0 ++ (query, i.2) ∷ k) (append_assoc i.1 ((colon, i.3) ∷ []) w)))
-      (s_choice (bars_of fs) 2 i.2 i.3 z q x i.0 i.1 w (omega arith) i.4 i.5 (part_of (bars_of fs) n 1 x w (as_bars fs n x w (omega arith) p) le))) refl)
+    (s_choice (bars_of fs) 2 i.2 i.3 z q x i.0 i.1 w (omega arith) i.4 i.5 (part_of (bars_of fs) n 1 x w (as_bars fs n x w (omega arith) p) le))) refl)
 plug _ fs n x y v w e i p le h = none_some y e

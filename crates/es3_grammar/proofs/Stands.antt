@@ -1,5 +1,5 @@
 -- What the tokens so far are, for each state of the machine.
-use Rattle.std.proofs.Common.{◌≡◌, ℕ, zero, suc, ◌+◌, ◌≤◌, Bool, true, false, List, [], ◌∷◌, ◌++◌, Option, Some, None, refl, sym, ap, subst, ◌∙◌, arith, append_assoc, map}
+use Rattle.std.proofs.Common.{◌≡◌, ℕ, ◌≤◌, Bool, true, false, List, [], ◌∷◌, ◌++◌, Option, Some, None, map}
 use Rattle.es3_tree.specs.Token.{Token}
 use Rattle.es3_tree.specs.Tree as t
 use Rattle.es3_tree.specs.Placed as tree
@@ -7,8 +7,8 @@ use Rattle.es3_tree.specs.Placed.{Placed, Word}
 use Rattle.es3_grammar.specs.Spots.{Spot, break_word, case_word, catch_word, continue_word, do_word, else_word, finally_word, for_word, function_word, if_word, in_word, new_word, return_word, switch_word, throw_word, try_word, var_word, while_word, with_word, open_brace, close_brace, open_paren, close_paren, open_bracket, point, semicolon, comma, colon, query, equals}
 use Rattle.es3_grammar.specs.Levels.{E, own, left, joins, infix_of, takes_left, is_target, unary_sign, step_sign}
 use Rattle.es3_grammar.specs.Grammar.{S, Bars, free, no_in, no_call, bars_in, bars_call, is_open, ends_statement, named, naming, key_of, one_default, has_default, BeginsPlain, Names, Spells}
-use Rattle.es3_grammar.specs.Frames.{Field, Item, Clause, stmts_of, cases_of, Opened, an_array, a_call, a_new, Head, Body, a_program, a_block, a_function, a_clause, a_try, a_catch, a_finally, Frame, paren, subscript, items, field, new_of, prefix_step, prefix, join, test, either, statement, value, if_test, while_test, do_test, for_first, for_test, for_step, for_object, giving, throwing, with_head, switch_head, case_test, then_of, else_of, while_body, do_body, for_body, in_body, with_body, label_of, body, Stack, State, want, have, past, listed, member, key, func, params, param, param_end, start, begun, ended, closing, item, item_end, for_open, for_second, for_third, returned, jumped, clauses, tried, caught, catch_name, await, asks, asked}
-use Rattle.es3_grammar.specs.Machine.{holds, declares, caught_made}
+use Rattle.es3_grammar.specs.Frames.{Item, Clause, stmts_of, cases_of, Opened, an_array, a_call, a_new, Head, Body, a_program, a_block, a_function, a_clause, a_try, a_catch, a_finally, Frame, paren, subscript, items, field, new_of, prefix_step, prefix, join, test, either, statement, value, if_test, while_test, do_test, for_first, for_test, for_step, for_object, giving, throwing, with_head, switch_head, case_test, then_of, else_of, while_body, do_body, for_body, in_body, with_body, label_of, body, Stack, State, want, have, past, listed, member, key, func, params, param, param_end, start, begun, ended, closing, item, item_end, for_open, for_second, for_third, returned, jumped, clauses, tried, caught, catch_name, await, asked}
+use Rattle.es3_grammar.specs.Machine.{holds, declares}
 use Rattle.es3_grammar.proofs.Follow.{barred, bars_of}
 use Rattle.es3_grammar.proofs.Longer.{Listed, ListedFields, ListedItems, Case}
 

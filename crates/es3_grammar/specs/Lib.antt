@@ -3,3 +3,4 @@ pub mod Levels
 pub mod Grammar
 pub mod Frames
 pub mod Machine
+pub mod Begins
