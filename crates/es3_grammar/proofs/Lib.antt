@@ -14,3 +14,4 @@ pub mod Exact
 pub mod Fits
 pub mod Viable
 pub mod Stops
+pub mod Heights

@@ -48,7 +48,7 @@ place_headed [] w h = tt
 place_headed (statement ∷ f) w h = absurd h
 place_headed (_ ∷ f) w h = tt
 
-right_fits : (j : Join) → right j ≤ 13
+pub right_fits : (j : Join) → right j ≤ 13
 right_fits (an_op op) = omega (arith, level_fits op)
 right_fits an_and = omega arith
 right_fits an_or = omega arith

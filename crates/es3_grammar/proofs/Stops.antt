@@ -1,4 +1,5 @@
 -- Reading stops at the first token that no program has after the tokens before it.
+use Rattle.es3_grammar.specs.Ends.{tail}
 use Rattle.std.proofs.Common.{◌≡◌, ◌⊎◌, List, [], ◌∷◌, ◌++◌, Option, Some, None, refl, sym, ap, subst, inl, inr, ◌∙◌, append_assoc}
 use Rattle.es3_grammar.specs.Spots.{Spot}
 use Rattle.es3_grammar.specs.Grammar.{S}
@@ -62,7 +63,7 @@ stopped_is c d k l e = (cc, cc)
 
 -- what a state that is reached goes on to
 pub begins_at : (u : List Spot) (s : State) → Fits s → ((z : List Spot) → run (u ++ z) beginning ≡ run z s) → Begins u
-begins_at u s h come = let y = viable s h in (y.1.0, y.0, spots_spelled y.1.0 (u ++ y.0) (come y.0 ∙ y.1.1))
+begins_at u s h come = let y = viable s h in (y.made, tail s, spots_spelled y.made (u ++ tail s) (come (tail s) ∙ y.reads))
 
 pub stops_exactly : (u : List Spot) (c : Spot) (k : List Spot) → read u ≡ stopped (c ∷ k) → StopsAt u c k
 unfolding run

@@ -4,3 +4,5 @@ pub mod Grammar
 pub mod Frames
 pub mod Machine
 pub mod Begins
+pub mod Plain
+pub mod Ends
