@@ -15,3 +15,4 @@ pub mod Fits
 pub mod Viable
 pub mod Stops
 pub mod Heights
+pub mod Least

@@ -6,3 +6,4 @@ pub mod Machine
 pub mod Begins
 pub mod Plain
 pub mod Ends
+pub mod Limit
