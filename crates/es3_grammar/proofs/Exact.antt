@@ -38,7 +38,7 @@ ending_sound (ended x f) u p st e = all_sound f x p u (over_as f _ _ u st (λ w 
 ending_sound (caught ss n hs f) u p st e = all_sound f (caught_made ss n hs) p u (over_as f _ _ u st (λ w i. caught_spelled ss n (stmts_of hs) w i)) e
 ending_sound _ u p st e = absurd cc
 
-went : (f : State → Answer) (k : List Spot) (o : Option State) (p : Placed t.program) → goes f k o ≡ whole p → (s : State) × (o ≡ Some s) × (f s ≡ whole p)
+pub went : (f : State → Answer) (k : List Spot) (o : Option State) (p : Placed t.program) → goes f k o ≡ whole p → (s : State) × (o ≡ Some s) × (f s ≡ whole p)
 went f k None p e = absurd cc
 went f k (Some s) p e = (s, refl, e)
 

@@ -1,4 +1,6 @@
 -- No step makes the shortest end of a text less deep, or opens fewer brackets in all.
+use Rattle.es3_grammar.proofs.Fits.{By, Expects, Takes, FuncFits, Fits, body_more}
+use Rattle.es3_grammar.proofs.Sound.{begin_sign, sign_is, clause_or, and_three}
 use Rattle.es3_grammar.specs.Levels as l
 use Rattle.es3_tree.specs.declared.UnOp.TheVariants.{Delete, Void, Typeof, Plus, Minus, BitNot, Not}
 use Rattle.es3_tree.specs.declared.UnOp.{UnOp}
@@ -15,9 +17,9 @@ use Rattle.es3_tree.specs.Placed as tree
 use Rattle.es3_tree.specs.Placed.{Placed, Word}
 use Rattle.es3_grammar.specs.Spots.{Spot, is, look_up, case_word, catch_word, default_word, else_word, finally_word, in_word, var_word, close_brace, open_paren, close_paren, open_bracket, point, semicolon, comma, colon, equals, break_word, continue_word, do_word, for_word, function_word, if_word, new_word, return_word, switch_word, this_word, throw_word, try_word, while_word, with_word, null_word, true_word, false_word, open_brace, close_bracket, query}
 use Rattle.es3_grammar.specs.Levels.{E, own, is_target, takes_left, Infix, joins, a_query, a_step, infix_of, Opening, a_prefix, a_prefix_step, openings, Join, joined, infixes, unary_sign, step_sign, a_this, a_null, a_paren, an_object}
-use Rattle.es3_grammar.specs.Grammar.{S, ends_statement, key_of, has_default}
+use Rattle.es3_grammar.specs.Grammar.{S, ends_statement, key_of, has_default, placed_word}
 use Rattle.es3_grammar.specs.Frames.{Field, Item, Clause, stmts_of, items_of, cases_of, Opened, an_array, a_call, a_new, Head, head, Body, a_program, a_block, a_function, a_clause, a_try, a_catch, a_finally, Frame, paren, subscript, items, field, new_of, prefix_step, prefix, join, test, either, statement, value, if_test, while_test, do_test, for_first, for_test, for_step, for_object, giving, throwing, with_head, switch_head, case_test, then_of, else_of, while_body, do_body, for_body, in_body, with_body, label_of, body, Stack, State, want, have, past, listed, member, key, func, params, param, param_end, start, begun, ended, closing, item, item_end, for_open, for_second, for_third, returned, jumped, clauses, tried, caught, catch_name, await, asked, no_in_here, exprs_of, fields_of}
-use Rattle.es3_grammar.specs.Machine.{when, opened, operand, closer, closed_list, behind_comma, after_expr, none_yet, keyed, key_step, func_step, bodied, params_step, param_step, func_of, func_made, infix_own, binds, shifted, filled, after_item, closes, settle, arguments, have_step, member_step, declares, cases_closed, clause_step, body_closed, list_closed, next_clause, Begin, a_block_begins, a_list_ends, an_empty, a_break, a_next_clause, a_do, a_for, a_declaration, an_if, a_return, a_switch, a_throw, a_try_begins, a_var, a_while, a_with, begins, begin_by, begin, resume, item_step, first_item, jump, jumped_step, finally_begins, catch_name_step, caught_made, await_step, step, headed, begun_step, item_end_step, for_open_step, for_second_step, for_third_step, returned_step, tried_step, caught_step}
+use Rattle.es3_grammar.specs.Machine.{when, opened, operand, closer, closed_list, behind_comma, after_expr, none_yet, keyed, key_step, func_step, bodied, params_step, param_step, func_of, func_made, infix_own, binds, shifted, filled, after_item, closes, settle, arguments, have_step, member_step, declares, cases_closed, clause_step, body_closed, list_closed, next_clause, Begin, a_block_begins, a_list_ends, an_empty, a_break, a_next_clause, a_do, a_for, a_declaration, an_if, a_return, a_switch, a_throw, a_try_begins, a_var, a_while, a_with, begins, begin_by, begin, resume, item_step, first_item, jump, jumped_step, finally_begins, catch_name_step, caught_made, await_step, step, headed, begun_step, item_end_step, for_open_step, for_second_step, for_third_step, returned_step, tried_step, caught_step, open_step}
 use Rattle.es3_grammar.proofs.Tables.{chosen, some_is, none_some, spot_is, opening_sign, opening_is, looked_up, infix_found, not_false}
 use Rattle.es3_grammar.proofs.SoundParts.{bound, not_target}
 
@@ -341,3 +343,171 @@ made_more true x (body b ss ∷ f) a h = record { higher = one_more b ss; wider 
     same_close b ss o = omega (arith, ap (λ k. most (o - 1) k) (list_close_same b ss (ss ++ tree.declare x ∷ []) f))
 made_more true x [] a h = absurd (let e = h refl in cc)
 made_more true x (_ ∷ f) a h = absurd (let e = h refl in cc)
+
+by_first : (d : Bool) (a b : Type 0) → By d a b → d ≡ true → a
+by_first true a b h e = h
+by_first false a b h e = absurd cc
+
+body_close_more : (q : Body) (ss : List S) (f : Stack) (a : ℕ) (s : State) → Takes (body q ss ∷ f) → body_closed q ss f ≡ Some s → More (height_behind (body q ss ∷ f) 0) (close_statement (body q ss ∷ f)) (close_brace, a) s
+body_close_more a_program ss f a s h e = none_some s e
+body_close_more a_block ss f a s h e = the_more _ _ _ _ s e (record { higher = more_behind f _ _ (omega arith); wider = λ o. omega arith })
+body_close_more (a_function k ps) ss f a s h e = the_more _ _ _ _ s e (less_more _ _ _ _ _ _ (cond_more k.declared _ _ _ _ (more_behind f _ _ (omega arith)) (more_at f false _ _ (omega arith))) (λ o. omega arith)
+    (made_more k.declared (func_of k ps ss) f a (λ d. (by_first k.declared _ _ h d).0)))
+body_close_more (a_clause x cs m) ss f a s h e = the_more _ _ _ _ s e (record { higher = more_behind f _ _ (omega (arith, cases_deep cs m ss)); wider = λ o. omega arith })
+body_close_more a_try ss f a s h e = the_more _ _ _ _ s e (record { higher = more_behind f _ _ (omega arith); wider = λ o. omega arith })
+body_close_more (a_catch rs n) ss f a s h e = the_more _ _ _ _ s e (record { higher = more_behind f _ _ (omega arith); wider = λ o. omega arith })
+body_close_more (a_finally rs k) ss f a s h e = the_more _ _ _ _ s e (record { higher = more_behind f _ _ (omega arith); wider = λ o. omega arith })
+
+list_close_more : (f : Stack) (a : ℕ) (s : State) → Takes f → list_closed f ≡ Some s → More (height_start f) (close_start f) (close_brace, a) s
+list_close_more (body q ss ∷ f) a s h e = body_close_more q ss f a s h e
+list_close_more [] a s h e = none_some s e
+list_close_more _ a s h e = none_some s e
+
+next_more : (f : Stack) (c : Spot) (s : State) → next_clause f c ≡ Some s → More (height_start f) (close_start f) c s
+next_more (body (a_clause x cs m) ss ∷ f) c s e = less_more _ _ _ _ c s (more_behind f _ _ (omega (arith, cases_deep cs m ss))) (λ o. omega arith) (clause_more x (cs ++ (m, ss) ∷ []) f c s e)
+next_more [] c s e = none_some s e
+next_more _ c s e = none_some s e
+
+-- a statement begins, and is one deep at least
+started_more : (f : Stack) (c : Spot) (s : State) → More (height_behind f 1) (close_statement f) c s → More (height_start f) (close_start f) c s
+started_more f c s m = less_more _ _ _ _ c s (start_low f) (start_wide f) m
+
+brackets_more : (k : List Spot) (o : ℕ) → most o k ≤ most o (spot open_paren ∷ letter ∷ spot close_paren ∷ spot semicolon ∷ k)
+brackets_more k o = omega (arith, most_back k o)
+
+sign_more : (f : Stack) (a : ℕ) (b : Begin) (s : State) → Takes f → (b ≡ a_next_clause → ⊥) → begin_by f (begin_sign b, a) (Some b) ≡ Some s → More (height_start f) (close_start f) (begin_sign b, a) s
+sign_more f a a_block_begins s h n e = the_more _ _ _ _ s e (started_more f _ _ (record { higher = more_behind f _ _ (omega arith); wider = λ o. omega (arith, most_back (close_statement f) o) }))
+sign_more f a a_list_ends s h n e = list_close_more f a s h e
+sign_more f a an_empty s h n e = the_more _ _ _ _ s e (started_more f _ _ (record { higher = omega arith; wider = λ o. omega arith }))
+sign_more f a (a_break true) s h n e = the_more _ _ _ _ s e (started_more f _ _ (record { higher = omega arith; wider = λ o. omega arith }))
+sign_more f a (a_break false) s h n e = the_more _ _ _ _ s e (started_more f _ _ (record { higher = omega arith; wider = λ o. omega arith }))
+sign_more f a a_next_clause s h n e = absurd (n refl)
+sign_more f a a_do s h n e = the_more _ _ _ _ s e (started_more f _ _ (record { higher = more_behind f _ _ (omega arith); wider = λ o. omega (arith, most_back (spot semicolon ∷ close_statement f) o, most_low (close_statement f) o) }))
+sign_more f a a_for s h n e = the_more _ _ _ _ s e (started_more f _ _ (record { higher = more_behind f _ _ (omega arith); wider = λ o. omega (arith, most_back (spot semicolon ∷ close_statement f) o, most_low (close_statement f) o) }))
+sign_more f a a_declaration s h n e = more_when _ _ _ (declares f) (func true a f) s e (λ g. started_more f _ _ (record { higher = more_behind f _ _ (omega arith); wider = λ o. omega (arith, most_back (close_statement f) o, most_back (spot open_brace ∷ spot close_brace ∷ close_statement f) o) }))
+sign_more f a an_if s h n e = the_more _ _ _ _ s e (started_more f _ _ (record { higher = more_behind f _ _ (omega arith); wider = λ o. omega (arith, brackets_more (close_statement f) o) }))
+sign_more f a a_return s h n e = the_more _ _ _ _ s e (started_more f _ _ (record { higher = omega arith; wider = λ o. omega arith }))
+sign_more f a a_switch s h n e = the_more _ _ _ _ s e (started_more f _ _ (record { higher = more_behind f _ _ (omega arith); wider = λ o. omega (arith, most_back (close_statement f) o, most_back (spot open_brace ∷ spot close_brace ∷ close_statement f) o) }))
+sign_more f a a_throw s h n e = the_more _ _ _ _ s e (started_more f _ _ (record { higher = more_behind f _ _ (omega arith); wider = λ o. omega arith }))
+sign_more f a a_try_begins s h n e = the_more _ _ _ _ s e (started_more f _ _ (record { higher = more_behind f _ _ (omega arith); wider = λ o. omega (arith, most_back (close_statement f) o, most_back (spot finally_word ∷ spot open_brace ∷ spot close_brace ∷ close_statement f) o) }))
+sign_more f a a_var s h n e = the_more _ _ _ _ s e (started_more f _ _ (record { higher = omega arith; wider = λ o. omega arith }))
+sign_more f a a_while s h n e = the_more _ _ _ _ s e (started_more f _ _ (record { higher = more_behind f _ _ (omega arith); wider = λ o. omega (arith, brackets_more (close_statement f) o) }))
+sign_more f a a_with s h n e = the_more _ _ _ _ s e (started_more f _ _ (record { higher = more_behind f _ _ (omega arith); wider = λ o. omega (arith, brackets_more (close_statement f) o) }))
+
+found_begin_more : (f : Stack) (c : Spot) (q : Option Begin) (s : State) → look_up begins c.0 ≡ q → Takes f → begin_by f c q ≡ Some s → More (height_start f) (close_start f) c s
+found_begin_more f c None s g h e = started_more f c s (less_more _ _ _ _ c s (more_behind f 1 2 (omega arith)) (λ o. omega (arith, most_low (close_statement f) o)) (operand_more (statement ∷ f) c s e))
+found_begin_more f c (Some b) s g h e = elim (clause_or b) [
+    | inl k ↦ next_more f c s (subst (λ b. begin_by f c (Some b) ≡ Some s) k e)
+    | inr k ↦ (let i = sign_is c.0 b g k in subst (λ (z : Token). begin_by f (z, c.1) (Some b) ≡ Some s → More (height_start f) (close_start f) (z, c.1) s) (sym i) (λ e. sign_more f c.1 b s h k e) e) ]
+
+begin_more : (f : Stack) (c : Spot) (s : State) → Takes f → begin f c ≡ Some s → More (height_start f) (close_start f) c s
+begin_more f (name us, a) s h e = the_more _ _ _ _ s e (started_more f _ _ (record { higher = more_behind f _ _ (omega arith); wider = λ o. omega (arith, most_low (close_statement f) o) }))
+begin_more f (word n, a) s h e = found_begin_more f (word n, a) (look_up begins (word n)) s refl h e
+begin_more f (punct n, a) s h e = found_begin_more f (punct n, a) (look_up begins (punct n)) s refl h e
+begin_more f (num n, a) s h e = found_begin_more f (num n, a) (look_up begins (num n)) s refl h e
+begin_more f (text us, a) s h e = found_begin_more f (text us, a) (look_up begins (text us)) s refl h e
+
+resume_more : (f : Stack) (x : S) (c : Spot) (s : State) → Takes f → resume f x c ≡ Some s → More (height_behind f (deep t.stmt x)) (close_statement f) c s
+unfolding resume
+resume_more [] x c s h e = none_some s e
+resume_more (then_of y ∷ f) x c s h e = more_or _ _ else_word c (start (else_of y x ∷ f)) _ s e (record { higher = more_behind f _ _ (omega arith); wider = λ o. omega (arith, most_low (close_statement f) o) })
+    (λ e. less_more _ _ _ _ c s (more_behind f _ _ (omega arith)) (λ o. omega arith) (resume_more f (tree.branch y x tree.no_stmt) c s h e))
+resume_more (else_of y r ∷ f) x c s h e = less_more _ _ _ _ c s (more_behind f _ _ (omega arith)) (λ o. omega arith) (resume_more f (tree.branch y r (tree.some_stmt x)) c s h e)
+resume_more (while_body y ∷ f) x c s h e = less_more _ _ _ _ c s (more_behind f _ _ (omega arith)) (λ o. omega arith) (resume_more f (tree.while_loop y x) c s h e)
+resume_more (do_body ∷ f) x c s h e = more_token _ _ while_word c (await (open_paren ∷ []) (want (do_test x ∷ f))) s e (record { higher = more_behind f _ _ (omega arith); wider = λ o. omega arith })
+resume_more (for_body r m n ∷ f) x c s h e = less_more _ _ _ _ c s (more_behind f _ _ (omega arith)) (λ o. omega arith) (resume_more f (tree.for_loop r m n x) c s h e)
+resume_more (in_body r y ∷ f) x c s h e = less_more _ _ _ _ c s (more_behind f _ _ (omega arith)) (λ o. omega arith) (resume_more f (tree.for_in r y x) c s h e)
+resume_more (with_body y a ∷ f) x c s h e = less_more _ _ _ _ c s (more_behind f _ _ (omega arith)) (λ o. omega arith) (resume_more f (tree.with_object y x a) c s h e)
+resume_more (label_of n ∷ f) x c s h e = less_more _ _ _ _ c s (more_behind f _ _ (omega arith)) (λ o. omega arith) (resume_more f (tree.label n x) c s h e)
+resume_more (body b ss ∷ f) x c s h e = less_more _ _ _ _ c s (list_more b ss x f) (λ o. omega (arith, ap (most o) (list_close_same b ss (ss ++ x ∷ []) f))) (begin_more (body b (ss ++ x ∷ []) ∷ f) c s (body_more b f ss (ss ++ x ∷ []) h) e)
+resume_more _ x c s h e = none_some s e
+
+item_more : (h : Bool) (its : List Item) (f : Stack) (c : Spot) (s : State) → item_step h its f c ≡ Some s → More (height (item h its f)) (tail (item h its f)) c s
+item_more h its f (name us, a) s e = the_more _ _ _ _ s e (record { higher = omega arith; wider = λ o. omega arith })
+item_more h its f _ s e = none_some s e
+
+value_more : (h : Bool) (n : Word) (its : List Item) (f : Stack) (a : ℕ) → More (height (item_end h n its f)) (tail (item_end h n its f)) (equals, a) (want (value h n its ∷ f))
+value_more true n its f a = record { higher = more_behind f _ _ (omega arith); wider = λ o. omega arith }
+value_more false n its f a = record { higher = more_behind f _ _ (omega arith); wider = λ o. omega (arith, most_low (close_statement f) o) }
+
+object_more : (h : Bool) (n : Word) (its : List Item) (f : Stack) (c : Spot) → (h ≡ true) × (first_item its ≡ true) × (is in_word c ≡ true) → More (height (item_end h n its f)) (tail (item_end h n its f)) c (want (for_object (tree.loop_var n) ∷ f))
+object_more true n [] f c g = at_mark _ _ in_word c _ g.2 (record { higher = more_behind f _ _ (omega arith); wider = λ o. omega arith })
+object_more true n (x ∷ its) f c g = absurd (let e = g.1 in cc)
+object_more false n its f c g = absurd (let e = g.0 in cc)
+
+items_high : (h : Bool) (its : List Item) (n : Word) → height_items h its ≤ height_items h (its ++ (n, tree.no_expr) ∷ [])
+items_high true its n = omega (arith, items_deep its n tree.no_expr)
+items_high false its n = omega (arith, items_deep its n tree.no_expr)
+
+item_end_more : (h : Bool) (n : Word) (its : List Item) (f : Stack) (c : Spot) (s : State) → item_end_step h n its f c ≡ Some s → More (height (item_end h n its f)) (tail (item_end h n its f)) c s
+item_end_more h n its f c s e = more_or _ _ equals c (want (value h n its ∷ f)) _ s e (value_more h n its f c.1)
+    (λ e. elim (chosen (h && first_item its && is in_word c) (Some (want (for_object (tree.loop_var n) ∷ f))) (after_item h (its ++ (n, tree.no_expr) ∷ []) f c) (Some s) e) [
+      | inl k ↦ the_more _ _ _ _ s k.1 (object_more h n its f c (and_three h (first_item its) (is in_word c) k.0))
+      | inr k ↦ less_more _ _ _ _ c s (more_behind f _ _ (items_high h its n)) (λ o. omega arith) (after_item_more h f c (its ++ (n, tree.no_expr) ∷ []) s k.1) ])
+
+jump_deep : (b : Bool) (n : Option Word) (a : ℕ) → deep t.stmt (jump b n a) ≡ 1
+jump_deep true n a = refl
+jump_deep false n a = refl
+
+jumped_more : (b : Bool) (a : ℕ) (f : Stack) (c : Spot) (s : State) → jumped_step b a f c ≡ Some s → More (height (jumped b a f)) (tail (jumped b a f)) c s
+jumped_more b a f (name us, d) s e = the_more _ _ _ _ s e (record { higher = more_behind f _ _ (omega (arith, jump_deep b (Some (placed_word us d)) a)); wider = λ o. omega arith })
+jumped_more b a f (word n, d) s e = more_token _ _ semicolon (word n, d) (ended (jump b None a) f) s e (record { higher = more_behind f _ _ (omega (arith, jump_deep b None a)); wider = λ o. omega arith })
+jumped_more b a f (punct n, d) s e = more_token _ _ semicolon (punct n, d) (ended (jump b None a) f) s e (record { higher = more_behind f _ _ (omega (arith, jump_deep b None a)); wider = λ o. omega arith })
+jumped_more b a f (num n, d) s e = more_token _ _ semicolon (num n, d) (ended (jump b None a) f) s e (record { higher = more_behind f _ _ (omega (arith, jump_deep b None a)); wider = λ o. omega arith })
+jumped_more b a f (text n, d) s e = more_token _ _ semicolon (text n, d) (ended (jump b None a) f) s e (record { higher = more_behind f _ _ (omega (arith, jump_deep b None a)); wider = λ o. omega arith })
+
+member_more : (x : E) (f : Stack) (c : Spot) (s : State) → member_step x f c ≡ Some s → More (height (member x f)) (tail (member x f)) c s
+member_more x f (name us, a) s e = the_more _ _ _ _ s e (record { higher = omega arith; wider = λ o. omega arith })
+member_more x f _ s e = none_some s e
+
+catch_more : (ss : List S) (f : Stack) (c : Spot) (s : State) → catch_name_step ss f c ≡ Some s → More (height (catch_name ss f)) (tail (catch_name ss f)) c s
+catch_more ss f (name us, a) s e = the_more _ _ _ _ s e (record { higher = more_behind f _ _ (omega arith); wider = λ o. omega arith })
+catch_more ss f _ s e = none_some s e
+
+listed_more : (q : Opened) (xs : List E) (f : Stack) (c : Spot) (s : State) → open_step q xs f c ≡ Some s → More (height (listed q xs f)) (tail (listed q xs f)) c s
+listed_more an_array xs f c s e = more_or _ _ close_bracket c (have (tree.array (exprs_of xs)) f) _ s e (record { higher = omega arith; wider = λ o. omega arith })
+    (λ e. less_more _ _ _ _ c s (more_at f false _ _ (omega arith)) (λ o. omega arith) (operand_more (items an_array xs ∷ f) c s e))
+listed_more (a_call y) xs f c s e = more_or _ _ close_paren c (have (tree.call y (exprs_of xs)) f) _ s e (record { higher = omega arith; wider = λ o. omega arith })
+    (λ e. less_more _ _ _ _ c s (more_at f false _ _ (omega arith)) (λ o. omega arith) (operand_more (items (a_call y) xs ∷ f) c s e))
+listed_more (a_new y) xs f c s e = more_or _ _ close_paren c (have (tree.new y (exprs_of xs)) f) _ s e (record { higher = omega arith; wider = λ o. omega arith })
+    (λ e. less_more _ _ _ _ c s (more_at f false _ _ (omega arith)) (λ o. omega arith) (operand_more (items (a_new y) xs ∷ f) c s e))
+
+await_more : (ds : List Token) (r : State) (c : Spot) (s : State) → await_step ds r c ≡ Some s → More (height r) (tail (await ds r)) c s
+await_more [] r c s e = none_some s e
+await_more (d ∷ []) r c s e = more_token _ _ d c r s e (record { higher = omega arith; wider = λ o. omega arith })
+await_more (d ∷ g ∷ ds) r c s e = more_token _ _ d c (await (g ∷ ds) r) s e (record { higher = omega arith; wider = λ o. omega arith })
+
+pub step_least : (s : State) (c : Spot) (r : State) → Fits s → step s c ≡ Some r → More (height s) (tail s) c r
+unfolding step
+step_least (want f) c r h e = operand_more f c r e
+step_least (have x f) c r h e = have_more f x c r e
+step_least (past x f) c r h e = settle_more f (no_in_here f) x c r e
+step_least (listed q xs f) c r h e = listed_more q xs f c r e
+step_least (member x f) c r h e = member_more x f c r e
+step_least (key fs f) c r h e = key_more fs f c r e
+step_least (func d a f) c r h e = func_more d a f c r e
+step_least (params k f) c r h e = params_more k f c r e
+step_least (param k ps f) c r h e = param_more k ps f c r e
+step_least (param_end k ps f) c r h e = more_or _ _ comma c (param k ps f) _ r e (record { higher = omega arith; wider = λ o. omega arith }) (λ e. more_token _ _ close_paren c (bodied k ps f) r e (bodied_more k ps f c.1))
+step_least (start f) c r h e = begin_more f c r h e
+step_least (begun n f) c r h e = more_or _ _ colon c (start (label_of n ∷ f)) _ r e (record { higher = omega arith; wider = λ o. omega arith }) (λ e. have_more (statement ∷ f) (tree.name n) c r e)
+step_least (ended s f) c r h e = resume_more f s c r h e
+step_least (closing s f) c r h e = more_token _ _ semicolon c (ended s f) r e (record { higher = omega arith; wider = λ o. omega arith })
+step_least (item k its f) c r h e = item_more k its f c r e
+step_least (item_end k n its f) c r h e = item_end_more k n its f c r e
+step_least (for_open f) c r h e = more_or _ _ var_word c (item true [] f) _ r e (record { higher = omega arith; wider = λ o. omega arith })
+    (λ e. more_or _ _ semicolon c (for_second tree.no_first f) _ r e (record { higher = omega arith; wider = λ o. omega arith }) (λ e. less_more _ _ _ _ c r (omega arith) (λ o. omega arith) (operand_more (for_first ∷ f) c r e)))
+step_least (for_second i f) c r h e = more_or _ _ semicolon c (for_third i tree.no_expr f) _ r e (record { higher = more_behind f _ _ (omega arith); wider = λ o. omega arith })
+    (λ e. less_more _ _ _ _ c r (more_behind f _ _ (omega arith)) (λ o. omega arith) (operand_more (for_test i ∷ f) c r e))
+step_least (for_third i m f) c r h e = more_or _ _ close_paren c (start (for_body i m tree.no_expr ∷ f)) _ r e (record { higher = more_behind f _ _ (omega arith); wider = λ o. omega arith })
+    (λ e. less_more _ _ _ _ c r (more_behind f _ _ (omega arith)) (λ o. omega arith) (operand_more (for_step i m ∷ f) c r e))
+step_least (returned a f) c r h e = more_or _ _ semicolon c (ended (tree.return tree.no_expr a) f) _ r e (record { higher = more_behind f _ _ (omega arith); wider = λ o. omega arith })
+    (λ e. less_more _ _ _ _ c r (more_behind f _ _ (omega arith)) (λ o. omega arith) (operand_more (giving a ∷ f) c r e))
+step_least (jumped b a f) c r h e = jumped_more b a f c r e
+step_least (clauses x f) c r h e = less_more _ _ _ _ c r (more_behind f _ _ (omega arith)) (λ o. omega arith) (clause_more x [] f c r e)
+step_least (tried ss f) c r h e = more_or _ _ catch_word c (await (open_paren ∷ []) (catch_name ss f)) _ r e (record { higher = omega arith; wider = λ o. omega (arith, most_back (spot open_brace ∷ spot close_brace ∷ close_statement f) o) })
+    (λ e. more_token _ _ finally_word c (finally_begins ss tree.no_handler f) r e (record { higher = more_behind f _ _ (omega arith); wider = λ o. omega arith }))
+step_least (caught ss n hs f) c r h e = more_or _ _ finally_word c (finally_begins ss (tree.some_handler n (stmts_of hs)) f) _ r e (record { higher = more_behind f _ _ (omega arith); wider = λ o. omega (arith, most_back (close_statement f) o) })
+    (λ e. less_more _ _ _ _ c r (more_behind f _ _ (omega arith)) (λ o. omega arith) (resume_more f (caught_made ss n hs) c r h e))
+step_least (catch_name ss f) c r h e = catch_more ss f c r e
+step_least (await ds s) c r h e = await_more ds s c r e

@@ -16,3 +16,4 @@ pub mod Viable
 pub mod Stops
 pub mod Heights
 pub mod Least
+pub mod Limits

@@ -130,7 +130,7 @@ next_sound _ c u s st e = none_some s e
 
 -- ---- a statement begins
 
-abbrev begin_sign : Begin → Token
+abbrev pub begin_sign : Begin → Token
 begin_sign a_block_begins = open_brace
 begin_sign a_list_ends = close_brace
 begin_sign an_empty = semicolon
@@ -207,11 +207,11 @@ by_begin f a a_var s u st p n e = the_state _ _ s e (placed_over f u _ (VarItems
 by_begin f a a_while s u st p n e = headed_so while_test f while_word a u s st p tt refl (λ v i. (a, i)) e
 by_begin f a a_with s u st p n e = headed_so (with_head a) f with_word a u s st p tt refl (λ v i. i) e
 
-clause_or : (b : Begin) → (b ≡ a_next_clause) ⊎ (b ≡ a_next_clause → ⊥)
+pub clause_or : (b : Begin) → (b ≡ a_next_clause) ⊎ (b ≡ a_next_clause → ⊥)
 clause_or a_next_clause = inl refl
 clause_or _ = inr (λ e. cc)
 
-sign_is : (r : Token) (b : Begin) → look_up begins r ≡ Some b → (b ≡ a_next_clause → ⊥) → r ≡ begin_sign b
+pub sign_is : (r : Token) (b : Begin) → look_up begins r ≡ Some b → (b ≡ a_next_clause → ⊥) → r ≡ begin_sign b
 unfolding look_up
 sign_is r b e n = go b n (looked_up has_begin begins r b refl e)
   where
@@ -325,7 +325,7 @@ loop_var_so n [] a w h i = let k = i.1 in let v = k.2 in (
 )
 loop_var_so n (x ∷ its) a w h i = absurd cc
 
-and_three : (a b c : Bool) → (a && b && c) ≡ true → (a ≡ true) × (b ≡ true) × (c ≡ true)
+pub and_three : (a b c : Bool) → (a && b && c) ≡ true → (a ≡ true) × (b ≡ true) × (c ≡ true)
 and_three true true c e = (refl, refl, e)
 and_three true false c e = absurd cc
 and_three false b c e = absurd cc

@@ -39,7 +39,7 @@ never_all (label_of n ∷ f) x r e = never_all f _ r e
 never_all (body a_program ss ∷ []) x r e = cc
 never_all _ x r e = cc
 
-never : (s : State) (r : List Spot) → ending s ≡ stopped r → ⊥
+pub never : (s : State) (r : List Spot) → ending s ≡ stopped r → ⊥
 never (ended x f) r e = never_all f x r e
 never (caught ss n hs f) r e = never_all f _ r e
 never (start (body a_program ss ∷ [])) r e = cc

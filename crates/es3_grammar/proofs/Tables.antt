@@ -28,7 +28,7 @@ abbrev pub every : {A : Type 0} → (Token → A → Bool) → List (Token × A)
 every p [] = true
 every p (r ∷ rs) = cond (p r.0 r.1) (every p rs) false
 
-first_passes : (a b : Bool) → cond a b false ≡ true → (a ≡ true) × (b ≡ true)
+pub first_passes : (a b : Bool) → cond a b false ≡ true → (a ≡ true) × (b ≡ true)
 first_passes true b e = (refl, e)
 first_passes false b e = absurd cc
 

@@ -7,3 +7,4 @@ pub mod Begins
 pub mod Plain
 pub mod Ends
 pub mod Limit
+pub mod Within
