@@ -1,27 +1,27 @@
 -- No step makes the shortest end of a text less deep, or opens fewer brackets in all.
-use Rattle.es3_grammar.proofs.Fits.{By, Expects, Takes, FuncFits, Fits, body_more}
+use Rattle.es3_grammar.proofs.Fits.{By, Takes, Fits, body_more}
 use Rattle.es3_grammar.proofs.Sound.{begin_sign, sign_is, clause_or, and_three}
 use Rattle.es3_grammar.specs.Levels as l
 use Rattle.es3_tree.specs.declared.UnOp.TheVariants.{Delete, Void, Typeof, Plus, Minus, BitNot, Not}
 use Rattle.es3_tree.specs.declared.UnOp.{UnOp}
 use Rattle.es3_grammar.proofs.Follow.{own_in_left}
 use Rattle.es3_grammar.proofs.Heights.{more_at, more_behind, target_less, target_next, any_next, joined_deep, exprs_deep, fields_deep, stmts_deep, items_deep, cases_deep, cond_more}
-use Rattle.es3_grammar.specs.Ends.{spot, a_name, letter, close_step, close_value, stepped, close_new, close, close_statement, close_func, close_start, close_key, tail, stepping, height_at, height_behind, height_func, height_start, height_key, height_items, height}
+use Rattle.es3_grammar.specs.Ends.{spot, letter, close_value, stepped, close_new, close, close_statement, close_func, close_start, close_key, tail, height_at, height_behind, height_func, height_start, height_key, height_items, height}
 use Rattle.es3_grammar.specs.Plain.{deep}
-use Rattle.es3_grammar.specs.Limit.{opens, shuts, turn, most}
+use Rattle.es3_grammar.specs.Limit.{opens, shuts, most}
 use Rattle.std.proofs.Common.{◌≡◌, ℕ, ◌≤◌, Bool, true, false, cond, not, ◌&&◌, List, [], ◌∷◌, ◌++◌, Option, Some, None, refl, subst, inl, inr, nat_le, max, ◌-◌, ◌+◌, arith, ap, sym, ◌∙◌}
-use Rattle.std.proofs.lemmas.Bool.{leb-true, lt-leb}
+use Rattle.std.proofs.lemmas.Bool.{lt-leb}
 use Rattle.es3_tree.specs.Token.{Token, name, word, punct, num, text}
 use Rattle.es3_tree.specs.Tree as t
 use Rattle.es3_tree.specs.Placed as tree
 use Rattle.es3_tree.specs.Placed.{Placed, Word}
-use Rattle.es3_grammar.specs.Spots.{Spot, is, look_up, case_word, catch_word, default_word, else_word, finally_word, in_word, var_word, close_brace, open_paren, close_paren, open_bracket, point, semicolon, comma, colon, equals, break_word, continue_word, do_word, for_word, function_word, if_word, new_word, return_word, switch_word, this_word, throw_word, try_word, while_word, with_word, null_word, true_word, false_word, open_brace, close_bracket, query}
+use Rattle.es3_grammar.specs.Spots.{Spot, is, look_up, case_word, catch_word, default_word, else_word, finally_word, in_word, var_word, close_brace, open_paren, close_paren, open_bracket, point, semicolon, comma, colon, equals, while_word, open_brace, close_bracket}
 use Rattle.es3_grammar.specs.Levels.{E, own, is_target, takes_left, Infix, joins, a_query, a_step, infix_of, Opening, a_prefix, a_prefix_step, openings, Join, joined, infixes, unary_sign, step_sign, a_this, a_null, a_paren, an_object}
-use Rattle.es3_grammar.specs.Grammar.{S, ends_statement, key_of, has_default, placed_word}
+use Rattle.es3_grammar.specs.Grammar.{S, key_of, has_default, placed_word}
 use Rattle.es3_grammar.specs.Frames.{Field, Item, Clause, stmts_of, items_of, cases_of, Opened, an_array, a_call, a_new, Head, head, Body, a_program, a_block, a_function, a_clause, a_try, a_catch, a_finally, Frame, paren, subscript, items, field, new_of, prefix_step, prefix, join, test, either, statement, value, if_test, while_test, do_test, for_first, for_test, for_step, for_object, giving, throwing, with_head, switch_head, case_test, then_of, else_of, while_body, do_body, for_body, in_body, with_body, label_of, body, Stack, State, want, have, past, listed, member, key, func, params, param, param_end, start, begun, ended, closing, item, item_end, for_open, for_second, for_third, returned, jumped, clauses, tried, caught, catch_name, await, asked, no_in_here, exprs_of, fields_of}
-use Rattle.es3_grammar.specs.Machine.{when, opened, operand, closer, closed_list, behind_comma, after_expr, none_yet, keyed, key_step, func_step, bodied, params_step, param_step, func_of, func_made, infix_own, binds, shifted, filled, after_item, closes, settle, arguments, have_step, member_step, declares, cases_closed, clause_step, body_closed, list_closed, next_clause, Begin, a_block_begins, a_list_ends, an_empty, a_break, a_next_clause, a_do, a_for, a_declaration, an_if, a_return, a_switch, a_throw, a_try_begins, a_var, a_while, a_with, begins, begin_by, begin, resume, item_step, first_item, jump, jumped_step, finally_begins, catch_name_step, caught_made, await_step, step, headed, begun_step, item_end_step, for_open_step, for_second_step, for_third_step, returned_step, tried_step, caught_step, open_step}
+use Rattle.es3_grammar.specs.Machine.{when, opened, operand, closer, after_expr, none_yet, keyed, key_step, func_step, bodied, params_step, param_step, func_of, func_made, infix_own, binds, shifted, filled, after_item, closes, settle, arguments, have_step, member_step, declares, cases_closed, clause_step, body_closed, list_closed, next_clause, Begin, a_block_begins, a_list_ends, an_empty, a_break, a_next_clause, a_do, a_for, a_declaration, an_if, a_return, a_switch, a_throw, a_try_begins, a_var, a_while, a_with, begins, begin_by, begin, resume, item_step, first_item, jump, jumped_step, finally_begins, catch_name_step, caught_made, await_step, step, item_end_step, open_step}
 use Rattle.es3_grammar.proofs.Tables.{chosen, some_is, none_some, spot_is, opening_sign, opening_is, looked_up, infix_found, not_false}
-use Rattle.es3_grammar.proofs.SoundParts.{bound, not_target}
+use Rattle.es3_grammar.proofs.SoundParts.{not_target}
 
 -- ---- brackets
 
@@ -186,8 +186,9 @@ closes_more if_test f x c s e = more_token _ _ close_paren c (start (then_of x �
 closes_more while_test f x c s e = more_token _ _ close_paren c (start (while_body x ∷ f)) s e (record { higher = omega arith; wider = λ o. omega arith })
 closes_more (do_test r) f x c s e = more_token _ _ close_paren c (closing (tree.do_loop r x) f) s e (record { higher = omega arith; wider = λ o. omega arith })
 closes_more for_first f x c s e = elim (chosen (is in_word c) (when (is_target x) (want (for_object (tree.loop_expr x) ∷ f))) (when (is semicolon c) (for_second (tree.first_expr x) f)) (Some s) e) [
-    | inl g ↦ more_when _ _ _ (is_target x) (want (for_object (tree.loop_expr x) ∷ f)) s g.1 (λ k. at_mark _ _ in_word c _ g.0 (record { higher = more_behind f _ _ (omega arith); wider = λ o. omega arith }))
-    | inr g ↦ more_token _ _ semicolon c (for_second (tree.first_expr x) f) s g.1 (record { higher = omega arith; wider = λ o. omega arith }) ]
+  | inl g ↦ more_when _ _ _ (is_target x) (want (for_object (tree.loop_expr x) ∷ f)) s g.1 (λ k. at_mark _ _ in_word c _ g.0 (record { higher = more_behind f _ _ (omega arith); wider = λ o. omega arith }))
+  | inr g ↦ more_token _ _ semicolon c (for_second (tree.first_expr x) f) s g.1 (record { higher = omega arith; wider = λ o. omega arith })
+]
 closes_more (for_test r) f x c s e = more_token _ _ semicolon c (for_third r (tree.some_expr x) f) s e (record { higher = omega arith; wider = λ o. omega arith })
 closes_more (for_step r m) f x c s e = more_token _ _ close_paren c (start (for_body r m (tree.some_expr x) ∷ f)) s e (record { higher = omega arith; wider = λ o. omega arith })
 closes_more (for_object r) f x c s e = more_token _ _ close_paren c (start (in_body r x ∷ f)) s e (record { higher = omega arith; wider = λ o. omega arith })
@@ -208,8 +209,9 @@ fill_more new_of f x y c s i e r m = new_more (stepped f) refl
     new_more true h = absurd (stuck f i (tree.new x tree.no_exprs) c s h refl (subst (λ z. settle i f z c ≡ Some s) (sym (some_is _ y e)) r))
     new_more false h = less_more _ _ _ _ c s (more_at f false (1 + deep t.expr x) (deep t.expr (tree.new x tree.no_exprs)) (omega arith)) (λ o. rw h (omega arith)) (subst (λ z. More (height_at (is_target z) f (deep t.expr z)) (close (is_target z) f) c s) (sym (some_is _ y e)) m)
 fill_more (prefix_step up) f x y c s i e r m = elim (chosen (is_target x) (Some (tree.step up true x)) None (Some y) e) [
-    | inl g ↦ less_more _ _ _ _ c s (rw g.0 (omega arith)) (λ o. rw g.0 (omega arith)) (subst (λ z. More (height_at (is_target z) f (deep t.expr z)) (close (is_target z) f) c s) (sym (some_is (tree.step up true x) y g.1)) m)
-    | inr g ↦ none_some y g.1 ]
+  | inl g ↦ less_more _ _ _ _ c s (rw g.0 (omega arith)) (λ o. rw g.0 (omega arith)) (subst (λ z. More (height_at (is_target z) f (deep t.expr z)) (close (is_target z) f) c s) (sym (some_is (tree.step up true x) y g.1)) m)
+  | inr g ↦ none_some y g.1
+]
 fill_more (prefix op a) f x y c s i e r m = subst (λ z. More (height_at (is_target z) f (deep t.expr z)) (close (is_target z) f) c s) (sym (some_is (tree.unary op x a) y e)) m
 fill_more (join j z) f x y c s i e r m = (let w = subst (λ z. More (height_at (is_target z) f (deep t.expr z)) (close (is_target z) f) c s) (sym (some_is (joined j z x) y e)) m in
     let v = subst (λ (b : Bool). More (height_at b f (deep t.expr (joined j z x))) (close b f) c s) (not_target j z x) w in
@@ -224,8 +226,9 @@ settle_more : (f : Stack) (i : Bool) (x : E) (c : Spot) (s : State) → settle i
 unfolding settle
 settle_more [] i x c s e = shifted_more (infix_of i c.0) i x [] c s refl e
 settle_more (g ∷ f) i x c s e = elim (chosen (binds (infix_of i c.0) g) _ _ (Some s) e) [
-    | inl p ↦ shifted_more (infix_of i c.0) i x (g ∷ f) c s refl p.1
-    | inr p ↦ go (λ y k. settle_more f i y c s k) (filled g x) refl p.1 ]
+  | inl p ↦ shifted_more (infix_of i c.0) i x (g ∷ f) c s refl p.1
+  | inr p ↦ go (λ y k. settle_more f i y c s k) (filled g x) refl p.1
+]
   where
     go : ((y : E) → settle i f y c ≡ Some s → More (height_at (is_target y) f (deep t.expr y)) (close (is_target y) f) c s) → (o : Option E) → filled g x ≡ o → settled i g f x c o ≡ Some s → More (height_at (is_target x) (g ∷ f) (deep t.expr x)) (close (is_target x) (g ∷ f)) c s
     go rec None fi e = closes_more g f x c s e
@@ -243,7 +246,7 @@ arguments_more (g ∷ f) x a = record { higher = any_next (g ∷ f) (is_target x
 have_more : (f : Stack) (x : E) (c : Spot) (s : State) → have_step x f c ≡ Some s → More (height_at (is_target x) f (deep t.expr x)) (close (is_target x) f) c s
 have_more f x c s e = more_or _ _ point c (member x f) _ s e (record { higher = target_next f (is_target x) (deep t.expr x); wider = λ o. omega (arith, close_same f (is_target x) o, most_low (close true f) o) })
     (λ e. more_or _ _ open_bracket c (want (subscript x ∷ f)) _ s e (record { higher = any_next f (is_target x) true _ _ (omega arith); wider = λ o. omega (arith, close_same f (is_target x) o, most_back (close true f) o) })
-      (λ e. more_or _ _ open_paren c (arguments x f) _ s e (arguments_more f x c.1) (λ e. settle_more f (no_in_here f) x c s e)))
+    (λ e. more_or _ _ open_paren c (arguments x f) _ s e (arguments_more f x c.1) (λ e. settle_more f (no_in_here f) x c s e)))
 
 -- ---- functions
 
@@ -275,20 +278,25 @@ param_more h ps f _ s e = none_some s e
 
 key_more : (fs : List Field) (f : Stack) (c : Spot) (s : State) → key_step fs f c ≡ Some s → More (height (key fs f)) (tail (key fs f)) c s
 key_more fs f c s e = elim (chosen (is close_brace c) (when (none_yet fs) (have (tree.object tree.no_fields) f)) (keyed fs f (key_of c)) (Some s) e) [
-    | inl g ↦ more_when _ _ _ (none_yet fs) (have (tree.object tree.no_fields) f) s g.1 (λ k. at_mark _ _ close_brace c _ g.0 (no_fields_more fs c.1 k))
-    | inr g ↦ keyed_more c s g.1 ]
+  | inl g ↦ more_when _ _ _ (none_yet fs) (have (tree.object tree.no_fields) f) s g.1 (λ k. at_mark _ _ close_brace c _ g.0 (no_fields_more fs c.1 k))
+  | inr g ↦ keyed_more c s g.1
+]
   where
     no_fields_more : (fs : List Field) (a : ℕ) → none_yet fs ≡ true → More (height (key fs f)) (tail (key fs f)) (close_brace, a) (have (tree.object tree.no_fields) f)
     no_fields_more [] a k = record { higher = more_at f false _ _ (omega arith); wider = λ o. omega arith }
     no_fields_more (x ∷ xs) a k = absurd cc
+
     field_high : (fs : List Field) (n : Word) → height (key fs f) ≤ height_at true (field fs n ∷ f) 1
     field_high [] n = more_at f false _ _ (omega arith)
     field_high (x ∷ xs) n = more_at f false _ _ (omega arith)
+
     field_wide : (fs : List Field) (k : List Spot) (o : ℕ) → most o (close_key fs k) ≤ most o (spot close_brace ∷ k)
     field_wide [] k o = omega arith
     field_wide (x ∷ xs) k o = omega arith
+
     keyed_so : (fs : List Field) (n : Word) (us : Token) (a : ℕ) → ((k : List Spot) (o : ℕ) → most o k ≤ most o ((us, a) ∷ k)) → More (height (key fs f)) (tail (key fs f)) (us, a) (await (colon ∷ []) (want (field fs n ∷ f)))
     keyed_so fs n us a w = record { higher = field_high fs n; wider = λ o. (let i = field_wide fs (close false f) o in let j = w (spot colon ∷ letter ∷ spot close_brace ∷ close false f) o in omega arith) }
+
     keyed_more : (c : Spot) (s : State) → keyed fs f (key_of c) ≡ Some s → More (height (key fs f)) (tail (key fs f)) c s
     keyed_more (name us, a) s e = the_more _ _ _ _ s e (keyed_so fs _ (name us) a (λ k o. omega arith))
     keyed_more (text us, a) s e = the_more _ _ _ _ s e (keyed_so fs _ (text us) a (λ k o. omega arith))
@@ -312,7 +320,8 @@ clause_more : (x : E) (cs : List Clause) (f : Stack) (c : Spot) (s : State) → 
 clause_more x cs f c s e = more_or _ _ case_word c (want (case_test x cs ∷ f)) _ s e (record { higher = more_behind f _ _ (omega arith); wider = λ o. omega arith })
     (λ e. elim (chosen (is default_word c) (when (not (has_default (cases_of cs))) (await (colon ∷ []) (start (body (a_clause x cs tree.no_expr) [] ∷ f)))) (when (is close_brace c) (cases_closed x cs f)) (Some s) e) [
       | inl g ↦ more_when _ _ _ (not (has_default (cases_of cs))) (await (colon ∷ []) (start (body (a_clause x cs tree.no_expr) [] ∷ f))) s g.1 (λ k. at_mark _ _ default_word c _ g.0 (record { higher = more_behind f _ _ (omega arith); wider = λ o. omega arith }))
-      | inr g ↦ more_token _ _ close_brace c (cases_closed x cs f) s g.1 (record { higher = more_behind f _ _ (omega arith); wider = λ o. omega arith }) ])
+      | inr g ↦ more_token _ _ close_brace c (cases_closed x cs f) s g.1 (record { higher = more_behind f _ _ (omega arith); wider = λ o. omega arith })
+    ])
 
 -- one more statement in a list
 list_more : (b : Body) (ss : List S) (x : S) (f : Stack) → height_behind (body b ss ∷ f) (deep t.stmt x) ≤ height_behind (body b (ss ++ x ∷ []) ∷ f) 0
@@ -339,6 +348,7 @@ made_more true x (body b ss ∷ f) a h = record { higher = one_more b ss; wider 
   where
     one_more : (b : Body) (ss : List S) → height_behind (body b ss ∷ f) (1 + deep t.func x) ≤ height_behind (body b (ss ++ tree.declare x ∷ []) ∷ f) 0
     one_more b ss = list_more b ss (tree.declare x) f
+
     same_close : (b : Body) (ss : List S) (o : ℕ) → most o (spot close_brace ∷ close_statement (body b ss ∷ f)) ≤ most o ((close_brace, a) ∷ close_statement (body b (ss ++ tree.declare x ∷ []) ∷ f))
     same_close b ss o = omega (arith, ap (λ k. most (o - 1) k) (list_close_same b ss (ss ++ tree.declare x ∷ []) f))
 made_more true x [] a h = absurd (let e = h refl in cc)
@@ -397,8 +407,9 @@ sign_more f a a_with s h n e = the_more _ _ _ _ s e (started_more f _ _ (record 
 found_begin_more : (f : Stack) (c : Spot) (q : Option Begin) (s : State) → look_up begins c.0 ≡ q → Takes f → begin_by f c q ≡ Some s → More (height_start f) (close_start f) c s
 found_begin_more f c None s g h e = started_more f c s (less_more _ _ _ _ c s (more_behind f 1 2 (omega arith)) (λ o. omega (arith, most_low (close_statement f) o)) (operand_more (statement ∷ f) c s e))
 found_begin_more f c (Some b) s g h e = elim (clause_or b) [
-    | inl k ↦ next_more f c s (subst (λ b. begin_by f c (Some b) ≡ Some s) k e)
-    | inr k ↦ (let i = sign_is c.0 b g k in subst (λ (z : Token). begin_by f (z, c.1) (Some b) ≡ Some s → More (height_start f) (close_start f) (z, c.1) s) (sym i) (λ e. sign_more f c.1 b s h k e) e) ]
+  | inl k ↦ next_more f c s (subst (λ b. begin_by f c (Some b) ≡ Some s) k e)
+  | inr k ↦ (let i = sign_is c.0 b g k in subst (λ (z : Token). begin_by f (z, c.1) (Some b) ≡ Some s → More (height_start f) (close_start f) (z, c.1) s) (sym i) (λ e. sign_more f c.1 b s h k e) e)
+]
 
 begin_more : (f : Stack) (c : Spot) (s : State) → Takes f → begin f c ≡ Some s → More (height_start f) (close_start f) c s
 begin_more f (name us, a) s h e = the_more _ _ _ _ s e (started_more f _ _ (record { higher = more_behind f _ _ (omega arith); wider = λ o. omega (arith, most_low (close_statement f) o) }))
@@ -443,7 +454,8 @@ item_end_more : (h : Bool) (n : Word) (its : List Item) (f : Stack) (c : Spot) (
 item_end_more h n its f c s e = more_or _ _ equals c (want (value h n its ∷ f)) _ s e (value_more h n its f c.1)
     (λ e. elim (chosen (h && first_item its && is in_word c) (Some (want (for_object (tree.loop_var n) ∷ f))) (after_item h (its ++ (n, tree.no_expr) ∷ []) f c) (Some s) e) [
       | inl k ↦ the_more _ _ _ _ s k.1 (object_more h n its f c (and_three h (first_item its) (is in_word c) k.0))
-      | inr k ↦ less_more _ _ _ _ c s (more_behind f _ _ (items_high h its n)) (λ o. omega arith) (after_item_more h f c (its ++ (n, tree.no_expr) ∷ []) s k.1) ])
+      | inr k ↦ less_more _ _ _ _ c s (more_behind f _ _ (items_high h its n)) (λ o. omega arith) (after_item_more h f c (its ++ (n, tree.no_expr) ∷ []) s k.1)
+    ])
 
 jump_deep : (b : Bool) (n : Option Word) (a : ℕ) → deep t.stmt (jump b n a) ≡ 1
 jump_deep true n a = refl

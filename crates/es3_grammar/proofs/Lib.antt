@@ -17,3 +17,4 @@ pub mod Stops
 pub mod Heights
 pub mod Least
 pub mod Limits
+pub mod DeepExamples

@@ -1,20 +1,18 @@
 -- What is read within a limit is what is spelled within it, and each refusal comes at its exact place.
-use Rattle.std.proofs.Common.{◌≡◌, ◌↔◌, ℕ, ◌+◌, ◌-◌, ◌*◌, ◌≤◌, ◌<◌, ◌⊎◌, max, Bool, true, false, cond, ◌&&◌, List, [], ◌∷◌, ◌++◌, Option, Some, None, nat_le, refl, sym, ap, subst, inl, inr, ◌∙◌, arith, append_assoc}
+use Rattle.std.proofs.Common.{◌≡◌, ℕ, ◌*◌, ◌≤◌, ◌<◌, ◌⊎◌, max, Bool, true, false, cond, ◌&&◌, List, [], ◌∷◌, ◌++◌, Option, Some, None, nat_le, refl, sym, ap, subst, inl, inr, ◌∙◌, arith, append_assoc}
 use Rattle.std.proofs.lemmas.Bool.{leb-true, leb-false, le-leb}
 use Rattle.std.proofs.lemmas.List.{append-nil}
 use Rattle.es3_tree.specs.Tree as t
 use Rattle.es3_tree.specs.Placed as tree
 use Rattle.es3_tree.specs.Placed.{Placed}
 use Rattle.es3_grammar.specs.Spots.{Spot}
-use Rattle.es3_grammar.specs.Grammar.{S, free, Spells}
+use Rattle.es3_grammar.specs.Grammar.{S}
 use Rattle.es3_grammar.specs.Plain.{deep}
-use Rattle.es3_grammar.specs.Frames.{stmts_of, Body, a_program, then_of, else_of, while_body, for_body, in_body, with_body, label_of, body, Stack, State, start, ended, caught}
-use Rattle.es3_grammar.specs.Machine.{caught_made, Answer, whole, part, stopped, all_of, program_at, ending, goes, step, run, beginning, read}
-use Rattle.es3_grammar.specs.Begins.{Begins}
+use Rattle.es3_grammar.specs.Frames.{stmts_of, a_program, then_of, else_of, while_body, for_body, in_body, with_body, label_of, body, Stack, State, start, ended, caught}
+use Rattle.es3_grammar.specs.Machine.{caught_made, Answer, whole, part, stopped, all_of, ending, step, run, beginning}
 use Rattle.es3_grammar.specs.Ends.{height_behind, close_statement, height, tail}
 use Rattle.es3_grammar.specs.Limit.{turn, most, Within, BeginsWithin}
 use Rattle.es3_grammar.specs.Within.{Reading, program, broken, refused, too_deep, reading_of, is_within, goes_within, run_within, read_within, DeepAt, RefusedAt}
-use Rattle.es3_grammar.proofs.Tables.{first_passes}
 use Rattle.es3_grammar.proofs.OneTree.{whole_is, spots_read}
 use Rattle.es3_grammar.proofs.Exact.{went, spots_spelled}
 use Rattle.es3_grammar.proofs.Fits.{Fits, step_fits}
@@ -137,17 +135,23 @@ pub record Known (n : ℕ) (u : List Spot) (s : State) : Type 0 where
 
 known_on : (n : ℕ) (u : List Spot) (s r : State) (c : Spot) → Known n u s → step s c ≡ Some r → is_within n (turn (counted 0 u) c) r ≡ true → Known n (u ++ c ∷ []) r
 known_on n u s r c k e w = let g = passed n (turn (counted 0 u) c) r w in record {
-    come = λ z. ap (λ (v : List Spot). run v beginning) (append_assoc u (c ∷ []) z) ∙ k.come (c ∷ z) ∙ goes_by c z s r e;
-    fits = step_fits s c r k.fits e;
-    shallow = g.0;
-    few = (let a = k.few in let b = counted_low u 0 in let d = most_low (tail r) (turn (counted 0 u) c) in let i = g.1 in omega (arith, most_split u (c ∷ []) 0));
-    fewer = subst (λ (x : ℕ). most x (tail r) ≤ 2 * n) (sym (counted_on u c 0)) g.1 }
+  come = λ z. ap (λ (v : List Spot). run v beginning) (append_assoc u (c ∷ []) z) ∙ k.come (c ∷ z) ∙ goes_by c z s r e;
+  fits = step_fits s c r k.fits e;
+  shallow = g.0;
+  few = (let a = k.few in let b = counted_low u 0 in let d = most_low (tail r) (turn (counted 0 u) c) in let i = g.1 in omega (arith, most_split u (c ∷ []) 0));
+  fewer = subst (λ (x : ℕ). most x (tail r) ≤ 2 * n) (sym (counted_on u c 0)) g.1;
+}
 
 begins_known : (n : ℕ) (u : List Spot) (s : State) → Known n u s → BeginsWithin n u
-begins_known n u s k = let v = viable s k.fits in (v.made, tail s, record {
+begins_known n u s k = let v = viable s k.fits in (
+  v.made,
+  tail s,
+  record {
     spelled = spots_spelled v.made (u ++ tail s) (k.come (tail s) ∙ v.reads);
     shallow = (let a = v.fits in let b = k.shallow in omega arith);
-    few = (let a = k.few in let b = k.fewer in omega (arith, most_split u (tail s) 0)) })
+    few = (let a = k.few in let b = k.fewer in omega (arith, most_split u (tail s) 0));
+  },
+)
 
 -- what is found, from the tokens u on
 abbrev pub Found : ℕ → List Spot → List Spot → Reading → Type 0
@@ -161,18 +165,23 @@ Found n u k (too_deep (c ∷ r)) = DeepAt n (u ++ k) c r
 found_end : (n : ℕ) (u : List Spot) (s : State) (a : Answer) → ending s ≡ a → Known n u s → Found n u [] (reading_of a)
 unfolding run
 found_end n u s (whole p) e k = let d = end_deep s p k.fits e in subst (λ (z : List Spot). Within n p z) (sym (append-nil u)) (record {
-    spelled = spots_spelled p u (ap (λ (z : List Spot). run z beginning) (sym (append-nil u)) ∙ k.come [] ∙ e);
-    shallow = (let b = k.shallow in omega arith);
-    few = k.few })
+  spelled = spots_spelled p u (ap (λ (z : List Spot). run z beginning) (sym (append-nil u)) ∙ k.come [] ∙ e);
+  shallow = (let b = k.shallow in omega arith);
+  few = k.few;
+})
 found_end n u s part e k = subst (BeginsWithin n) (sym (append-nil u)) (begins_known n u s k)
 found_end n u s (stopped r) e k = absurd (never s r e)
 
 refuses : (n : ℕ) (u : List Spot) (s : State) (c : Spot) (r : List Spot) → Known n u s → step s c ≡ None → RefusedAt n (u ++ c ∷ r) c r
 unfolding run
-refuses n u s c r k e = record { front = u; parts = refl; within = begins_known n u s k;
-    ends = λ b. (let one : run ((u ++ c ∷ []) ++ b.1) beginning ≡ whole b.0 = spots_read b.0 _ b.2 in
+refuses n u s c r k e = record {
+  front = u;
+  parts = refl;
+  within = begins_known n u s k;
+  ends = λ b. (let one : run ((u ++ c ∷ []) ++ b.1) beginning ≡ whole b.0 = spots_read b.0 _ b.2 in
       let two : run ((u ++ c ∷ []) ++ b.1) beginning ≡ stopped (c ∷ b.1) = ap (λ (w : List Spot). run w beginning) (append_assoc u (c ∷ []) b.1) ∙ k.come (c ∷ b.1) ∙ stops s e b.1 in
-      absurd (cc (one, two))) }
+      absurd (cc (one, two)));
+}
   where
     stops : (s : State) → step s c ≡ None → (z : List Spot) → run (c ∷ z) s ≡ stopped (c ∷ z)
     stops s e z = rw e refl
@@ -181,14 +190,18 @@ deepens : (n : ℕ) (u : List Spot) (s r : State) (c : Spot) (k : List Spot) →
 deepens n u s r c k g e w =
     let f = step_fits s c r g.fits e in
     let v = viable r f in
-    record { front = u; parts = refl; within = begins_known n u s g;
+    record {
+      front = u;
+      parts = refl;
+      within = begins_known n u s g;
       begins = (v.made, tail r, spots_spelled v.made ((u ++ c ∷ []) ++ tail r) (on (tail r) ∙ v.reads));
       ends = λ b. (let i = b.2 in let l = run_least b.1 r b.0 f (sym (on b.1) ∙ spots_read b.0 _ i.spelled) in
-        let few = i.few in let shallow = i.shallow in let less = l.few (turn (counted 0 u) c) in
-        elim (failed n (turn (counted 0 u) c) r w) [
-          | inl q ↦ (let a = l.shallow in omega arith)
-          | inr q ↦ omega (arith, most_split (u ++ c ∷ []) b.1 0, ap (λ (x : ℕ). most x b.1) (counted_on u c 0))
-        ]) }
+          let few = i.few in let shallow = i.shallow in let less = l.few (turn (counted 0 u) c) in
+          elim (failed n (turn (counted 0 u) c) r w) [
+            | inl q ↦ (let a = l.shallow in omega arith)
+            | inr q ↦ omega (arith, most_split (u ++ c ∷ []) b.1 0, ap (λ (x : ℕ). most x b.1) (counted_on u c 0))
+          ]);
+    }
   where
     on : (z : List Spot) → run ((u ++ c ∷ []) ++ z) beginning ≡ run z r
     on z = ap (λ (x : List Spot). run x beginning) (append_assoc u (c ∷ []) z) ∙ g.come (c ∷ z) ∙ goes_by c z s r e
@@ -205,10 +218,12 @@ finds (c ∷ k) n u s g = go (λ r e. finds k n (u ++ c ∷ []) r e) (step s c) 
     moved (refused (d ∷ r)) f = subst (λ (z : List Spot). RefusedAt n z d r) (append_assoc u (c ∷ []) k) f
     moved (too_deep []) f = f
     moved (too_deep (d ∷ r)) f = subst (λ (z : List Spot). DeepAt n z d r) (append_assoc u (c ∷ []) k) f
+
     tested : ((r : State) → Known n (u ++ c ∷ []) r → Found n (u ++ c ∷ []) k (run_within n (counted 0 (u ++ c ∷ [])) k r)) → (r : State) → step s c ≡ Some r → (b : Bool) → is_within n (turn (counted 0 u) c) r ≡ b
         → Found n u (c ∷ k) (cond b (run_within n (turn (counted 0 u) c) k r) (too_deep (c ∷ k)))
     tested rec r e true w = moved (run_within n (turn (counted 0 u) c) k r) (subst (λ (x : ℕ). Found n (u ++ c ∷ []) k (run_within n x k r)) (counted_on u c 0) (rec r (known_on n u s r c g e w)))
     tested rec r e false w = deepens n u s r c k g e w
+
     go : ((r : State) → Known n (u ++ c ∷ []) r → Found n (u ++ c ∷ []) k (run_within n (counted 0 (u ++ c ∷ [])) k r)) → (q : Option State) → step s c ≡ q
         → Found n u (c ∷ k) (goes_within (run_within n (turn (counted 0 u) c) k) n (turn (counted 0 u) c) (c ∷ k) q)
     go rec None e = refuses n u s c k g e

@@ -1,19 +1,19 @@
 -- From each state whose frames fit one another the text can be ended.
 use Rattle.es3_grammar.proofs.Heights.{more_at, more_behind, joined_deep, exprs_deep, fields_deep, stmts_deep, items_deep, cases_deep, cond_more}
 use Rattle.es3_grammar.specs.Plain.{deep}
-use Rattle.es3_grammar.specs.Ends.{spot, a_name, letter, close_step, close_value, stepped, close_new, close, close_statement, close_func, close_start, close_key, tail, stepping, height_at, height_behind, height_func, height_start, height_key, height_items, height}
+use Rattle.es3_grammar.specs.Ends.{spot, a_name, close_step, close_value, stepped, close_new, close, close_statement, close_func, close_start, tail, stepping, height_at, height_behind, height_func, height_start, height_items, height}
 use Rattle.es3_grammar.proofs.SoundParts.{not_target, right_fits}
 use Rattle.std.proofs.lemmas.Bool.Decides.{eqb_tells}
 use Rattle.std.proofs.Common.{◌≡◌, ℕ, ◌≤◌, Bool, true, false, cond, List, [], ◌∷◌, ◌++◌, Some, None, refl, sym, subst, ◌∙◌, arith, nat_eq, map, inl, inr, max, ◌+◌}
-use Rattle.es3_tree.specs.Token.{Token, name, word, punct}
+use Rattle.es3_tree.specs.Token.{Token, word, punct}
 use Rattle.es3_tree.specs.Tree as t
 use Rattle.es3_tree.specs.Placed as tree
 use Rattle.es3_tree.specs.Placed.{Placed, Word}
-use Rattle.es3_grammar.specs.Spots.{Spot, same_token, look_up, finally_word, while_word, open_brace, close_brace, open_paren, close_paren, close_bracket, point, semicolon, colon}
+use Rattle.es3_grammar.specs.Spots.{Spot, same_token, look_up}
 use Rattle.es3_grammar.specs.Levels.{E, Join, an_op, an_and, an_or, an_assign, a_comma, own, right, joined, is_target}
 use Rattle.es3_grammar.specs.Grammar.{S, Bars, free, placed_word}
-use Rattle.es3_grammar.specs.Frames.{Item, exprs_of, fields_of, stmts_of, items_of, cases_of, Opened, an_array, a_call, a_new, Head, head, a_program, a_block, a_function, a_clause, a_try, a_catch, a_finally, Frame, paren, subscript, items, field, new_of, prefix_step, prefix, join, test, either, statement, value, if_test, while_test, do_test, for_first, for_test, for_step, for_object, giving, throwing, with_head, switch_head, case_test, then_of, else_of, while_body, do_body, for_body, in_body, with_body, label_of, body, Stack, State, want, have, past, listed, member, key, func, params, param, param_end, start, begun, ended, closing, item, item_end, for_open, for_second, for_third, returned, jumped, clauses, tried, caught, catch_name, await, asks, asked, no_in_here, Field, Body}
-use Rattle.es3_grammar.specs.Machine.{closer, func_of, func_made, filled, settle, declares, resume, step, Answer, whole, all_of, run, caught_made, jump, first_item}
+use Rattle.es3_grammar.specs.Frames.{Item, exprs_of, fields_of, stmts_of, items_of, cases_of, Opened, an_array, a_call, a_new, Head, head, a_program, a_block, a_function, a_clause, a_try, a_catch, a_finally, Frame, paren, subscript, items, field, new_of, prefix_step, prefix, join, test, either, statement, value, if_test, while_test, do_test, for_first, for_test, for_step, for_object, giving, throwing, with_head, switch_head, case_test, then_of, else_of, while_body, do_body, for_body, in_body, with_body, label_of, body, Stack, State, want, have, past, listed, member, key, func, params, param, param_end, start, begun, ended, closing, item, item_end, for_open, for_second, for_third, returned, jumped, clauses, tried, caught, catch_name, await, asks, asked, no_in_here, Body}
+use Rattle.es3_grammar.specs.Machine.{closer, func_of, func_made, filled, settle, declares, resume, step, Answer, whole, all_of, run, caught_made, first_item}
 use Rattle.es3_grammar.proofs.Follow.{level_fits, Ends, own_in_left, Leaves, NoTrailer, reduces, leaves, leaves_high, no_trailer_ends, past_have, NoElse, takes_statement, ends_then, ends_else, ends_while, ends_for, ends_in, ends_with, ends_label, ends_catch, barred, bars_in_barred, follows_any}
 use Rattle.es3_grammar.proofs.Fits.{Expects, Takes, FuncFits, Fits, Awaits, is_mark}
 

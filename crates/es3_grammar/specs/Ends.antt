@@ -1,14 +1,11 @@
 -- The shortest end of a text from each state of the machine, and how deep the tree is that it makes. All tokens of an end are at the byte 0.
-use Rattle.std.specs.Prelude.{ℕ, ◌+◌, max, Bool, true, false, List, [], ◌∷◌, ◌++◌, map, Option, Some, None, if◌then◌else◌}
+use Rattle.std.specs.Prelude.{ℕ, ◌+◌, max, Bool, true, false, List, [], ◌∷◌, ◌++◌, map, if◌then◌else◌}
 use Rattle.es3_tree.specs.Token.{Token, name}
 use Rattle.es3_tree.specs.Tree as t
-use Rattle.es3_tree.specs.Placed as tree
-use Rattle.es3_tree.specs.Placed.{Placed}
 use Rattle.es3_grammar.specs.Spots.{Spot, finally_word, while_word, open_brace, close_brace, open_paren, close_paren, close_bracket, point, semicolon, colon}
-use Rattle.es3_grammar.specs.Levels.{E, is_target}
-use Rattle.es3_grammar.specs.Grammar.{S}
+use Rattle.es3_grammar.specs.Levels.{is_target}
 use Rattle.es3_grammar.specs.Plain.{deep}
-use Rattle.es3_grammar.specs.Frames.{Field, Item, exprs_of, fields_of, stmts_of, items_of, cases_of, Opened, an_array, a_call, a_new, Head, Body, a_program, a_block, a_function, a_clause, a_try, a_catch, a_finally, Frame, paren, subscript, items, field, new_of, prefix_step, prefix, join, test, either, statement, value, if_test, while_test, do_test, for_first, for_test, for_step, for_object, giving, throwing, with_head, switch_head, case_test, then_of, else_of, while_body, do_body, for_body, in_body, with_body, label_of, body, Stack, State, want, have, past, listed, member, key, func, params, param, param_end, start, begun, ended, closing, item, item_end, for_open, for_second, for_third, returned, jumped, clauses, tried, caught, catch_name, await}
+use Rattle.es3_grammar.specs.Frames.{Field, Item, exprs_of, fields_of, stmts_of, items_of, cases_of, an_array, a_call, a_new, a_program, a_block, a_function, a_clause, a_try, a_catch, a_finally, paren, subscript, items, field, new_of, prefix_step, prefix, join, test, either, statement, value, if_test, while_test, do_test, for_first, for_test, for_step, for_object, giving, throwing, with_head, switch_head, case_test, then_of, else_of, while_body, do_body, for_body, in_body, with_body, label_of, body, Stack, State, want, have, past, listed, member, key, func, params, param, param_end, start, begun, ended, closing, item, item_end, for_open, for_second, for_third, returned, jumped, clauses, tried, caught, catch_name, await}
 use Rattle.es3_grammar.specs.Machine.{closer, closed_list}
 
 abbrev pub spot : Token → Spot

@@ -1,5 +1,5 @@
 -- Reading within a limit: what is read is refused at the first token from which no text within the limit goes on.
-use Rattle.std.specs.Prelude.{ℕ, ◌+◌, ◌*◌, ◌≡◌, List, [], ◌∷◌, ◌++◌, Bool, ◌&&◌, Option, Some, None, nat_le, if◌then◌else◌}
+use Rattle.std.specs.Prelude.{ℕ, ◌*◌, ◌≡◌, List, [], ◌∷◌, ◌++◌, Bool, ◌&&◌, Option, Some, None, nat_le, if◌then◌else◌}
 use Rattle.es3_tree.specs.Tree as t
 use Rattle.es3_tree.specs.Placed.{Placed}
 use Rattle.es3_grammar.specs.Spots.{Spot}
