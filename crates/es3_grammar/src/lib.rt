@@ -1,0 +1,57 @@
+//! Which tokens a tree of ECMAScript 3 is spelled by (ES3 11 to 14), and a machine that reads them.
+//!
+//! The definitions stand in specs/: `spells` (specs/Grammar.antt) by cases on the tree, with the levels of specs/Levels.antt; `read`
+//! (specs/Machine.antt), which goes from left to right, a token at a time, with a stack of frames (specs/Frames.antt); `read_within`
+//! (specs/Within.antt), the same with a limit of nesting (specs/Limit.antt), by the shortest end of each state (specs/Ends.antt).
+//! There is no code. The functions here have no body: each one's contract is a law. Trees have the places of their tokens.
+#![tactic(auto)]
+
+ghost use Rattle.std.specs.Prelude.{◌≡◌, ◌↔◌, ℕ, List, [], ◌∷◌};
+ghost use Rattle.es3_tree.specs.Placed.{Placed};
+ghost use Rattle.es3_tree.specs.Tree as t;
+ghost use Rattle.es3_tokens.specs.Tokens as tokens;
+ghost use Rattle.es3_grammar.specs.Spots.{Spot, spots};
+ghost use Rattle.es3_grammar.specs.Grammar.{spells};
+ghost use Rattle.es3_grammar.specs.Begins.{Begins, StopsAt};
+ghost use Rattle.es3_grammar.specs.Limit.{Within, BeginsWithin};
+ghost use Rattle.es3_grammar.specs.Machine.{read, whole, part, stopped};
+ghost use Rattle.es3_grammar.specs.Within.{read_within, program, broken, refused, too_deep, RefusedAt, DeepAt};
+
+/// Reading is the grammar: the machine reads a program of the tokens exactly where they spell it.
+#[tactic(auto, using(crate::proofs::Exact::reading))]
+pub fn reading_is_the_grammar()
+    ensures { (p : Placed t.program) (ts : List tokens.Placed) → (read (spots ts) ≡ whole p) ↔ spells p ts }
+{}
+
+/// No tokens are spelled by two programs.
+#[tactic(auto, using(crate::proofs::OneTree::one_tree))]
+pub fn tokens_spell_one_program()
+    ensures { (p q : Placed t.program) (ts : List tokens.Placed) → spells p ts → spells q ts → p ≡ q }
+{}
+
+/// The machine refuses the first token with which no program goes on, and none before it; where it refuses none and has no whole
+/// program either, a program goes on behind the last token.
+#[tactic(auto, using(crate::proofs::Stops::stops_exactly, crate::proofs::Stops::breaks_off))]
+pub fn reading_stops_exactly()
+    ensures refused { (u : List Spot) (c : Spot) (k : List Spot) → read u ≡ stopped (c ∷ k) → StopsAt u c k }
+    ensures ended { (u : List Spot) → read u ≡ part → Begins u }
+{}
+
+/// Reading within a limit is the grammar within it: a program is read exactly where the tokens spell it and neither its nesting nor
+/// its open brackets pass the limit.
+#[tactic(auto, using(crate::proofs::Limits::within_sound, crate::proofs::Limits::within_complete))]
+pub fn reading_within_is_the_grammar()
+    ensures sound { (limit : ℕ) (p : Placed t.program) (u : List Spot) → read_within limit u ≡ program p → Within limit p u }
+    ensures complete { (limit : ℕ) (p : Placed t.program) (u : List Spot) → Within limit p u → read_within limit u ≡ program p }
+{}
+
+/// Each refusal within a limit has a token and is exact: a token is refused where it is the first with which no program goes on, and
+/// too deep where it is the first with which none within the limit goes on but a deeper one does; where neither comes and no program
+/// is read, one within the limit goes on behind the last token.
+#[tactic(auto, using(crate::proofs::Limits::refused_at, crate::proofs::Limits::deep_at, crate::proofs::Limits::broken_off, crate::proofs::Limits::refused_some))]
+pub fn reading_within_stops_exactly()
+    ensures refused { (limit : ℕ) (u : List Spot) (c : Spot) (k : List Spot) → read_within limit u ≡ refused (c ∷ k) → RefusedAt limit u c k }
+    ensures deep { (limit : ℕ) (u : List Spot) (c : Spot) (k : List Spot) → read_within limit u ≡ too_deep (c ∷ k) → DeepAt limit u c k }
+    ensures broken { (limit : ℕ) (u : List Spot) → read_within limit u ≡ broken → BeginsWithin limit u }
+    ensures some { (limit : ℕ) (u : List Spot) → ((read_within limit u ≡ refused [] → ⊥) × (read_within limit u ≡ too_deep [] → ⊥)) }
+{}
