@@ -8,7 +8,7 @@ use Rattle.es3_tokens.specs.Gaps.{comment_end}
 use Rattle.es3_tokens.specs.Cut as cut
 use Rattle.es3_tokens.specs.Cut.{cut_chars, cut_from, point}
 use Rattle.es3_grammar.specs.Spots.{spots, look_up}
-use Rattle.es3_grammar.specs.Machine.{Answer, whole, part, stopped, settle, resume, step, all_of, run, read}
+use Rattle.es3_grammar.specs.Machine.{Answer, whole, part, stopped, settle, resume, step, all_of, run, read, finished}
 
 abbrev answer : cut.Answer → Answer
 answer (Ok ts) = read (spots ts)
@@ -50,7 +50,7 @@ primary =
     ∷ []
 
 primary_are_read : list_all (λ s. is_whole (program s)) primary ≡ true
-unfolding longest body comment_end point cut_from look_up settle resume step all_of run
+unfolding longest body comment_end point cut_from look_up settle resume step all_of finished run
 primary_are_read = refl
 
 -- members and calls (11.2)
@@ -76,7 +76,7 @@ members =
     ∷ []
 
 members_are_read : list_all (λ s. is_whole (program s)) members ≡ true
-unfolding longest body comment_end point cut_from look_up settle resume step all_of run
+unfolding longest body comment_end point cut_from look_up settle resume step all_of finished run
 members_are_read = refl
 
 -- operators (11.3 to 11.14)
@@ -113,7 +113,7 @@ operators =
     ∷ []
 
 operators_are_read : list_all (λ s. is_whole (program s)) operators ≡ true
-unfolding longest body comment_end point cut_from look_up settle resume step all_of run
+unfolding longest body comment_end point cut_from look_up settle resume step all_of finished run
 operators_are_read = refl
 
 -- statements (12.1 to 12.5)
@@ -136,7 +136,7 @@ statements =
     ∷ []
 
 statements_are_read : list_all (λ s. is_whole (program s)) statements ≡ true
-unfolding longest body comment_end point cut_from look_up settle resume step all_of run
+unfolding longest body comment_end point cut_from look_up settle resume step all_of finished run
 statements_are_read = refl
 
 -- loops (12.6)
@@ -162,7 +162,7 @@ loops =
     ∷ []
 
 loops_are_read : list_all (λ s. is_whole (program s)) loops ≡ true
-unfolding longest body comment_end point cut_from look_up settle resume step all_of run
+unfolding longest body comment_end point cut_from look_up settle resume step all_of finished run
 loops_are_read = refl
 
 -- jumps, clauses, labels, handlers (12.7 to 12.14), functions (13)
@@ -187,7 +187,7 @@ others =
     ∷ []
 
 others_are_read : list_all (λ s. is_whole (program s)) others ≡ true
-unfolding longest body comment_end point cut_from look_up settle resume step all_of run
+unfolding longest body comment_end point cut_from look_up settle resume step all_of finished run
 others_are_read = refl
 
 -- faults of expressions, and the byte of the token that is refused
@@ -246,7 +246,7 @@ faults_of_expressions =
     ∷ []
 
 faults_of_expressions_are_refused : list_all (λ r. is_refused r.1 (program r.0)) faults_of_expressions ≡ true
-unfolding longest body comment_end point cut_from look_up settle resume step all_of run
+unfolding longest body comment_end point cut_from look_up settle resume step all_of finished run
 faults_of_expressions_are_refused = refl
 
 -- faults of statements, and the byte of the token that is refused
@@ -308,7 +308,7 @@ faults_of_statements =
     ∷ []
 
 faults_of_statements_are_refused : list_all (λ r. is_refused r.1 (program r.0)) faults_of_statements ≡ true
-unfolding longest body comment_end point cut_from look_up settle resume step all_of run
+unfolding longest body comment_end point cut_from look_up settle resume step all_of finished run
 faults_of_statements_are_refused = refl
 
 -- texts that break off
@@ -362,5 +362,5 @@ unfinished =
     ∷ []
 
 unfinished_break_off : list_all (λ s. is_part (program s)) unfinished ≡ true
-unfolding longest body comment_end point cut_from look_up settle resume step all_of run
+unfolding longest body comment_end point cut_from look_up settle resume step all_of finished run
 unfinished_break_off = refl
