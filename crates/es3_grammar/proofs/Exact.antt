@@ -1,4 +1,5 @@
 -- The tokens that are read are those that are spelled.
+use Rattle.es3_grammar.specs.Levels.{E}
 use Rattle.std.proofs.Common.{◌≡◌, ◌↔◌, List, [], ◌∷◌, ◌++◌, Option, Some, None, refl, sym, ap, subst, ◌∙◌, arith, append_assoc}
 use Rattle.std.proofs.lemmas.List.{append-nil}
 use Rattle.es3_tree.specs.Tree as t
@@ -7,8 +8,8 @@ use Rattle.es3_tree.specs.Placed.{Placed, Word}
 use Rattle.es3_tokens.specs.Tokens as tokens
 use Rattle.es3_grammar.specs.Spots.{Spot, spots}
 use Rattle.es3_grammar.specs.Grammar.{S, free, Spells, s_script, s_no_stmts, spells}
-use Rattle.es3_grammar.specs.Frames.{stmts_of, a_program, then_of, else_of, while_body, for_body, in_body, with_body, label_of, body, Stack, State, start, ended, caught}
-use Rattle.es3_grammar.specs.Machine.{caught_made, Answer, whole, all_of, ending, goes, step, run, beginning, read}
+use Rattle.es3_grammar.specs.Frames.{stmts_of, a_program, then_of, else_of, while_body, for_body, in_body, with_body, label_of, body, Stack, State, start, ended, caught, have, past}
+use Rattle.es3_grammar.specs.Machine.{caught_made, Answer, whole, all_of, ending, goes, step, run, beginning, read, finished, filled, part}
 use Rattle.es3_grammar.proofs.Longer.{stmts_so}
 use Rattle.es3_grammar.proofs.Stands.{Leads, Stands, Over, StandsFor}
 use Rattle.es3_grammar.proofs.SoundParts.{over_as, inward}
@@ -32,10 +33,22 @@ all_sound (body a_program ss ∷ []) x p u o e = program_sound (ss ++ x ∷ []) 
     (let m = inward (body a_program ss) [] (Spells t.stmt free 0 x) (Leads [] (body a_program (ss ++ x ∷ []))) u o (λ v w i q. (i.0, i.1 ++ w, i.2, stmts_so 1 ss i.1 x w i.3 q, ap (λ z. z ++ w) i.4 ∙ append_assoc i.0 i.1 w)) in (m.0, m.1, m.2, m.4, omega arith, m.3, m.5)) e
 all_sound _ x p u o e = absurd cc
 
+-- an expression alone is no program
+pub never_whole : (f : Stack) (x : E) (p : Placed t.program) → finished f x ≡ whole p → ⊥
+unfolding finished
+never_whole [] x p e = cc
+never_whole (g ∷ f) x p e = go (λ y k. never_whole f y p k) (filled g x) e
+  where
+    go : ((y : E) → finished f y ≡ whole p → ⊥) → (o : Option E) → elim o [ Some y ↦ finished f y | None ↦ part ] ≡ whole p → ⊥
+    go rec None e = cc
+    go rec (Some y) e = rec y e
+
 ending_sound : (s : State) (u : List Spot) (p : Placed t.program) → StandsFor s u → ending s ≡ whole p → Spells t.program free 0 p u
 ending_sound (start (body a_program ss ∷ [])) u p st e = program_sound ss u p st.0 e
 ending_sound (ended x f) u p st e = all_sound f x p u (over_as f _ _ u st (λ w i. i.0)) e
 ending_sound (caught ss n hs f) u p st e = all_sound f (caught_made ss n hs) p u (over_as f _ _ u st (λ w i. caught_spelled ss n (stmts_of hs) w i)) e
+ending_sound (have x f) u p st e = absurd (never_whole f x p e)
+ending_sound (past x f) u p st e = absurd (never_whole f x p e)
 ending_sound _ u p st e = absurd cc
 
 pub went : (f : State → Answer) (k : List Spot) (o : Option State) (p : Placed t.program) → goes f k o ≡ whole p → (s : State) × (o ≡ Some s) × (f s ≡ whole p)

@@ -1,383 +1,366 @@
--- Sources, what they spell, and the byte of the token that no program goes on with.
-use Rattle.std.proofs.Common.{◌≡◌, ℕ, List, ◌∷◌, Bool, Option, Some, None, Ok, Err, true, false, refl}
+-- Sources, what they spell, and the byte of the token with which no program goes on.
+use Rattle.std.proofs.Common.{◌≡◌, ℕ, List, [], ◌∷◌, Ok, Err, Bool, true, false, nat_eq, refl}
 use Rattle.std.specs.Prelude.{codes}
+use Rattle.std.specs.List.{list_all}
 use Rattle.es3_tokens.specs.Longest.{longest}
 use Rattle.es3_tokens.specs.Texts.{body}
 use Rattle.es3_tokens.specs.Gaps.{comment_end}
 use Rattle.es3_tokens.specs.Cut as cut
 use Rattle.es3_tokens.specs.Cut.{cut_chars, cut_from, point}
 use Rattle.es3_grammar.specs.Spots.{spots, look_up}
-use Rattle.es3_grammar.specs.Machine.{Answer, whole, part, stopped, settle, resume, step, all_of, run, read}
+use Rattle.es3_grammar.specs.Machine.{Answer, whole, part, stopped, settle, resume, step, all_of, run, read, finished}
 
 abbrev answer : cut.Answer → Answer
 answer (Ok ts) = read (spots ts)
-answer (Err e) = part
+answer (Err e) = stopped []
 
 abbrev program : List ℕ → Answer
 program s = answer (cut_chars s)
 
--- the byte of the token that is refused, and none where the text is a program or breaks off
-abbrev refused : Answer → Option ℕ
-refused (stopped (c ∷ k)) = Some c.1
-refused a = None
-
-abbrev ends : Answer → Option Bool
-ends (whole p) = Some true
-ends part = Some false
-ends (stopped k) = None
-
-no_value : refused (program (codes "var a = ;")) ≡ Some 8
-unfolding longest body comment_end point cut_from look_up settle resume step all_of run
-no_value = refl
-
-no_operator : refused (program (codes "a b;")) ≡ Some 2
-unfolding longest body comment_end point cut_from look_up settle resume step all_of run
-no_operator = refl
-
-sum_assigned : refused (program (codes "a + b = c;")) ≡ Some 6
-unfolding longest body comment_end point cut_from look_up settle resume step all_of run
-sum_assigned = refl
-
-call_assigned : refused (program (codes "f() = 1;")) ≡ Some 4
-unfolding longest body comment_end point cut_from look_up settle resume step all_of run
-call_assigned = refl
-
-number_stepped : refused (program (codes "1++;")) ≡ Some 1
-unfolding longest body comment_end point cut_from look_up settle resume step all_of run
-number_stepped = refl
-
-list_in : refused (program (codes "for (a, b in c) ;")) ≡ Some 10
-unfolding longest body comment_end point cut_from look_up settle resume step all_of run
-list_in = refl
-
-value_in : refused (program (codes "for (var a = 1 in b) ;")) ≡ Some 15
-unfolding longest body comment_end point cut_from look_up settle resume step all_of run
-value_in = refl
-
-step_of_sign : refused (program (codes "++ -a;")) ≡ Some 3
-unfolding longest body comment_end point cut_from look_up settle resume step all_of run
-step_of_sign = refl
-
-step_twice : refused (program (codes "++ ++a;")) ≡ Some 3
-unfolding longest body comment_end point cut_from look_up settle resume step all_of run
-step_twice = refl
-
-step_of_number : refused (program (codes "++1;")) ≡ Some 3
-unfolding longest body comment_end point cut_from look_up settle resume step all_of run
-step_of_number = refl
-
-postfix_member : refused (program (codes "a++.b;")) ≡ Some 3
-unfolding longest body comment_end point cut_from look_up settle resume step all_of run
-postfix_member = refl
-
-argument_comma : refused (program (codes "f(a,);")) ≡ Some 4
-unfolding longest body comment_end point cut_from look_up settle resume step all_of run
-argument_comma = refl
-
-choice_list : refused (program (codes "a ? b, c : d;")) ≡ Some 5
-unfolding longest body comment_end point cut_from look_up settle resume step all_of run
-choice_list = refl
-
-else_alone : refused (program (codes "else b;")) ≡ Some 0
-unfolding longest body comment_end point cut_from look_up settle resume step all_of run
-else_alone = refl
-
-empty_then : refused (program (codes "if (a) else b;")) ≡ Some 7
-unfolding longest body comment_end point cut_from look_up settle resume step all_of run
-empty_then = refl
-
-block_like : refused (program (codes "{a: 1, b: 2}")) ≡ Some 8
-unfolding longest body comment_end point cut_from look_up settle resume step all_of run
-block_like = refl
-
-function_alone : refused (program (codes "function () {}")) ≡ Some 9
-unfolding longest body comment_end point cut_from look_up settle resume step all_of run
-function_alone = refl
-
-two_defaults : refused (program (codes "switch (a) { default: default: }")) ≡ Some 22
-unfolding longest body comment_end point cut_from look_up settle resume step all_of run
-two_defaults = refl
-
-try_alone : refused (program (codes "try {} a;")) ≡ Some 7
-unfolding longest body comment_end point cut_from look_up settle resume step all_of run
-try_alone = refl
-
-label_of_function : refused (program (codes "a: function f() {}")) ≡ Some 3
-unfolding longest body comment_end point cut_from look_up settle resume step all_of run
-label_of_function = refl
-
-member_word : refused (program (codes "a.if;")) ≡ Some 2
-unfolding longest body comment_end point cut_from look_up settle resume step all_of run
-member_word = refl
-
-function_in_block : refused (program (codes "{ function f() {} }")) ≡ Some 2
-unfolding longest body comment_end point cut_from look_up settle resume step all_of run
-function_in_block = refl
-
-double_comma : refused (program (codes "[a,,b];")) ≡ Some 3
-unfolding longest body comment_end point cut_from look_up settle resume step all_of run
-double_comma = refl
-
-field_comma : refused (program (codes "x = {a: 1,};")) ≡ Some 10
-unfolding longest body comment_end point cut_from look_up settle resume step all_of run
-field_comma = refl
-
-new_step : refused (program (codes "new a++;")) ≡ Some 5
-unfolding longest body comment_end point cut_from look_up settle resume step all_of run
-new_step = refl
-
-chain_of_equal : refused (program (codes "a = b + c = d;")) ≡ Some 10
-unfolding longest body comment_end point cut_from look_up settle resume step all_of run
-chain_of_equal = refl
-
-case_alone : refused (program (codes "case a: ;")) ≡ Some 0
-unfolding longest body comment_end point cut_from look_up settle resume step all_of run
-case_alone = refl
-
-finally_alone : refused (program (codes "finally {}")) ≡ Some 0
-unfolding longest body comment_end point cut_from look_up settle resume step all_of run
-finally_alone = refl
-
-catch_pattern : refused (program (codes "try {} catch (1) {}")) ≡ Some 14
-unfolding longest body comment_end point cut_from look_up settle resume step all_of run
-catch_pattern = refl
-
-word_key : refused (program (codes "x = {if: 1};")) ≡ Some 5
-unfolding longest body comment_end point cut_from look_up settle resume step all_of run
-word_key = refl
-
-unclosed : refused (program (codes "f(a;")) ≡ Some 3
-unfolding longest body comment_end point cut_from look_up settle resume step all_of run
-unclosed = refl
-
-do_open : refused (program (codes "do a; until (b);")) ≡ Some 6
-unfolding longest body comment_end point cut_from look_up settle resume step all_of run
-do_open = refl
-
-return_value : refused (program (codes "return a b;")) ≡ Some 9
-unfolding longest body comment_end point cut_from look_up settle resume step all_of run
-return_value = refl
-
-parameters : refused (program (codes "function f(a,) {}")) ≡ Some 13
-unfolding longest body comment_end point cut_from look_up settle resume step all_of run
-parameters = refl
-
-in_first : refused (program (codes "for (a = b in c; ; ) ;")) ≡ Some 11
-unfolding longest body comment_end point cut_from look_up settle resume step all_of run
-in_first = refl
-
-later_default : refused (program (codes "switch (a) { case 1: default: ; case 2: default: }")) ≡ Some 40
-unfolding longest body comment_end point cut_from look_up settle resume step all_of run
-later_default = refl
-
-whole_0 : ends (program (codes "")) ≡ Some true
-unfolding longest body comment_end point cut_from look_up settle resume step all_of run
-whole_0 = refl
-
-whole_1 : ends (program (codes "; ;")) ≡ Some true
-unfolding longest body comment_end point cut_from look_up settle resume step all_of run
-whole_1 = refl
-
-whole_2 : ends (program (codes "a + b * c - d % e / f;")) ≡ Some true
-unfolding longest body comment_end point cut_from look_up settle resume step all_of run
-whole_2 = refl
-
-whole_3 : ends (program (codes "a = b = c += d;")) ≡ Some true
-unfolding longest body comment_end point cut_from look_up settle resume step all_of run
-whole_3 = refl
-
-whole_4 : ends (program (codes "a ? b : c ? d : e;")) ≡ Some true
-unfolding longest body comment_end point cut_from look_up settle resume step all_of run
-whole_4 = refl
-
-whole_5 : ends (program (codes "new a;")) ≡ Some true
-unfolding longest body comment_end point cut_from look_up settle resume step all_of run
-whole_5 = refl
-
-whole_6 : ends (program (codes "new new a()();")) ≡ Some true
-unfolding longest body comment_end point cut_from look_up settle resume step all_of run
-whole_6 = refl
-
-whole_7 : ends (program (codes "new a.b(c).d(e)[f];")) ≡ Some true
-unfolding longest body comment_end point cut_from look_up settle resume step all_of run
-whole_7 = refl
-
-whole_8 : ends (program (codes "++a.b;")) ≡ Some true
-unfolding longest body comment_end point cut_from look_up settle resume step all_of run
-whole_8 = refl
-
-whole_9 : ends (program (codes "a.b++;")) ≡ Some true
-unfolding longest body comment_end point cut_from look_up settle resume step all_of run
-whole_9 = refl
-
-whole_10 : ends (program (codes "!typeof void delete -+~a;")) ≡ Some true
-unfolding longest body comment_end point cut_from look_up settle resume step all_of run
-whole_10 = refl
-
-whole_11 : ends (program (codes "[a, b,];")) ≡ Some true
-unfolding longest body comment_end point cut_from look_up settle resume step all_of run
-whole_11 = refl
-
-whole_12 : ends (program (codes "[];")) ≡ Some true
-unfolding longest body comment_end point cut_from look_up settle resume step all_of run
-whole_12 = refl
-
-whole_13 : ends (program (codes "x = {};")) ≡ Some true
-unfolding longest body comment_end point cut_from look_up settle resume step all_of run
-whole_13 = refl
-
-whole_14 : ends (program (codes "x = {a: 1, 'b': 2, 3: c};")) ≡ Some true
-unfolding longest body comment_end point cut_from look_up settle resume step all_of run
-whole_14 = refl
-
-whole_15 : ends (program (codes "(function () {})();")) ≡ Some true
-unfolding longest body comment_end point cut_from look_up settle resume step all_of run
-whole_15 = refl
-
-whole_16 : ends (program (codes "x = function f(a, b) { return a; };")) ≡ Some true
-unfolding longest body comment_end point cut_from look_up settle resume step all_of run
-whole_16 = refl
-
-whole_17 : ends (program (codes "function f() {} function g(a) { function h() {} }")) ≡ Some true
-unfolding longest body comment_end point cut_from look_up settle resume step all_of run
-whole_17 = refl
-
-whole_18 : ends (program (codes "if (a) if (b) c; else d;")) ≡ Some true
-unfolding longest body comment_end point cut_from look_up settle resume step all_of run
-whole_18 = refl
-
-whole_19 : ends (program (codes "if (a) b; else if (c) d; else e;")) ≡ Some true
-unfolding longest body comment_end point cut_from look_up settle resume step all_of run
-whole_19 = refl
-
-whole_20 : ends (program (codes "for (;;) ;")) ≡ Some true
-unfolding longest body comment_end point cut_from look_up settle resume step all_of run
-whole_20 = refl
-
-whole_21 : ends (program (codes "for (a in b) ;")) ≡ Some true
-unfolding longest body comment_end point cut_from look_up settle resume step all_of run
-whole_21 = refl
-
-whole_22 : ends (program (codes "for (var a in b) ;")) ≡ Some true
-unfolding longest body comment_end point cut_from look_up settle resume step all_of run
-whole_22 = refl
-
-whole_23 : ends (program (codes "for (var a = 1, b; a < b; a++) ;")) ≡ Some true
-unfolding longest body comment_end point cut_from look_up settle resume step all_of run
-whole_23 = refl
-
-whole_24 : ends (program (codes "for (a ? b in c : d; ; ) ;")) ≡ Some true
-unfolding longest body comment_end point cut_from look_up settle resume step all_of run
-whole_24 = refl
-
-whole_25 : ends (program (codes "for ((a in b); ; ) ;")) ≡ Some true
-unfolding longest body comment_end point cut_from look_up settle resume step all_of run
-whole_25 = refl
-
-whole_26 : ends (program (codes "while (a) b;")) ≡ Some true
-unfolding longest body comment_end point cut_from look_up settle resume step all_of run
-whole_26 = refl
-
-whole_27 : ends (program (codes "do a; while (b);")) ≡ Some true
-unfolding longest body comment_end point cut_from look_up settle resume step all_of run
-whole_27 = refl
-
-whole_28 : ends (program (codes "switch (a) { case b: c; default: case d: }")) ≡ Some true
-unfolding longest body comment_end point cut_from look_up settle resume step all_of run
-whole_28 = refl
-
-whole_29 : ends (program (codes "switch (a) {}")) ≡ Some true
-unfolding longest body comment_end point cut_from look_up settle resume step all_of run
-whole_29 = refl
-
-whole_30 : ends (program (codes "a: b: for (;;) { continue a; break b; break; continue; }")) ≡ Some true
-unfolding longest body comment_end point cut_from look_up settle resume step all_of run
-whole_30 = refl
-
-whole_31 : ends (program (codes "try {} catch (e) {} try {} finally {} try {} catch (e) {} finally {}")) ≡ Some true
-unfolding longest body comment_end point cut_from look_up settle resume step all_of run
-whole_31 = refl
-
-whole_32 : ends (program (codes "throw a, b;")) ≡ Some true
-unfolding longest body comment_end point cut_from look_up settle resume step all_of run
-whole_32 = refl
-
-whole_33 : ends (program (codes "return; return a;")) ≡ Some true
-unfolding longest body comment_end point cut_from look_up settle resume step all_of run
-whole_33 = refl
-
-whole_34 : ends (program (codes "with (a) b;")) ≡ Some true
-unfolding longest body comment_end point cut_from look_up settle resume step all_of run
-whole_34 = refl
-
-whole_35 : ends (program (codes "a in b instanceof c;")) ≡ Some true
-unfolding longest body comment_end point cut_from look_up settle resume step all_of run
-whole_35 = refl
-
-whole_36 : ends (program (codes "a && b || c & d | e ^ f == g === h << i >>> j;")) ≡ Some true
-unfolding longest body comment_end point cut_from look_up settle resume step all_of run
-whole_36 = refl
-
-whole_37 : ends (program (codes "++(a);")) ≡ Some true
-unfolding longest body comment_end point cut_from look_up settle resume step all_of run
-whole_37 = refl
-
-whole_38 : ends (program (codes "(a) = b;")) ≡ Some true
-unfolding longest body comment_end point cut_from look_up settle resume step all_of run
-whole_38 = refl
-
-whole_39 : ends (program (codes "a.b = c[d] = e;")) ≡ Some true
-unfolding longest body comment_end point cut_from look_up settle resume step all_of run
-whole_39 = refl
-
-whole_40 : ends (program (codes "/* a */ var o = {'x': 0x10}; o.x;")) ≡ Some true
-unfolding longest body comment_end point cut_from look_up settle resume step all_of run
-whole_40 = refl
-
-part_0 : ends (program (codes "x = 1")) ≡ Some false
-unfolding longest body comment_end point cut_from look_up settle resume step all_of run
-part_0 = refl
-
-part_1 : ends (program (codes "{")) ≡ Some false
-unfolding longest body comment_end point cut_from look_up settle resume step all_of run
-part_1 = refl
-
-part_2 : ends (program (codes "if (a)")) ≡ Some false
-unfolding longest body comment_end point cut_from look_up settle resume step all_of run
-part_2 = refl
-
-part_3 : ends (program (codes "if (a) b; else")) ≡ Some false
-unfolding longest body comment_end point cut_from look_up settle resume step all_of run
-part_3 = refl
-
-part_4 : ends (program (codes "a ? b :")) ≡ Some false
-unfolding longest body comment_end point cut_from look_up settle resume step all_of run
-part_4 = refl
-
-part_5 : ends (program (codes "function f(")) ≡ Some false
-unfolding longest body comment_end point cut_from look_up settle resume step all_of run
-part_5 = refl
-
-part_6 : ends (program (codes "try {} catch (e)")) ≡ Some false
-unfolding longest body comment_end point cut_from look_up settle resume step all_of run
-part_6 = refl
-
-part_7 : ends (program (codes "do a; while")) ≡ Some false
-unfolding longest body comment_end point cut_from look_up settle resume step all_of run
-part_7 = refl
-
-part_8 : ends (program (codes "new")) ≡ Some false
-unfolding longest body comment_end point cut_from look_up settle resume step all_of run
-part_8 = refl
-
-part_9 : ends (program (codes "x = {a")) ≡ Some false
-unfolding longest body comment_end point cut_from look_up settle resume step all_of run
-part_9 = refl
-
-part_10 : ends (program (codes "[a,")) ≡ Some false
-unfolding longest body comment_end point cut_from look_up settle resume step all_of run
-part_10 = refl
-
-part_11 : ends (program (codes "switch (a) { case")) ≡ Some false
-unfolding longest body comment_end point cut_from look_up settle resume step all_of run
-part_11 = refl
+abbrev is_whole : Answer → Bool
+is_whole (whole p) = true
+is_whole a = false
+
+abbrev is_part : Answer → Bool
+is_part part = true
+is_part a = false
+
+-- the token at this byte is refused
+abbrev is_refused : ℕ → Answer → Bool
+is_refused n (stopped (c ∷ k)) = nat_eq n c.1
+is_refused n a = false
+
+-- primary expressions and literals (11.1)
+abbrev primary : List (List ℕ)
+primary =
+    codes "this; null; true; false; 1; 'a'; a;"
+    ∷ codes "(a);"
+    ∷ codes "((a));"
+    ∷ codes "[];"
+    ∷ codes "[a];"
+    ∷ codes "[a, b,];"
+    ∷ codes "[[], [a]];"
+    ∷ codes "x = {};"
+    ∷ codes "x = {a: 1};"
+    ∷ codes "x = {'a b': 1, \"c\": 2, 3: d, 0x10: e};"
+    ∷ codes "({a: 1}).a;"
+    ∷ codes "x = function () {};"
+    ∷ codes "x = function f(a, b) { return a; };"
+    ∷ codes "(function () {})();"
+    ∷ []
+
+primary_are_read : list_all (λ s. is_whole (program s)) primary ≡ true
+unfolding longest body comment_end point cut_from look_up settle resume step all_of finished run
+primary_are_read = refl
+
+-- members and calls (11.2)
+abbrev members : List (List ℕ)
+members =
+    codes "a.b;"
+    ∷ codes "a.b.c[d].e;"
+    ∷ codes "a[b, c];"
+    ∷ codes "f();"
+    ∷ codes "f(a, b);"
+    ∷ codes "f(a)(b)[c].d();"
+    ∷ codes "1 .x;"
+    ∷ codes "new a;"
+    ∷ codes "new a();"
+    ∷ codes "new a.b;"
+    ∷ codes "new a.b(c).d(e)[f];"
+    ∷ codes "new new a()();"
+    ∷ codes "new new a;"
+    ∷ codes "new (a())();"
+    ∷ codes "new a[b()];"
+    ∷ codes "new function () {};"
+    ∷ codes "new (f().a);"
+    ∷ []
+
+members_are_read : list_all (λ s. is_whole (program s)) members ≡ true
+unfolding longest body comment_end point cut_from look_up settle resume step all_of finished run
+members_are_read = refl
+
+-- operators (11.3 to 11.14)
+abbrev operators : List (List ℕ)
+operators =
+    codes "a++;"
+    ∷ codes "a.b--;"
+    ∷ codes "++a;"
+    ∷ codes "--a[b];"
+    ∷ codes "++(a);"
+    ∷ codes "++1 .x;"
+    ∷ codes "++new a().b;"
+    ∷ codes "++f().a;"
+    ∷ codes "delete a.b; void 0; typeof a; +a; -a; ~a; !a;"
+    ∷ codes "!typeof void delete -+~a;"
+    ∷ codes "- -a;"
+    ∷ codes "a + b * c - d % e / f;"
+    ∷ codes "a << b >> c >>> d;"
+    ∷ codes "a < b > c <= d >= e;"
+    ∷ codes "a in b instanceof c;"
+    ∷ codes "a == b != c === d !== e;"
+    ∷ codes "a & b ^ c | d;"
+    ∷ codes "a && b || c;"
+    ∷ codes "a ? b : c;"
+    ∷ codes "a ? b : c ? d : e;"
+    ∷ codes "a ? b = c : d = e;"
+    ∷ codes "a = b = c;"
+    ∷ codes "a += b; a -= b; a *= b; a /= b; a %= b; a <<= b; a >>= b; a >>>= b; a &= b; a ^= b; a |= b;"
+    ∷ codes "(a) = b;"
+    ∷ codes "a.b = c[d] = e;"
+    ∷ codes "a, b, c;"
+    ∷ codes "(a, b);"
+    ∷ codes "-a++;"
+    ∷ []
+
+operators_are_read : list_all (λ s. is_whole (program s)) operators ≡ true
+unfolding longest body comment_end point cut_from look_up settle resume step all_of finished run
+operators_are_read = refl
+
+-- statements (12.1 to 12.5)
+abbrev statements : List (List ℕ)
+statements =
+    codes ""
+    ∷ codes "; ;"
+    ∷ codes "{}"
+    ∷ codes "{ a; { } }"
+    ∷ codes "var a;"
+    ∷ codes "var a = 1, b, c = d ? e : f;"
+    ∷ codes "a;"
+    ∷ codes "if (a) b;"
+    ∷ codes "if (a) b; else c;"
+    ∷ codes "if (a) if (b) c; else d;"
+    ∷ codes "if (a) b; else if (c) d; else e;"
+    ∷ codes "if (a) { if (b) c; } else d;"
+    ∷ codes "if (a) while (b) c; else d;"
+    ∷ codes "if (a) do if (b) c; while (d); else e;"
+    ∷ []
+
+statements_are_read : list_all (λ s. is_whole (program s)) statements ≡ true
+unfolding longest body comment_end point cut_from look_up settle resume step all_of finished run
+statements_are_read = refl
+
+-- loops (12.6)
+abbrev loops : List (List ℕ)
+loops =
+    codes "while (a) b;"
+    ∷ codes "do a; while (b);"
+    ∷ codes "do { } while (a); b;"
+    ∷ codes "for (;;) ;"
+    ∷ codes "for (a; b; c) d;"
+    ∷ codes "for (var a = 1, b; a < b; a++) ;"
+    ∷ codes "for (a in b) c;"
+    ∷ codes "for (a.b in c) ;"
+    ∷ codes "for (f().a in b) ;"
+    ∷ codes "for (var a in b) c;"
+    ∷ codes "for (var a in b, c) ;"
+    ∷ codes "for (a ? b in c : d; ; ) ;"
+    ∷ codes "for ((a in b); ; ) ;"
+    ∷ codes "for (a[b in c]; ; ) ;"
+    ∷ codes "for (a(b in c); ; ) ;"
+    ∷ codes "for (var a = [b in c]; ; ) ;"
+    ∷ codes "for (x = function () { a in b; }; ; ) ;"
+    ∷ []
+
+loops_are_read : list_all (λ s. is_whole (program s)) loops ≡ true
+unfolding longest body comment_end point cut_from look_up settle resume step all_of finished run
+loops_are_read = refl
+
+-- jumps, clauses, labels, handlers (12.7 to 12.14), functions (13)
+abbrev others : List (List ℕ)
+others =
+    codes "continue; continue a; break; break a;"
+    ∷ codes "return; return a, b;"
+    ∷ codes "with (a) b;"
+    ∷ codes "switch (a) {}"
+    ∷ codes "switch (a) { case b: c; case d: default: e; case f: }"
+    ∷ codes "a: b;"
+    ∷ codes "a: b: for (;;) { continue a; break b; }"
+    ∷ codes "throw a, b;"
+    ∷ codes "try {} catch (e) {}"
+    ∷ codes "try { a; } finally { b; }"
+    ∷ codes "try {} catch (e) {} finally {}"
+    ∷ codes "try {} catch (e) {} a;"
+    ∷ codes "function f() {}"
+    ∷ codes "function f(a, b) { var c; function g() {} return g; }"
+    ∷ codes "x = function () { function g() {} };"
+    ∷ codes "/* a */ var o = {'x': 0x10}; o.x;"
+    ∷ []
+
+others_are_read : list_all (λ s. is_whole (program s)) others ≡ true
+unfolding longest body comment_end point cut_from look_up settle resume step all_of finished run
+others_are_read = refl
+
+-- faults of expressions, and the byte of the token that is refused
+abbrev faults_of_expressions : List (List ℕ × ℕ)
+faults_of_expressions =
+    (codes "var a = ;", 8)
+    ∷ (codes "a b;", 2)
+    ∷ (codes "a + b = c;", 6)
+    ∷ (codes "f() = 1;", 4)
+    ∷ (codes "1 = a;", 2)
+    ∷ (codes "1++;", 1)
+    ∷ (codes "f()++;", 3)
+    ∷ (codes "++ -a;", 3)
+    ∷ (codes "++ !a;", 3)
+    ∷ (codes "++ ++a;", 3)
+    ∷ (codes "++1;", 3)
+    ∷ (codes "++(a + b);", 9)
+    ∷ (codes "++new a;", 7)
+    ∷ (codes "a++.b;", 3)
+    ∷ (codes "a++ ++;", 4)
+    ∷ (codes "a++(b);", 3)
+    ∷ (codes "new a++;", 5)
+    ∷ (codes "new -a;", 4)
+    ∷ (codes "new ;", 4)
+    ∷ (codes "f(a,);", 4)
+    ∷ (codes "f(,a);", 2)
+    ∷ (codes "f(a;", 3)
+    ∷ (codes "[a,,b];", 3)
+    ∷ (codes "[,];", 1)
+    ∷ (codes "[a;", 2)
+    ∷ (codes "x = {a: 1,};", 10)
+    ∷ (codes "x = {if: 1};", 5)
+    ∷ (codes "x = {a};", 6)
+    ∷ (codes "x = {a: };", 8)
+    ∷ (codes "a.if;", 2)
+    ∷ (codes "a.'b';", 2)
+    ∷ (codes "a[];", 2)
+    ∷ (codes "();", 1)
+    ∷ (codes "(a;", 2)
+    ∷ (codes "a ? b, c : d;", 5)
+    ∷ (codes "a ? b;", 5)
+    ∷ (codes "a = b + c = d;", 10)
+    ∷ (codes "a ? b : c = d = ;", 16)
+    ∷ (codes "a || b = c;", 7)
+    ∷ (codes "-a = b;", 3)
+    ∷ (codes "typeof a = b;", 9)
+    ∷ (codes "a,;", 2)
+    ∷ (codes "function () {}", 9)
+    ∷ (codes "{a: 1, b: 2}", 8)
+    ∷ (codes "a in;", 4)
+    ∷ (codes "a +;", 3)
+    ∷ (codes "*a;", 0)
+    ∷ (codes ")", 0)
+    ∷ (codes "a)", 1)
+    ∷ (codes "]", 0)
+    ∷ []
+
+faults_of_expressions_are_refused : list_all (λ r. is_refused r.1 (program r.0)) faults_of_expressions ≡ true
+unfolding longest body comment_end point cut_from look_up settle resume step all_of finished run
+faults_of_expressions_are_refused = refl
+
+-- faults of statements, and the byte of the token that is refused
+abbrev faults_of_statements : List (List ℕ × ℕ)
+faults_of_statements =
+    (codes "else b;", 0)
+    ∷ (codes "if (a) else b;", 7)
+    ∷ (codes "if a;", 3)
+    ∷ (codes "if (a) b; else c; else d;", 18)
+    ∷ (codes "var ;", 4)
+    ∷ (codes "var 1;", 4)
+    ∷ (codes "var a, ;", 7)
+    ∷ (codes "var a.b;", 5)
+    ∷ (codes "var (a);", 4)
+    ∷ (codes "while () ;", 7)
+    ∷ (codes "do a while (b);", 5)
+    ∷ (codes "do a; until (b);", 6)
+    ∷ (codes "do a; while (b) c;", 16)
+    ∷ (codes "for (a, b in c) ;", 10)
+    ∷ (codes "for (a + b in c) ;", 11)
+    ∷ (codes "for (f() in a) ;", 9)
+    ∷ (codes "for (a = b in c; ; ) ;", 11)
+    ∷ (codes "for (var a = 1 in b) ;", 15)
+    ∷ (codes "for (var a, b in c) ;", 14)
+    ∷ (codes "for (a; b) ;", 9)
+    ∷ (codes "for (in a) ;", 5)
+    ∷ (codes "for (;) ;", 6)
+    ∷ (codes "for (a in b; c; d) ;", 11)
+    ∷ (codes "continue 1;", 9)
+    ∷ (codes "break a b;", 8)
+    ∷ (codes "return a b;", 9)
+    ∷ (codes "with a;", 5)
+    ∷ (codes "switch (a) b", 11)
+    ∷ (codes "switch (a) { b; }", 13)
+    ∷ (codes "switch (a) { default: default: }", 22)
+    ∷ (codes "switch (a) { case 1: default: ; case 2: default: }", 40)
+    ∷ (codes "switch (a) { case : }", 18)
+    ∷ (codes "case a: ;", 0)
+    ∷ (codes "default: ;", 0)
+    ∷ (codes "a: function f() {}", 3)
+    ∷ (codes "a: }", 3)
+    ∷ (codes "throw ;", 6)
+    ∷ (codes "try a;", 4)
+    ∷ (codes "try {} a;", 7)
+    ∷ (codes "try {} catch {}", 13)
+    ∷ (codes "try {} catch (1) {}", 14)
+    ∷ (codes "try {} catch (a, b) {}", 15)
+    ∷ (codes "catch (a) {}", 0)
+    ∷ (codes "finally {}", 0)
+    ∷ (codes "} a", 0)
+    ∷ (codes "{ function f() {} }", 2)
+    ∷ (codes "if (a) function f() {}", 7)
+    ∷ (codes "function f(a,) {}", 13)
+    ∷ (codes "function f(a b) {}", 13)
+    ∷ (codes "function f(1) {}", 11)
+    ∷ (codes "function f() a;", 13)
+    ∷ (codes "function 1() {}", 9)
+    ∷ (codes "function f {}", 11)
+    ∷ []
+
+faults_of_statements_are_refused : list_all (λ r. is_refused r.1 (program r.0)) faults_of_statements ≡ true
+unfolding longest body comment_end point cut_from look_up settle resume step all_of finished run
+faults_of_statements_are_refused = refl
+
+-- texts that break off
+abbrev unfinished : List (List ℕ)
+unfinished =
+    codes "x = 1"
+    ∷ codes "{"
+    ∷ codes "{ a; "
+    ∷ codes "if (a)"
+    ∷ codes "if (a) b; else"
+    ∷ codes "if (a"
+    ∷ codes "a ? b :"
+    ∷ codes "f("
+    ∷ codes "function f("
+    ∷ codes "function f() {"
+    ∷ codes "x = function f() {}.y"
+    ∷ codes "a: b: c"
+    ∷ codes "try {"
+    ∷ codes "try {}"
+    ∷ codes "try {} catch (e)"
+    ∷ codes "try {} catch (e) {"
+    ∷ codes "try {} finally {"
+    ∷ codes "do a;"
+    ∷ codes "do a; while"
+    ∷ codes "do a; while (b)"
+    ∷ codes "new"
+    ∷ codes "++"
+    ∷ codes "++1"
+    ∷ codes "++(a + b)"
+    ∷ codes "x = {a"
+    ∷ codes "x = {a: b"
+    ∷ codes "[a,"
+    ∷ codes "switch (a) {"
+    ∷ codes "switch (a) { case"
+    ∷ codes "switch (a) { default:"
+    ∷ codes "for ("
+    ∷ codes "for (var"
+    ∷ codes "for (var a"
+    ∷ codes "for (a in"
+    ∷ codes "for (;"
+    ∷ codes "return"
+    ∷ codes "break"
+    ∷ codes "throw"
+    ∷ codes "var a ="
+    ∷ codes "with (a)"
+    ∷ codes "a."
+    ∷ codes "a["
+    ∷ codes "a +"
+    ∷ codes "a:"
+    ∷ codes "while (a)"
+    ∷ []
+
+unfinished_break_off : list_all (λ s. is_part (program s)) unfinished ≡ true
+unfolding longest body comment_end point cut_from look_up settle resume step all_of finished run
+unfinished_break_off = refl

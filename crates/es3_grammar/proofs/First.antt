@@ -9,7 +9,7 @@ use Rattle.es3_grammar.specs.Spots.{Spot, is, same_token, look_up, else_word, fi
 use Rattle.es3_grammar.specs.Levels.{unary_sign, step_sign, Opening, a_bool, an_object, a_function, a_prefix, a_prefix_step, openings, joins, Infix, infixes, infix_of}
 use Rattle.es3_grammar.specs.Grammar.{Bars, bars_in, is_plain, BeginsPlain, named, Spells, s_this, s_null, s_true, s_false, s_num, s_text, s_name, s_paren, s_array, s_array_comma, s_object, s_function, s_dot, s_index, s_call, s_new_call, s_new, s_postfix, s_prefix_step, s_prefix, s_join, s_choice, s_one_expr, s_more_exprs, s_block, s_var, s_empty, s_expression, s_if, s_else, s_do, s_while, s_for, s_for_in, s_continue, s_break, s_return, s_with, s_switch, s_no_cases, s_case, s_default, s_label, s_throw, s_catch, s_finally, s_catch_finally, s_no_stmts, s_more_stmts, s_declaration}
 use Rattle.es3_grammar.specs.Frames.{statement, Stack, want, start}
-use Rattle.es3_grammar.specs.Machine.{operand, begin, step, goes, run}
+use Rattle.es3_grammar.specs.Machine.{operand, begin, step, goes, run, finished}
 use Rattle.es3_grammar.proofs.Tables.{starts, started, opening_sign, not_first, infix_found, looked_up, not_false}
 use Rattle.es3_grammar.proofs.Follow.{NoElse}
 
@@ -212,7 +212,7 @@ plain_begins f t a o e h = subst (λ t. begin f (t, a) ≡ operand (statement �
     go _ h = refl
 
 begins_as : (f : Stack) (c : Spot) (k : List Spot) → starts c.0 ≡ true → is_plain c ≡ true → NoLabel (c ∷ k) → run (c ∷ k) (start f) ≡ run (c ∷ k) (want (statement ∷ f))
-unfolding run step look_up
+unfolding run step look_up finished
 begins_as f (name us, a) [] s p n = refl
 begins_as f (name us, a) (d ∷ k) s p n = rw (n refl) refl
 begins_as f (num m, a) k s p n = refl

@@ -185,7 +185,7 @@ shifted_fits (Some (joins j)) x f s h le e = when_fits (takes_left j x) (want (j
 shifted_fits (Some a_query) x f s h le e = the _ s e (le a_query refl, h)
 shifted_fits (Some (a_step up)) x f s h le e = when_fits (is_target x) (past (tree.step up false x) f) s e (λ g. (h, le (a_step up) refl))
 
-filled_fits : (f : Frame) (fs : Stack) (x y : E) → filled f x ≡ Some y → Expects (f ∷ fs) → Expects fs
+pub filled_fits : (f : Frame) (fs : Stack) (x y : E) → filled f x ≡ Some y → Expects (f ∷ fs) → Expects fs
 filled_fits new_of fs x y e h = h
 filled_fits (prefix_step up) fs x y e h = h.1
 filled_fits (prefix op a) fs x y e h = h.1

@@ -11,7 +11,7 @@ use Rattle.es3_grammar.specs.Spots.{Spot, is, point, open_bracket, open_paren, e
 use Rattle.es3_grammar.specs.Levels.{E, level, an_op, an_and, an_or, an_assign, a_comma, left, Infix, joins, a_query, a_step, infix_of, is_trailer}
 use Rattle.es3_grammar.specs.Grammar.{S, Bars, free, no_in, no_call, bars_in, is_open}
 use Rattle.es3_grammar.specs.Frames.{Body, a_program, a_call, Frame, new_of, then_of, else_of, while_body, for_body, in_body, with_body, label_of, body, Stack, State, have, past, listed, start, ended, caught, asks, asked, behind_new, no_in_here}
-use Rattle.es3_grammar.specs.Machine.{infix_own, binds, shifted, filled, closes, settle, past_step, have_step, arguments, resume, step, all_of, goes, run, caught_made}
+use Rattle.es3_grammar.specs.Machine.{infix_own, binds, shifted, filled, closes, settle, past_step, have_step, arguments, resume, step, all_of, goes, run, caught_made, finished, Answer, part}
 use Rattle.es3_grammar.proofs.Tables.{no_trailer}
 
 -- ---- levels
@@ -141,7 +141,7 @@ pub have_settles : (x : E) (f : Stack) (c : Spot) → is_trailer c.0 ≡ false �
 have_settles x f c h = let g = or_false (is point c) (is open_bracket c) (is open_paren c) h in rw (g.0, g.1, g.2) refl
 
 pub past_have : (x : E) (f : Stack) (k : List Spot) → NoTrailer k → run k (past x f) ≡ run k (have x f)
-unfolding run step
+unfolding run step finished
 past_have x f [] h = refl
 past_have x f (c ∷ k) h = ap (goes (run k) (c ∷ k)) (sym (have_settles x f c h))
 
@@ -149,10 +149,13 @@ fills : (f : Frame) (i : Bool) (x y : E) (fs : Stack) (c : Spot) → filled f x 
 unfolding settle
 fills f i x y fs c h n = rw (n, h) refl
 
+abbrev finished_by : Stack → Option E → Answer
+finished_by k o = elim o [ Some y ↦ finished k y | None ↦ part ]
+
 -- a part that ends where what its frame makes ends
 pub reduces : (f : Frame) (x y : E) (fs : Stack) (k : List Spot) → no_in_here (f ∷ fs) ≡ no_in_here fs → filled f x ≡ Some y → Leaves (no_in_here fs) f k → run k (have x (f ∷ fs)) ≡ run k (have y fs)
-unfolding run step
-reduces f x y fs [] p h n = refl
+unfolding run step finished
+reduces f x y fs [] p h n = ap (finished_by fs) h
 reduces f x y fs (c ∷ k) p h n =
     ap (goes (run k) (c ∷ k)) (have_settles x (f ∷ fs) c n.0 ∙ ap (λ i. settle i (f ∷ fs) x c) p ∙ fills f (no_in_here fs) x y fs c h n.1 ∙ sym (have_settles y fs c n.0))
 

@@ -18,3 +18,4 @@ pub mod Heights
 pub mod Least
 pub mod Limits
 pub mod DeepExamples
+pub mod Phrases

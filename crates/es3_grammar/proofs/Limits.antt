@@ -8,13 +8,13 @@ use Rattle.es3_tree.specs.Placed.{Placed}
 use Rattle.es3_grammar.specs.Spots.{Spot}
 use Rattle.es3_grammar.specs.Grammar.{S}
 use Rattle.es3_grammar.specs.Plain.{deep}
-use Rattle.es3_grammar.specs.Frames.{stmts_of, a_program, then_of, else_of, while_body, for_body, in_body, with_body, label_of, body, Stack, State, start, ended, caught}
-use Rattle.es3_grammar.specs.Machine.{caught_made, Answer, whole, part, stopped, all_of, ending, step, run, beginning}
+use Rattle.es3_grammar.specs.Frames.{stmts_of, a_program, then_of, else_of, while_body, for_body, in_body, with_body, label_of, body, Stack, State, start, ended, caught, have, past}
+use Rattle.es3_grammar.specs.Machine.{caught_made, Answer, whole, part, stopped, all_of, ending, step, run, beginning, phrase}
 use Rattle.es3_grammar.specs.Ends.{height_behind, close_statement, height, tail}
 use Rattle.es3_grammar.specs.Limit.{turn, most, Within, BeginsWithin}
 use Rattle.es3_grammar.specs.Within.{Reading, program, broken, refused, too_deep, reading_of, is_within, goes_within, run_within, read_within, DeepAt, RefusedAt}
 use Rattle.es3_grammar.proofs.OneTree.{whole_is, spots_read}
-use Rattle.es3_grammar.proofs.Exact.{went, spots_spelled}
+use Rattle.es3_grammar.proofs.Exact.{went, spots_spelled, never_whole}
 use Rattle.es3_grammar.proofs.Fits.{Fits, step_fits}
 use Rattle.es3_grammar.proofs.Viable.{viable}
 use Rattle.es3_grammar.proofs.Stops.{goes_by, never}
@@ -49,6 +49,8 @@ state_ends (caught ss n hs f) p e = again f _ _ _ p (omega arith) (all_ends f (c
   where
     again : (f : Stack) (h k : ℕ) (z : List Spot) (p : Placed t.program) → h ≤ k → Ending (height_behind f k) z p → Ending (height_behind f h) z p
     again f h k z p le g = record { shallow = (let m = more_behind f h k le in let s = g.shallow in omega arith); nothing = g.nothing }
+state_ends (have x f) p e = absurd (never_whole f x p e)
+state_ends (past x f) p e = absurd (never_whole f x p e)
 state_ends _ p e = absurd cc
 
 -- ---- the shortest end is the least
@@ -170,6 +172,7 @@ found_end n u s (whole p) e k = let d = end_deep s p k.fits e in subst (λ (z : 
   few = k.few;
 })
 found_end n u s part e k = subst (BeginsWithin n) (sym (append-nil u)) (begins_known n u s k)
+found_end n u s (phrase x) e k = subst (BeginsWithin n) (sym (append-nil u)) (begins_known n u s k)
 found_end n u s (stopped r) e k = absurd (never s r e)
 
 refuses : (n : ℕ) (u : List Spot) (s : State) (c : Spot) (r : List Spot) → Known n u s → step s c ≡ None → RefusedAt n (u ++ c ∷ r) c r

@@ -215,7 +215,7 @@ settle_sound (f ∷ fs) i c n x u s is_i o le lf e = elim (chosen (binds (infix_
     go rec nb (Some y) fi e = rec y (sym (filled_in f fs x y fi) ∙ is_i)
         (inward f fs (Part (bars_of (f ∷ fs)) n x) (Part (bars_of fs) (makes f) y) u o (λ v w j p. plug f fs n x y v w fi j p le (asked_within f fs _ u o))) (unbound f x y (infix_of i c.0) fi nb) e
 
-as_part : (b : Bars) (x : E) (w : List Spot) → Spells t.expr b 16 x w → Part b 16 x w
+pub as_part : (b : Bars) (x : E) (w : List Spot) → Spells t.expr b 16 x w → Part b 16 x w
 as_part b x w p = record { spelled = p; high = λ h. omega arith }
 
 calls_free : (i : Bool) → bars_call (barred false i) ≡ false

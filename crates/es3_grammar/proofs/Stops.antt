@@ -1,14 +1,15 @@
 -- Reading stops at the first token that no program has after the tokens before it.
+use Rattle.es3_grammar.specs.Levels.{E}
 use Rattle.es3_grammar.specs.Ends.{tail}
 use Rattle.std.proofs.Common.{◌≡◌, ◌⊎◌, List, [], ◌∷◌, ◌++◌, Option, Some, None, refl, sym, ap, subst, inl, inr, ◌∙◌, append_assoc}
 use Rattle.es3_grammar.specs.Spots.{Spot}
 use Rattle.es3_grammar.specs.Grammar.{S}
-use Rattle.es3_grammar.specs.Frames.{a_program, then_of, else_of, while_body, for_body, in_body, with_body, label_of, body, Stack, State, start, ended, caught}
-use Rattle.es3_grammar.specs.Machine.{Answer, whole, part, stopped, all_of, ending, goes, step, run, beginning, read}
+use Rattle.es3_grammar.specs.Frames.{a_program, then_of, else_of, while_body, for_body, in_body, with_body, label_of, body, Stack, State, start, ended, caught, have, past}
+use Rattle.es3_grammar.specs.Machine.{Answer, whole, part, stopped, all_of, ending, goes, step, run, beginning, read, finished, filled, phrase}
 use Rattle.es3_grammar.specs.Begins.{Begins, StopsAt}
 use Rattle.es3_grammar.proofs.OneTree.{spots_read}
 use Rattle.es3_grammar.proofs.Exact.{spots_spelled}
-use Rattle.es3_grammar.proofs.Fits.{Fits, step_fits}
+use Rattle.es3_grammar.proofs.Fits.{Fits, step_fits, Expects, filled_fits}
 use Rattle.es3_grammar.proofs.Viable.{viable}
 
 -- where reading goes no further
@@ -39,10 +40,21 @@ never_all (label_of n ∷ f) x r e = never_all f _ r e
 never_all (body a_program ss ∷ []) x r e = cc
 never_all _ x r e = cc
 
+never_part : (f : Stack) (x : E) (r : List Spot) → finished f x ≡ stopped r → ⊥
+unfolding finished
+never_part [] x r e = cc
+never_part (g ∷ f) x r e = go (λ y k. never_part f y r k) (filled g x) e
+  where
+    go : ((y : E) → finished f y ≡ stopped r → ⊥) → (o : Option E) → elim o [ Some y ↦ finished f y | None ↦ part ] ≡ stopped r → ⊥
+    go rec None e = cc
+    go rec (Some y) e = rec y e
+
 pub never : (s : State) (r : List Spot) → ending s ≡ stopped r → ⊥
 never (ended x f) r e = never_all f x r e
 never (caught ss n hs f) r e = never_all f _ r e
 never (start (body a_program ss ∷ [])) r e = cc
+never (have x f) r e = never_part f x r e
+never (past x f) r e = never_part f x r e
 never _ r e = cc
 
 pub goes_by : (c : Spot) (k : List Spot) (s n : State) → step s c ≡ Some n → run (c ∷ k) s ≡ run k n
@@ -94,3 +106,45 @@ part_begins (c ∷ u) s h r e p = go (λ n k q. part_begins u n k part q refl) (
 
 pub breaks_off : (u : List Spot) → read u ≡ part → Begins u
 breaks_off u e = let m = part_begins u beginning tt part e refl in begins_at u m.0 m.1 m.2
+
+-- a program's tokens are never an expression alone
+no_phrase : (f : Stack) (x y : E) → Expects f → finished f x ≡ phrase y → ⊥
+unfolding finished
+no_phrase [] x y h e = h
+no_phrase (g ∷ f) x y h e = go (λ z k i. no_phrase f z y k i) (filled g x) refl e
+  where
+    go : ((z : E) → Expects f → finished f z ≡ phrase y → ⊥) → (o : Option E) → filled g x ≡ o → elim o [ Some z ↦ finished f z | None ↦ part ] ≡ phrase y → ⊥
+    go rec None q e = cc
+    go rec (Some z) q e = rec z (filled_fits g f x z q h) e
+
+pub no_phrase_all : (f : Stack) (x : S) (y : E) → all_of f x ≡ phrase y → ⊥
+unfolding all_of
+no_phrase_all (then_of z ∷ f) x y e = no_phrase_all f _ y e
+no_phrase_all (else_of z q ∷ f) x y e = no_phrase_all f _ y e
+no_phrase_all (while_body z ∷ f) x y e = no_phrase_all f _ y e
+no_phrase_all (for_body i m n ∷ f) x y e = no_phrase_all f _ y e
+no_phrase_all (in_body i z ∷ f) x y e = no_phrase_all f _ y e
+no_phrase_all (with_body z a ∷ f) x y e = no_phrase_all f _ y e
+no_phrase_all (label_of n ∷ f) x y e = no_phrase_all f _ y e
+no_phrase_all (body a_program ss ∷ []) x y e = cc
+no_phrase_all _ x y e = cc
+
+no_phrase_ends : (s : State) (y : E) → Fits s → ending s ≡ phrase y → ⊥
+no_phrase_ends (have x f) y h e = no_phrase f x y h e
+no_phrase_ends (past x f) y h e = no_phrase f x y h.0 e
+no_phrase_ends (ended x f) y h e = no_phrase_all f x y e
+no_phrase_ends (caught ss n hs f) y h e = no_phrase_all f _ y e
+no_phrase_ends (start (body a_program ss ∷ [])) y h e = cc
+no_phrase_ends _ y h e = cc
+
+no_phrase_run : (u : List Spot) (s : State) (y : E) → Fits s → run u s ≡ phrase y → ⊥
+unfolding run
+no_phrase_run [] s y h e = no_phrase_ends s y h e
+no_phrase_run (c ∷ u) s y h e = go (λ n k i. no_phrase_run u n y k i) (step s c) refl e
+  where
+    go : ((n : State) → Fits n → run u n ≡ phrase y → ⊥) → (o : Option State) → step s c ≡ o → goes (run u) (c ∷ u) o ≡ phrase y → ⊥
+    go rec None q e = cc
+    go rec (Some n) q e = rec n (step_fits s c n h q) e
+
+pub no_program_is_a_phrase : (u : List Spot) (y : E) → read u ≡ phrase y → ⊥
+no_program_is_a_phrase u y e = no_phrase_run u beginning y tt e

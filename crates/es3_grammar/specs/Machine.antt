@@ -391,9 +391,10 @@ step (caught ss n hs k) c = caught_step ss n hs k c
 step (catch_name ss k) c = catch_name_step ss k c
 step (await ds s) c = await_step ds s c
 
--- what is read: a whole program, a part of one, or tokens up to one that is refused
+-- what is read: a whole program, a whole expression where nothing is open round it, a part, or tokens up to one that is refused
 pub data Answer : Type 0 where
   whole : Placed t.program → Answer
+  phrase : E → Answer
   part : Answer
   stopped : List Spot → Answer
 
@@ -409,6 +410,11 @@ all_of (label_of n ∷ k) s = all_of k (tree.label n s)
 all_of (body a_program ss ∷ []) s = whole (tree.script (stmts_of (ss ++ s ∷ [])))
 all_of _ s = part
 
+-- a part is whole at the end of the tokens
+unfoldable pub finished : Stack → E → Answer
+finished [] x = phrase x
+finished (f ∷ k) x = elim (filled f x) [ Some y ↦ finished k y | None ↦ part ]
+
 abbrev pub program_at : Stack → Answer
 program_at (body a_program ss ∷ []) = whole (tree.script (stmts_of ss))
 program_at k = part
@@ -416,6 +422,8 @@ program_at k = part
 abbrev pub ending : State → Answer
 ending (start k) = program_at k
 ending (ended s k) = all_of k s
+ending (have x k) = finished k x
+ending (past x k) = finished k x
 ending (caught ss n hs k) = all_of k (caught_made ss n hs)
 ending s = part
 
@@ -433,3 +441,7 @@ beginning = start (body a_program [] ∷ [])
 -- the program that the tokens are
 abbrev pub read : List Spot → Answer
 read ts = run ts beginning
+
+-- the expression that the tokens are
+abbrev pub read_phrase : List Spot → Answer
+read_phrase ts = run ts (want [])

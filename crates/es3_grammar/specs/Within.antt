@@ -4,7 +4,7 @@ use Rattle.es3_tree.specs.Tree as t
 use Rattle.es3_tree.specs.Placed.{Placed}
 use Rattle.es3_grammar.specs.Spots.{Spot}
 use Rattle.es3_grammar.specs.Frames.{State}
-use Rattle.es3_grammar.specs.Machine.{Answer, whole, part, stopped, step, ending, beginning}
+use Rattle.es3_grammar.specs.Machine.{Answer, whole, phrase, part, stopped, step, ending, beginning}
 use Rattle.es3_grammar.specs.Begins.{Begins}
 use Rattle.es3_grammar.specs.Ends.{height, tail}
 use Rattle.es3_grammar.specs.Limit.{turn, most, BeginsWithin}
@@ -19,6 +19,7 @@ pub data Reading : Type 0 where
 abbrev pub reading_of : Answer → Reading
 reading_of (whole p) = program p
 reading_of part = broken
+reading_of (phrase x) = broken
 reading_of (stopped k) = refused k
 
 -- the shortest end of a text from this state is within the limit, where so many brackets are open

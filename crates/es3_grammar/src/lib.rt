@@ -11,10 +11,10 @@ ghost use Rattle.es3_tree.specs.Placed.{Placed};
 ghost use Rattle.es3_tree.specs.Tree as t;
 ghost use Rattle.es3_tokens.specs.Tokens as tokens;
 ghost use Rattle.es3_grammar.specs.Spots.{Spot, spots};
-ghost use Rattle.es3_grammar.specs.Grammar.{spells};
+ghost use Rattle.es3_grammar.specs.Grammar.{Spells, free, spells};
 ghost use Rattle.es3_grammar.specs.Begins.{Begins, StopsAt};
 ghost use Rattle.es3_grammar.specs.Limit.{Within, BeginsWithin};
-ghost use Rattle.es3_grammar.specs.Machine.{read, whole, part, stopped};
+ghost use Rattle.es3_grammar.specs.Machine.{read, read_phrase, whole, phrase, part, stopped};
 ghost use Rattle.es3_grammar.specs.Within.{read_within, program, broken, refused, too_deep, RefusedAt, DeepAt};
 
 /// Reading is the grammar: the machine reads a program of the tokens exactly where they spell it.
@@ -27,6 +27,14 @@ pub fn reading_is_the_grammar()
 #[tactic(auto, using(crate::proofs::OneTree::one_tree))]
 pub fn tokens_spell_one_program()
     ensures { (p q : Placed t.program) (ts : List tokens.Placed) → spells p ts → spells q ts → p ≡ q }
+{}
+
+/// The same of expressions (ES3 11.14) alone: the machine reads one of the tokens exactly where they spell it, so no tokens are spelled
+/// by two; and tokens that begin a program are never read as one.
+#[tactic(auto, using(crate::proofs::Phrases::phrases, crate::proofs::Stops::no_program_is_a_phrase))]
+pub fn reading_expressions_is_the_grammar()
+    ensures read { (x : Placed t.expr) (u : List Spot) → (read_phrase u ≡ phrase x) ↔ Spells t.expr free 0 x u }
+    ensures apart { (x : Placed t.expr) (u : List Spot) → read u ≡ phrase x → ⊥ }
 {}
 
 /// The machine refuses the first token with which no program goes on, and none before it; where it refuses none and has no whole
