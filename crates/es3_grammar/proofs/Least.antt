@@ -29,7 +29,7 @@ pub most_low : (z : List Spot) (o : ℕ) → o ≤ most o z
 most_low [] o = omega arith
 most_low (c ∷ z) o = omega arith
 
-most_back : (k : List Spot) (o : ℕ) → most ((o + 1) - 1) k ≡ most o k
+pub most_back : (k : List Spot) (o : ℕ) → most ((o + 1) - 1) k ≡ most o k
 most_back k o = ap (λ (x : ℕ). most x k) (back o)
   where
     back : (o : ℕ) → (o + 1) - 1 ≡ o

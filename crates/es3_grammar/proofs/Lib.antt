@@ -19,3 +19,9 @@ pub mod Least
 pub mod Limits
 pub mod DeepExamples
 pub mod Phrases
+mod Shapes
+pub mod Sums
+pub mod OpenBrackets
+pub mod Turns
+pub mod Quickly
+pub mod BracketExamples

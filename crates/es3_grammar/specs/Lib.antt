@@ -1,3 +1,4 @@
+pub mod Answers
 pub mod Spots
 pub mod Levels
 pub mod Grammar
@@ -8,3 +9,4 @@ pub mod Plain
 pub mod Ends
 pub mod Limit
 pub mod Within
+pub mod Sums

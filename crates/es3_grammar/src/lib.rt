@@ -2,20 +2,24 @@
 //!
 //! The definitions stand in specs/: `spells` (specs/Grammar.antt) by cases on the tree, with the levels of specs/Levels.antt; `read`
 //! (specs/Machine.antt), which goes from left to right, a token at a time, with a stack of frames (specs/Frames.antt); `read_within`
-//! (specs/Within.antt), the same with a limit of nesting (specs/Limit.antt), by the shortest end of each state (specs/Ends.antt).
+//! (specs/Within.antt), the same with a limit of nesting (specs/Limit.antt), by the shortest end of each state (specs/Ends.antt);
+//! `read_quickly` (specs/Sums.antt), the same again, by sums along the stack in place of that end.
 //! There is no code. The functions here have no body: each one's contract is a law. Trees have the places of their tokens.
 #![tactic(auto)]
 
-ghost use Rattle.std.specs.Prelude.{◌≡◌, ◌↔◌, ℕ, List, [], ◌∷◌};
+ghost use Rattle.std.specs.Prelude.{◌≡◌, ◌↔◌, ℕ, Bool, List, [], ◌∷◌, Some};
 ghost use Rattle.es3_tree.specs.Placed.{Placed};
 ghost use Rattle.es3_tree.specs.Tree as t;
 ghost use Rattle.es3_tokens.specs.Tokens as tokens;
 ghost use Rattle.es3_grammar.specs.Spots.{Spot, spots};
 ghost use Rattle.es3_grammar.specs.Grammar.{Spells, free, spells};
 ghost use Rattle.es3_grammar.specs.Begins.{Begins, StopsAt};
-ghost use Rattle.es3_grammar.specs.Limit.{Within, BeginsWithin};
-ghost use Rattle.es3_grammar.specs.Machine.{read, read_phrase, whole, phrase, part, stopped};
-ghost use Rattle.es3_grammar.specs.Within.{read_within, program, broken, refused, too_deep, RefusedAt, DeepAt};
+ghost use Rattle.es3_grammar.specs.Limit.{turn, Within, BeginsWithin};
+ghost use Rattle.es3_grammar.specs.Machine.{step, beginning, read, read_phrase, whole, phrase, part, stopped};
+ghost use Rattle.es3_grammar.specs.Frames.{Stack, State, no_in_here};
+ghost use Rattle.es3_grammar.specs.Ends.{stepped, height_at, height_behind};
+ghost use Rattle.es3_grammar.specs.Sums.{rise, around, sums, brackets_in, Steady, within_by, read_quickly};
+ghost use Rattle.es3_grammar.specs.Within.{is_within, read_within, program, broken, refused, too_deep, RefusedAt, DeepAt};
 
 /// Reading is the grammar: the machine reads a program of the tokens exactly where they spell it.
 #[tactic(auto, using(crate::proofs::Exact::reading))]
@@ -62,4 +66,23 @@ pub fn reading_within_stops_exactly()
     ensures deep { (limit : ℕ) (u : List Spot) (c : Spot) (k : List Spot) → read_within limit u ≡ too_deep (c ∷ k) → DeepAt limit u c k }
     ensures broken { (limit : ℕ) (u : List Spot) → read_within limit u ≡ broken → BeginsWithin limit u }
     ensures some { (limit : ℕ) (u : List Spot) → ((read_within limit u ≡ refused [] → ⊥) × (read_within limit u ≡ too_deep [] → ⊥)) }
+{}
+
+/// The sums of a stack, which one frame more changes by its own parts alone, say how deep the shortest end makes the tree, what a
+/// prefix `++` or `--` waits for, and whether an `in` is an operator.
+pub fn sums_tell_heights()
+    ensures at { (f : Stack) (b : Bool) (h : ℕ) → height_at b f h ≡ rise (around b (sums f)) h }
+    ensures behind { (f : Stack) (h : ℕ) → height_behind f h ≡ rise (sums f).behind h }
+    ensures steps { (f : Stack) → stepped f ≡ (sums f).stepped }
+    ensures bars { (f : Stack) → no_in_here f ≡ (sums f).no_in }
+{}
+
+/// A state tells how many brackets are open, each step turns that count by its token, and the stack's sums tell how many the shortest
+/// end opens at once: the test against a limit by them is the test by that end, and reading with it is reading within the limit.
+pub fn sums_tell_brackets()
+    ensures first { (brackets_in beginning ≡ 0) × Steady beginning }
+    ensures counts { (s r : State) (c : Spot) → Steady s → step s c ≡ Some r → brackets_in r ≡ turn (brackets_in s) c }
+    ensures steady { (s r : State) (c : Spot) → Steady s → step s c ≡ Some r → Steady r }
+    ensures tests { (limit o : ℕ) (s : State) → Steady s → o ≡ brackets_in s → is_within limit o s ≡ within_by limit o s }
+    ensures reads { (limit : ℕ) (u : List Spot) → read_quickly limit u ≡ read_within limit u }
 {}

@@ -4,7 +4,7 @@ ghost use Rattle.es3_tree.specs.Placed as placed;
 ghost use Rattle.es3_tree.specs.PlacedView as view;
 ghost use Rattle.es3_tree.specs.View.{expr, func, text, of_exprs, of_fields};
 
-use crate::boxed::boxed;
+use crate::boxed::{boxed, boxed_beside, boxed_both};
 use crate::{BinOp, Expr, Func, Name, UnOp};
 use caja_units::Memory;
 use std::alloc::Global;
@@ -49,7 +49,8 @@ pub fn make_index(alloc: Global, object: Expr, key: Expr) -> Result<Expr, Memory
     ensures plain { IfOk result (λ x. expr x ≡ tree.index (expr object) (expr key)) }
     ensures with_places { IfOk result (λ x. view.expr x ≡ placed.index (view.expr object) (view.expr key)) }
 {
-    Ok(Expr::Index(boxed(alloc, object)?, boxed(alloc, key)?))
+    let (object, key) = boxed_both(alloc, object, key)?;
+    Ok(Expr::Index(object, key))
 }
 
 /// A call (ES3 11.2.3).
@@ -91,7 +92,8 @@ pub fn make_binary(alloc: Global, op: BinOp, left: Expr, right: Expr) -> Result<
     ensures plain { IfOk result (λ x. expr x ≡ tree.binary op (expr left) (expr right)) }
     ensures with_places { IfOk result (λ x. view.expr x ≡ placed.binary op (view.expr left) (view.expr right)) }
 {
-    Ok(Expr::Binary(op, boxed(alloc, left)?, boxed(alloc, right)?))
+    let (left, right) = boxed_both(alloc, left, right)?;
+    Ok(Expr::Binary(op, left, right))
 }
 
 /// `left && right` (ES3 11.11).
@@ -99,7 +101,8 @@ pub fn make_and(alloc: Global, left: Expr, right: Expr) -> Result<Expr, Memory>
     ensures plain { IfOk result (λ x. expr x ≡ tree.and (expr left) (expr right)) }
     ensures with_places { IfOk result (λ x. view.expr x ≡ placed.and (view.expr left) (view.expr right)) }
 {
-    Ok(Expr::And(boxed(alloc, left)?, boxed(alloc, right)?))
+    let (left, right) = boxed_both(alloc, left, right)?;
+    Ok(Expr::And(left, right))
 }
 
 /// `left || right` (ES3 11.11).
@@ -107,7 +110,8 @@ pub fn make_or(alloc: Global, left: Expr, right: Expr) -> Result<Expr, Memory>
     ensures plain { IfOk result (λ x. expr x ≡ tree.or (expr left) (expr right)) }
     ensures with_places { IfOk result (λ x. view.expr x ≡ placed.or (view.expr left) (view.expr right)) }
 {
-    Ok(Expr::Or(boxed(alloc, left)?, boxed(alloc, right)?))
+    let (left, right) = boxed_both(alloc, left, right)?;
+    Ok(Expr::Or(left, right))
 }
 
 /// `test ? yes : no` (ES3 11.12).
@@ -115,7 +119,9 @@ pub fn make_cond(alloc: Global, test: Expr, yes: Expr, no: Expr) -> Result<Expr,
     ensures plain { IfOk result (λ x. expr x ≡ tree.choice (expr test) (expr yes) (expr no)) }
     ensures with_places { IfOk result (λ x. view.expr x ≡ placed.choice (view.expr test) (view.expr yes) (view.expr no)) }
 {
-    Ok(Expr::Cond(boxed(alloc, test)?, boxed(alloc, yes)?, boxed(alloc, no)?))
+    let (test, (yes, no)) = boxed_beside(alloc, test, (yes, no))?;
+    let (yes, no) = boxed_both(alloc, yes, no)?;
+    Ok(Expr::Cond(test, yes, no))
 }
 
 /// An assignment to `target`: `=` where there is no operator, else the operator's own, as `+=` (ES3 11.13).
@@ -128,7 +134,8 @@ pub fn make_assign(
     ensures plain { IfOk result (λ x. expr x ≡ tree.assign op (expr target) (expr value)) }
     ensures with_places { IfOk result (λ x. view.expr x ≡ placed.assign op (view.expr target) (view.expr value)) }
 {
-    Ok(Expr::Assign(op, boxed(alloc, target)?, boxed(alloc, value)?))
+    let (target, value) = boxed_both(alloc, target, value)?;
+    Ok(Expr::Assign(op, target, value))
 }
 
 /// `left, right` (ES3 11.14).
@@ -136,5 +143,6 @@ pub fn make_comma(alloc: Global, left: Expr, right: Expr) -> Result<Expr, Memory
     ensures plain { IfOk result (λ x. expr x ≡ tree.comma (expr left) (expr right)) }
     ensures with_places { IfOk result (λ x. view.expr x ≡ placed.comma (view.expr left) (view.expr right)) }
 {
-    Ok(Expr::Comma(boxed(alloc, left)?, boxed(alloc, right)?))
+    let (left, right) = boxed_both(alloc, left, right)?;
+    Ok(Expr::Comma(left, right))
 }

@@ -14,13 +14,12 @@ ghost use Rattle.es3_tree.specs.View.{
   of_items,
   of_cases,
   of_maybe_expr,
-  of_maybe_stmt,
   of_else,
   of_handler,
   of_maybe_block,
 };
 
-use crate::boxed::boxed;
+use crate::boxed::{boxed, boxed_beside};
 use crate::{Case, Expr, First, Func, Loop, Name, Stmt, VarItem};
 use caja_units::Memory;
 use std::alloc::Global;
@@ -43,17 +42,6 @@ pub fn make_var(items: Vec<VarItem>) -> Stmt
     Stmt::Var(items)
 }
 
-// The part behind an `else`, in a box.
-fn boxed_else(alloc: Global, otherwise: Option<Stmt>) -> Result<Option<Box<Stmt>>, Memory>
-    ensures plain { IfOk result (λ b. of_maybe_stmt b ≡ of_else otherwise) }
-    ensures with_places { IfOk result (λ b. view.of_maybe_stmt b ≡ view.of_else otherwise) }
-{
-    match otherwise {
-        None => Ok(None),
-        Some(otherwise) => Ok(Some(boxed(alloc, otherwise)?)),
-    }
-}
-
 /// An `if`, with its `else` if it has one (ES3 12.5).
 #[tactic(auto, using(crate::proofs::Rows::view_if, crate::proofs::PlacedRows::placed_if))]
 pub fn make_if(
@@ -65,8 +53,14 @@ pub fn make_if(
     ensures plain { IfOk result (λ s. stmt s ≡ tree.branch (expr test) (stmt then) (of_else otherwise)) }
     ensures with_places { IfOk result (λ s. view.stmt s ≡ placed.branch (view.expr test) (view.stmt then) (view.of_else otherwise)) }
 {
-    let otherwise = boxed_else(alloc, otherwise)?;
-    Ok(Stmt::If(test, boxed(alloc, then)?, otherwise))
+    let (then, (test, otherwise)) = boxed_beside(alloc, then, (test, otherwise))?;
+    match otherwise {
+        None => Ok(Stmt::If(test, then, None)),
+        Some(otherwise) => {
+            let (otherwise, (test, then)) = boxed_beside(alloc, otherwise, (test, then))?;
+            Ok(Stmt::If(test, then, Some(otherwise)))
+        }
+    }
 }
 
 /// A `while` (ES3 12.6.2).
@@ -74,7 +68,8 @@ pub fn make_while(alloc: Global, test: Expr, body: Stmt) -> Result<Stmt, Memory>
     ensures plain { IfOk result (λ s. stmt s ≡ tree.while_loop (expr test) (stmt body)) }
     ensures with_places { IfOk result (λ s. view.stmt s ≡ placed.while_loop (view.expr test) (view.stmt body)) }
 {
-    Ok(Stmt::While(test, boxed(alloc, body)?))
+    let (body, test) = boxed_beside(alloc, body, test)?;
+    Ok(Stmt::While(test, body))
 }
 
 /// A `do` .. `while` (ES3 12.6.1).
@@ -82,7 +77,8 @@ pub fn make_do(alloc: Global, body: Stmt, test: Expr) -> Result<Stmt, Memory>
     ensures plain { IfOk result (λ s. stmt s ≡ tree.do_loop (stmt body) (expr test)) }
     ensures with_places { IfOk result (λ s. view.stmt s ≡ placed.do_loop (view.stmt body) (view.expr test)) }
 {
-    Ok(Stmt::Do(boxed(alloc, body)?, test))
+    let (body, test) = boxed_beside(alloc, body, test)?;
+    Ok(Stmt::Do(body, test))
 }
 
 /// The first part of the head of a `for` that declares variables (ES3 12.6.3).
@@ -108,7 +104,8 @@ pub fn make_for(
     ensures with_places { IfOk result (λ s.
         view.stmt s ≡ placed.for_loop (view.first start) (view.of_maybe_expr test) (view.of_maybe_expr update) (view.stmt body)) }
 {
-    Ok(Stmt::For(start, test, update, boxed(alloc, body)?))
+    let (body, (start, test, update)) = boxed_beside(alloc, body, (start, test, update))?;
+    Ok(Stmt::For(start, test, update, body))
 }
 
 /// A `for` .. `in` (ES3 12.6.4).
@@ -116,7 +113,8 @@ pub fn make_for_in(alloc: Global, target: Loop, object: Expr, body: Stmt) -> Res
     ensures plain { IfOk result (λ s. stmt s ≡ tree.for_in (loop_target target) (expr object) (stmt body)) }
     ensures with_places { IfOk result (λ s. view.stmt s ≡ placed.for_in (view.loop_target target) (view.expr object) (view.stmt body)) }
 {
-    Ok(Stmt::ForIn(target, object, boxed(alloc, body)?))
+    let (body, (target, object)) = boxed_beside(alloc, body, (target, object))?;
+    Ok(Stmt::ForIn(target, object, body))
 }
 
 /// A `continue` that begins at `at`, with its label if it has one (ES3 12.7).
@@ -149,7 +147,8 @@ pub fn make_with(alloc: Global, object: Expr, body: Stmt, at: u32) -> Result<Stm
     ensures plain { IfOk result (λ s. stmt s ≡ tree.with_object (expr object) (stmt body)) }
     ensures with_places { IfOk result (λ s. view.stmt s ≡ placed.with_object (view.expr object) (view.stmt body) at) }
 {
-    Ok(Stmt::With(object, boxed(alloc, body)?, at))
+    let (body, object) = boxed_beside(alloc, body, object)?;
+    Ok(Stmt::With(object, body, at))
 }
 
 /// A `switch` (ES3 12.11).

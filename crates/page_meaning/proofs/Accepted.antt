@@ -93,7 +93,7 @@ guest_name : (x : Word) → hidden x ≡ [] → is_free_name x.text ≡ true →
 guest_name x clean free = record { open_name = not_hidden x clean; own_name = (no_own x.text (and_right _ _ free)).0 }
 
 guest_key : (x : Word) → hidden x ≡ [] → is_record_key x.text ≡ true → GuestKey x.text
-guest_key x clean free = record { open_key = not_hidden x clean; no_text = (no_own x.text free).1; no_value = (no_own x.text free).2 }
+guest_key x clean free = let own = no_own x.text (and_right _ _ free) in record { open_key = not_hidden x clean; no_text = own.1; no_value = own.2 }
 
 -- the names that a part declares
 abbrev declares : (s : t.Sort) → Placed s → List (List ℕ)
@@ -137,7 +137,7 @@ accepted names _ (p.more_fields k x rest) e f d =
     (c.more_fields k.text g.0 h.0, both-given (c.more_fields k.text) _ _ g.0 h.0 g.1 h.1, (guest_key k (no_front _ _ (no_front _ _ e)) (and_left _ _ (and_left _ _ front)), g.2, h.2), refl)
 accepted names _ p.no_expr e f d = (c.no_expr, refl, tt, refl)
 accepted names _ (p.some_expr x) e f d = let g = accepted names _ x e f (λ k h. absurd cc) in (c.some_expr g.0, ap (one c.some_expr) g.1, g.2, refl)
-accepted names _ (p.var is) e f d = let g = accepted names _ is e f d in (c.var g.0, ap (one c.var) g.1, g.2, g.3)
+accepted names _ (p.var is) e f d = let g = accepted names _ is e (and_right _ _ f) d in (c.var g.0, ap (one c.var) g.1, g.2, g.3)
 accepted names _ (p.expression x) e f d = let g = accepted names _ x e f (λ k h. absurd cc) in (c.expression g.0, ap (one c.expression) g.1, g.2, refl)
 accepted names _ p.no_items e f d = (c.no_items, refl, tt, refl)
 accepted names _ (p.more_items k x rest) e f d =

@@ -5,3 +5,4 @@ pub mod Once
 pub mod Order
 pub mod Parts
 pub mod Statements
+pub mod Single

@@ -3,7 +3,7 @@
 ghost use Rattle.std.specs.Prelude.{◌≡◌};
 ghost use Rattle.es3_tree.specs.Tree as tree;
 ghost use Rattle.es3_tree.specs.PlacedView as source;
-ghost use Rattle.scope_rules.specs.Language.{is_first, has_field as has_such_field};
+ghost use Rattle.scope_rules.specs.Language.{is_first, has_field as has_such_field, is_single as is_one};
 
 use crate::words::{is_free_key, is_free_name, is_record_key};
 use caja_units::Units;
@@ -80,12 +80,20 @@ fn are_first_items(items: &[VarItem]) -> bool
     true
 }
 
+// Whether it is one variable.
+#[tactic(auto, using(crate::proofs::Single::single))]
+fn is_single(items: &[VarItem]) -> bool
+    ensures { result ≡ is_one (source.of_items items.now) }
+{
+    items.len() == 1
+}
+
 #[tactic(auto, unfolding(crate::specs::Language::is_first), using(es3_tree::proofs::PlacedRows::placed_views))]
 fn is_first_stmt(statement: &Stmt) -> bool
     ensures { result ≡ is_first tree.stmt (source.stmt statement.now) }
 {
     match statement {
-        Stmt::Var(items) => are_first_items(items),
+        Stmt::Var(items) => is_single(items) && are_first_items(items),
         Stmt::Expr(e) => is_first_expr(e),
         _ => false,
     }

@@ -1,6 +1,9 @@
-ghost use Rattle.std.specs.Prelude.{◌≡◌};
-ghost use Rattle.std.specs.List.{list_any};
+ghost use Rattle.std.specs.Prelude.{◌≡◌, drop};
+ghost use Rattle.std.specs.List.{list_any, list_all};
 ghost use Rattle.caja_units.specs.Units.{same_units};
+ghost use Rattle.es3_tree.specs.Token.{words};
+ghost use Rattle.es3_tokens.specs.Characters as class;
+ghost use Rattle.es3_tokens.specs.Tokens.{is_name as name};
 ghost use Rattle.scope_rules.specs.Rules.{
   is_among as is_among_them,
   own_words,
@@ -41,6 +44,69 @@ const TEXT_KEYS: [&str; 9] = [
 
 /// The words that mean something of their own wherever they stand.
 const OWN_WORDS: [&str; 4] = ["eval", "arguments", "toString", "valueOf"];
+
+/// The reserved words (ES3 7.5.1).
+const RESERVED_WORDS: [&str; 59] = [
+    "break",
+    "case",
+    "catch",
+    "continue",
+    "default",
+    "delete",
+    "do",
+    "else",
+    "finally",
+    "for",
+    "function",
+    "if",
+    "in",
+    "instanceof",
+    "new",
+    "return",
+    "switch",
+    "this",
+    "throw",
+    "try",
+    "typeof",
+    "var",
+    "void",
+    "while",
+    "with",
+    "abstract",
+    "boolean",
+    "byte",
+    "char",
+    "class",
+    "const",
+    "debugger",
+    "double",
+    "enum",
+    "export",
+    "extends",
+    "final",
+    "float",
+    "goto",
+    "implements",
+    "import",
+    "int",
+    "interface",
+    "long",
+    "native",
+    "package",
+    "private",
+    "protected",
+    "public",
+    "short",
+    "static",
+    "super",
+    "synchronized",
+    "throws",
+    "transient",
+    "volatile",
+    "null",
+    "true",
+    "false",
+];
 
 // Whether the units of the text are these bytes.
 fn spells(text: &Units, word: &str) -> bool
@@ -93,9 +159,54 @@ pub(crate) fn is_free_key(key: &Units) -> bool
     !is_word_of(&TEXT_KEYS, key) && !is_own_word(key)
 }
 
+// What begins a name (ES3 7.6).
+fn is_letter(unit: u16) -> bool
+    ensures { result ≡ class.is_letter unit }
+{
+    matches!(unit, 97..=122 | 65..=90 | 95 | 36)
+}
+
+// What a name goes on with (ES3 7.6).
+fn is_part(unit: u16) -> bool
+    ensures { result ≡ class.is_part unit }
+{
+    is_letter(unit) || matches!(unit, 48..=57)
+}
+
+// Whether a name may go on so from this place.
+fn goes_on(text: &Units, from: usize) -> bool
+    ensures { result ≡ list_all class.is_part (drop from text.now) }
+{
+    for i in from..text.len() {
+        let Some(unit) = text.at(i) else {
+            return true;
+        };
+        if !is_part(unit) {
+            return false;
+        }
+    }
+    true
+}
+
+// Whether the text is spelled as a name (ES3 7.6), which a reserved word is too.
+fn is_name(text: &Units) -> bool
+    ensures { result ≡ name text.now }
+{
+    match text.at(0) {
+        Some(first) => is_letter(first) && goes_on(text, 1),
+        None => false,
+    }
+}
+
+fn is_reserved(text: &Units) -> bool
+    ensures { result ≡ is_among_them words text.now }
+{
+    is_word_of(&RESERVED_WORDS, text)
+}
+
 /// Whether the text may be a key of a record.
 pub(crate) fn is_record_key(key: &Units) -> bool
     ensures { result ≡ record_key key.now }
 {
-    !is_own_word(key)
+    is_name(key) && !is_reserved(key) && !is_own_word(key)
 }
