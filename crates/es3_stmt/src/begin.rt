@@ -175,9 +175,7 @@ fn body_closed(
         Body::Try => Ok(Some(State::Tried(statements))),
         Body::Catch(tried, name) => Ok(Some(State::Caught(tried, name, statements))),
         Body::Finally(tried, handler) => {
-            Ok(Some(State::Ended(Done::finished(
-                tried, handler, statements,
-            ))))
+            Ok(Some(State::Ended(Done::finished(tried, handler, statements))))
         }
     }
 }
@@ -239,11 +237,7 @@ fn after_clause(
 }
 
 /// The token begins one more clause of a `switch`, if nothing else is open within the clause before it (ES3 12.11).
-fn next_clause(
-    alloc: Global,
-    stack: &mut Stack,
-    token: &Token,
-) -> Result<Option<State>, Memory>
+fn next_clause(alloc: Global, stack: &mut Stack, token: &Token) -> Result<Option<State>, Memory>
     ensures { IfOk result (λ s.
         next_of s (stack_of stack.new) ≡ next_clause_spec (stack_of stack.old) (spot_of token.now)) }
 {

@@ -17,11 +17,7 @@ use es3_lexer::{Kind, Punct, Token, Word};
 use std::alloc::Global;
 
 /// The head of a `for` begins with the token (ES3 12.6.3, 12.6.4).
-pub fn for_open(
-    alloc: Global,
-    stack: &mut Stack,
-    token: &Token,
-) -> Result<Option<State>, Memory>
+pub fn for_open(alloc: Global, stack: &mut Stack, token: &Token) -> Result<Option<State>, Memory>
     ensures { IfOk result (λ s.
         next_of s (stack_of stack.new) ≡ for_open_step (stack_of stack.old) (spot_of token.now)) }
 {
@@ -91,12 +87,7 @@ pub fn returned(
 }
 
 /// The token stands behind a `break`, where `breaks`, or a `continue`, that begins at the byte `at` (ES3 12.7, 12.8).
-pub fn jumped(
-    alloc: Global,
-    breaks: bool,
-    at: u32,
-    token: &Token,
-) -> Result<Option<State>, Memory>
+pub fn jumped(alloc: Global, breaks: bool, at: u32, token: &Token) -> Result<Option<State>, Memory>
     ensures { IfOk result (λ s. (k : Frames) → next_of s k ≡ jumped_step breaks at k (spot_of token.now)) }
 {
     match &token.kind {

@@ -59,12 +59,7 @@ fn after_do(body: Done, token: &Token) -> Resumed
 
 /// A statement goes on behind the one within it, or is whole.
 #[tactic(auto, unfolding(es3_grammar::specs::Machine::resume))]
-fn after_outer(
-    alloc: Global,
-    outer: Outer,
-    done: Done,
-    token: &Token,
-) -> Result<Resumed, Memory>
+fn after_outer(alloc: Global, outer: Outer, done: Done, token: &Token) -> Result<Resumed, Memory>
     ensures { IfOk result (λ r. (k : Frames) →
         resumed r k (spot_of token.now) ≡ resume_spec (outer_of outer ∷ k) (stmt done.tree) (spot_of token.now)) }
 {

@@ -42,10 +42,7 @@ pub fn tried(
         ≡ tried_step (map stmt tried.list.items) (stack_of stack.old) (spot_of token.now)) }
 {
     if is_word(&token.kind, Word::Catch) {
-        return Ok(Some(State::Await(
-            Punct::OpenParen,
-            After::CatchName(tried),
-        )));
+        return Ok(Some(State::Await(Punct::OpenParen, After::CatchName(tried))));
     }
     if !is_word(&token.kind, Word::Finally) {
         return Ok(None);

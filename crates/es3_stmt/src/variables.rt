@@ -73,9 +73,5 @@ pub fn item_end(
         stack.push(Frame::Root(Root::ForObject(Target::variable(name))))?;
         return Ok(Some(State::Want));
     }
-    Ok(after_variable(
-        in_head,
-        items.with(name, Maybe::none())?,
-        token,
-    ))
+    Ok(after_variable(in_head, items.with(name, Maybe::none())?, token))
 }
