@@ -1,5 +1,5 @@
 -- One step of settling a part, and frames seen from the innermost.
-use Rattle.std.proofs.Common.{◌≡◌, ℕ, ◌+◌, ◌-◌, ◌<◌, ◌≤◌, Bool, true, false, Option, Some, None, Result, IfOk, List, [], ◌∷◌, ◌++◌, length, take, get_or, unwrap_or, nat_le, le-leb, refl, sym, ap, subst, ◌∙◌, arith}
+use Rattle.std.proofs.Common.{◌≡◌, ℕ, ◌+◌, ◌-◌, ◌<◌, ◌≤◌, Bool, true, false, Option, Some, None, Result, IfOk, List, [], ◌∷◌, length, take, get_or, unwrap_or, nat_le, le-leb, refl, sym, ap, subst, ◌∙◌, arith}
 use Rattle.std.proofs.lemmas.List.{take_more}
 use Rattle.es3_grammar.specs.Spots.{Spot}
 use Rattle.es3_grammar.specs.Levels.{E, Infix, infix_of}
@@ -18,7 +18,7 @@ use Rattle.es3_stmt.specs.declared.frames.Root.TheVariants as r
 use Rattle.es3_stmt.specs.declared.frames.Outer.{Outer}
 use Rattle.es3_stmt.specs.declared.frames.Outer.TheVariants as u
 use Rattle.es3_stmt.specs.Settling.{bound, made_of}
-use Rattle.es3_stmt.specs.Views.{frame_of, waiting_of, bracket_of, root_of, outer_of, over}
+use Rattle.es3_stmt.specs.Views.{frame_of, waiting_of, bracket_of, root_of, outer_of}
 use Rattle.es3_stmt.proofs.Stacks.{pushed}
 
 -- an operator goes on with the part within the innermost frame
@@ -141,15 +141,3 @@ goes_closed b k j x c o t z g a h s w e =
 
 pub if_ok_is : {A B F : Type 0} (r : Result A F) (f : A → B) (y z : B) → y ≡ z → IfOk r (λ s. f s ≡ y) → IfOk r (λ s. f s ≡ z)
 if_ok_is r f y z e h = subst (λ w. IfOk r (λ s. f s ≡ w)) e h
-
--- whether no `in` may stand, asked of the frames from the innermost
-pub barred_on : (xs : List Frame) (n : ℕ) (x d : Frame) (r : Option Bool) → 0 < n → n ≤ length xs → x ≡ get_or xs (n - 1) d
-    → ((k : m.Stack) → m.no_in_here (frame_of x ∷ k) ≡ unwrap_or r (m.no_in_here k))
-    → m.no_in_here (over (take n xs) []) ≡ unwrap_or r (m.no_in_here (over (take (n - 1) xs) []))
-barred_on xs n x d r z le e h =
-    let back : n - 1 + 1 ≡ n = omega arith in
-    ap (λ j. m.no_in_here (over (take j xs) [])) (sym back)
-    ∙ ap (λ ys. m.no_in_here (over ys [])) (take_more xs (n - 1) d (omega arith))
-    ∙ ap m.no_in_here (pushed (take (n - 1) xs) (get_or xs (n - 1) d) [])
-    ∙ ap (λ y. m.no_in_here (frame_of y ∷ over (take (n - 1) xs) [])) (sym e)
-    ∙ h (over (take (n - 1) xs) [])
