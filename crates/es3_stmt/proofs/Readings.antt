@@ -9,7 +9,7 @@ use Rattle.es3_grammar.specs.Answers.{answer, answer_of, syntax, deep}
 use Rattle.es3_grammar.specs.Ends.{height}
 use Rattle.es3_grammar.specs.Limit.{turn}
 use Rattle.es3_grammar.specs.Sums.{one_more, peak, within_by, goes_quickly, run_quickly, read_quickly}
-use Rattle.es3_grammar.specs.Within.{Reading, reading_of, refused, too_deep, read_within}
+use Rattle.es3_grammar.specs.Within.{Reading, reading_of, too_deep, read_within}
 use Rattle.es3_grammar.proofs.Quickly.{read_same}
 use Rattle.es3_lexer.specs.declared.token.Token.{Token}
 use Rattle.es3_lexer.specs.Views.{placed_of}

@@ -1,6 +1,5 @@
 -- One step of settling a part, and frames seen from the innermost.
-use Rattle.std.proofs.Common.{◌≡◌, ℕ, ◌+◌, ◌-◌, ◌<◌, ◌≤◌, Bool, true, false, Option, Some, None, Result, IfOk, List, [], ◌∷◌, length, take, get_or, unwrap_or, nat_le, le-leb, refl, sym, ap, subst, ◌∙◌, arith}
-use Rattle.std.proofs.lemmas.List.{take_more}
+use Rattle.std.proofs.Common.{◌≡◌, Bool, true, false, Option, Some, None, Result, IfOk, [], ◌∷◌, nat_le, le-leb, refl, sym, ap, subst, ◌∙◌, arith}
 use Rattle.es3_grammar.specs.Spots.{Spot}
 use Rattle.es3_grammar.specs.Levels.{E, Infix, infix_of}
 use Rattle.es3_grammar.specs.Frames as m
@@ -19,7 +18,6 @@ use Rattle.es3_stmt.specs.declared.frames.Outer.{Outer}
 use Rattle.es3_stmt.specs.declared.frames.Outer.TheVariants as u
 use Rattle.es3_stmt.specs.Settling.{bound, made_of}
 use Rattle.es3_stmt.specs.Views.{frame_of, waiting_of, bracket_of, root_of, outer_of}
-use Rattle.es3_stmt.proofs.Stacks.{pushed}
 
 -- an operator goes on with the part within the innermost frame
 pub settle_shifts : (b : Bool) (k : m.Stack) (x : E) (c : Spot) (o : Option Infix) → infix_of b c.0 ≡ o → bound o (m.asked k) ≡ true → settle b k x c ≡ shifted o x k

@@ -1,11 +1,11 @@
 -- Where nothing whole was read.
-use Rattle.std.proofs.Common.{◌≡◌, ℕ, List, [], ◌∷◌, Option, Some, None, refl}
+use Rattle.std.proofs.Common.{◌≡◌, ℕ, [], ◌∷◌, Option, Some, None, refl}
 use Rattle.es3_tree.specs.PlacedView.{expr}
 use Rattle.es3_tree.specs.declared.Name.{Name}
 use Rattle.es3_lexer.specs.Tables.{punct_number}
 use Rattle.es3_grammar.specs.Levels.{E}
 use Rattle.es3_grammar.specs.Frames as m
-use Rattle.es3_grammar.specs.Machine.{Answer, part, filled, finished, ending}
+use Rattle.es3_grammar.specs.Machine.{part, filled, finished, ending}
 use Rattle.es3_grammar.specs.Within.{broken, reading_of}
 use Rattle.es3_stmt.specs.declared.parts.Done.{Done}
 use Rattle.es3_stmt.specs.declared.parts.Stmts.{Stmts}
