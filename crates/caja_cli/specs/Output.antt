@@ -4,7 +4,7 @@ use Rattle.std.specs.Str.{bytes_eq}
 use Rattle.caja_units.specs.Index.{number_units}
 use Rattle.es3_tree.specs.Tree as t
 use Rattle.es3_printer.specs.Tokens.{printed}
-use Rattle.page_cajole.specs.Cajoled.{Outcome, unread, broken, cajoled, outcome}
+use Rattle.page_cajole.specs.Cajoled.{Outcome, uncut, unread, broken, cajoled, outcome}
 use Rattle.page_runner.specs.declared.End.{End}
 use Rattle.page_runner.specs.declared.End.TheVariants as the_end
 use Rattle.page_runner.specs.Log.{main_name, line_end, page_log, page_end}
@@ -54,7 +54,8 @@ abbrev pub solo_parts : t.Tree t.program → List ℕ
 solo_parts p = module_part (printed p) ++ page_log p page_steps ++ end_line (page_end p page_steps)
 
 abbrev pub source_output : Outcome → List ℕ × Status
-source_output unread = (refusal (codes "read") 1 0, status.Refused)
+source_output (uncut number place) = (refusal (codes "lex") number place, status.Refused)
+source_output (unread number place) = (refusal (codes "read") number place, status.Refused)
 source_output (broken number place) = (refusal (codes "rule") number place, status.Refused)
 source_output (cajoled p) = (solo_parts p, end_status (page_end p page_steps))
 

@@ -22,7 +22,8 @@ pub fn solo(alloc: Global, input: &[u8]) -> Result<(Vec<u8>, Status), Memory>
     ensures status { IfOk result (λ r. r.1 ≡ (source_output (outcome input.now)).1) }
 {
     match cajole(alloc, input)? {
-        Answer::Unread => refused(alloc, "read", 1, 0),
+        Answer::Uncut(number, place) => refused(alloc, "lex", number, place),
+        Answer::Unread(number, place) => refused(alloc, "read", number, place),
         Answer::Broken(number, place) => refused(alloc, "rule", number, place),
         Answer::Module(main) => run(alloc, main),
     }

@@ -1,25 +1,32 @@
 -- What becomes of a source.
 use Rattle.std.specs.Prelude.{ℕ, List, Option, Some, None, if◌then◌else◌}
 use Rattle.es3_tree.specs.Tree as t
+use Rattle.es3_tree.specs.Placed as p
 use Rattle.es3_tree.specs.Placed.{Placed}
 use Rattle.cajita_tree.specs.Tree as c
-use Rattle.first_reader.specs.Machine.{read}
 use Rattle.scope_rules.specs.Language.{is_first}
 use Rattle.scope_rules.specs.Faults.{Fault, faults, first}
 use Rattle.scope_rules.specs.Resolve.{module_of}
 use Rattle.cajita_rewrite.specs.Rewrite.{program_of}
+use Rattle.page_cajole.specs.Source.{Source, source_of}
+use Rattle.page_cajole.specs.Source as s
 
 pub data Outcome : Type 0 where
-  -- it isn't of the first language
-  unread : Outcome
+  -- it isn't cut into tokens, or these spell no program: the number of the refusal in its stage, and the byte of the source
+  uncut : ℕ → ℕ → Outcome
+  unread : ℕ → ℕ → Outcome
   -- it breaks a rule: the number of the first fault, and the byte where that is
   broken : ℕ → ℕ → Outcome
   -- the program that stands for it
   cajoled : t.Tree t.program → Outcome
 
+-- a program that isn't of the first language breaks the rule 0, at the byte 0
+abbrev pub outside : Outcome
+outside = broken 0 0
+
 -- a program without faults has a module, so the first line never comes
 abbrev pub rewritten : Option (c.Tree c.program) → Outcome
-rewritten None = unread
+rewritten None = outside
 rewritten (Some m) = cajoled (program_of m)
 
 -- by the first fault, and the module that counts where there is none
@@ -27,10 +34,17 @@ abbrev pub judged : Option Fault → Option (c.Tree c.program) → Outcome
 judged (Some f) m = broken f.rule f.at
 judged None m = rewritten m
 
+abbrev pub statements : Placed t.program → Placed t.stmts
+statements (p.script body) = body
+
 -- whether a tree is of the first language comes before the rules
-abbrev pub outcome_of : Option (Placed t.stmts) → Outcome
-outcome_of None = unread
-outcome_of (Some body) = if is_first t.stmts body then judged (first (faults body)) (module_of body) else unread
+abbrev pub outcome_of_body : Placed t.stmts → Outcome
+outcome_of_body body = if is_first t.stmts body then judged (first (faults body)) (module_of body) else outside
+
+abbrev pub outcome_of : Source → Outcome
+outcome_of (s.uncut number at) = uncut number at
+outcome_of (s.unread number at) = unread number at
+outcome_of (s.spelled program) = outcome_of_body (statements program)
 
 abbrev pub outcome : List ℕ → Outcome
-outcome source = outcome_of (read source)
+outcome source = outcome_of (source_of source)

@@ -1,22 +1,26 @@
 //! From a source to the cajoled program that stands for it, and its text, or to the stage that refuses it.
 #![tactic(auto)]
 
-ghost use Rattle.std.specs.Prelude.{◌≡◌, IfOk, Some};
+ghost use Rattle.std.specs.Prelude.{◌≡◌, IfOk};
 ghost use Rattle.es3_tree.specs.View.{program as program_view};
 ghost use Rattle.es3_tree.specs.PlacedView.{of_stmts};
 ghost use Rattle.cajita_tree.specs.View.{module_view};
 ghost use Rattle.cajita_rewrite.specs.Rewrite.{program_of};
 ghost use Rattle.es3_printer.specs.Tokens.{printed};
-ghost use Rattle.page_cajole.specs.Cajoled.{outcome, outcome_of};
+ghost use Rattle.page_cajole.specs.Cajoled.{outcome, outcome_of_body};
 ghost use Rattle.page_cajole.specs.Answers.{Answers};
+
+mod source;
+#[cfg(test)]
+mod tests;
 
 use caja_units::Memory;
 use cajita_rewrite::rewrite;
 use cajita_tree::Module;
 use es3_printer::print_program;
 use es3_tree::Program;
-use first_reader::read_module;
 use scope_rules::{RuleError, check, is_first};
+use source::{SourceRead, read_source};
 use std::alloc::Global;
 
 /// A cajoled module: the program that stands for it, and that program's text in bytes of ASCII.
@@ -31,9 +35,13 @@ pub struct CajoledModule {
 pub enum Answer {
     /// It is cajoled.
     Module(CajoledModule),
-    /// Reading refuses it: it isn't of the first language.
-    Unread,
-    /// A rule refuses it: the number of the rule, and the byte of the source where the first fault is, from 0.
+    /// It isn't cut into tokens: the number of the refusal, and the byte of the source where it is, from 0.
+    Uncut(u8, u32),
+    /// Its tokens spell no program: 1 where none goes on with a token, and the byte of that token; 2 where all that go on nest too deep,
+    /// and the byte 0.
+    Unread(u8, u32),
+    /// A rule refuses it: the number of the rule, and the byte of the source where the first fault is. The rule 0 stands for what isn't
+    /// of the first language, at the byte 0.
     Broken(u8, u32),
 }
 
@@ -49,10 +57,10 @@ fn cajoled(alloc: Global, resolved: &Module) -> Result<CajoledModule, Memory>
 
 /// The answer for a program that was read.
 fn judge(alloc: Global, program: &Program) -> Result<Answer, Memory>
-    ensures { IfOk result (λ a. Answers a (outcome_of (Some (of_stmts program.now.body.items)))) }
+    ensures { IfOk result (λ a. Answers a (outcome_of_body (of_stmts program.now.body.items))) }
 {
     if !is_first(&program.body) {
-        return Ok(Answer::Unread);
+        return Ok(Answer::Broken(0, 0));
     }
     match check(alloc, program) {
         Ok(module) => Ok(Answer::Module(cajoled(alloc, &module)?)),
@@ -61,8 +69,7 @@ fn judge(alloc: Global, program: &Program) -> Result<Answer, Memory>
     }
 }
 
-/// The cajoled module of a source, or what refuses it: reading, exactly where the source isn't of the first language, and
-/// then the rules, exactly where it breaks one.
+/// The cajoled module of a source, or what refuses it: cutting it into tokens, reading these, or a rule, in this order.
 ///
 /// # Errors
 ///
@@ -70,11 +77,9 @@ fn judge(alloc: Global, program: &Program) -> Result<Answer, Memory>
 pub fn cajole(alloc: Global, source: &[u8]) -> Result<Answer, Memory>
     ensures { IfOk result (λ a. Answers a (outcome source.now)) }
 {
-    match read_module(alloc, source)? {
-        Some(program) => judge(alloc, &program),
-        None => Ok(Answer::Unread),
+    match read_source(alloc, source)? {
+        SourceRead::Spelled(program) => judge(alloc, &program),
+        SourceRead::Uncut(number, at) => Ok(Answer::Uncut(number, at)),
+        SourceRead::Unread(number, at) => Ok(Answer::Unread(number, at)),
     }
 }
-
-#[cfg(test)]
-mod tests;

@@ -1,0 +1,73 @@
+//! From a source to the program that it spells.
+
+ghost use Rattle.std.specs.Prelude.{◌≡◌, ℕ, IfOk, map};
+ghost use Rattle.es3_grammar.specs.Answers.{answer};
+ghost use Rattle.es3_lexer.specs.Answers.{Refuses, refusal_of};
+ghost use Rattle.es3_lexer.specs.Views.{placed_of};
+ghost use Rattle.es3_tokens.specs.Cut as cut;
+ghost use Rattle.page_cajole.specs.Source.{source_of, deepest, of_cut, of_tokens};
+ghost use Rattle.page_cajole.specs.Answers.{read_as};
+
+use caja_units::Memory;
+use es3_lexer::{LexError, Tokens, tokens};
+use es3_stmt::{ReadError, read_program};
+use es3_tree::Program;
+use std::alloc::Global;
+
+/// The longest source, in bytes: 512 KiB.
+const LONGEST_SOURCE: usize = 512 * 1024;
+
+/// How deep a program nests.
+const DEEPEST: u32 = 128;
+
+/// What a source spells, or the number of what refuses it in its stage, and the byte of the source where that is, from 0.
+#[derive(Drop)]
+pub enum SourceRead {
+    Spelled(Program),
+    /// It isn't cut into tokens.
+    Uncut(u8, u32),
+    /// Its tokens spell no program.
+    Unread(u8, u32),
+}
+
+fn lex_refusal(refusal: LexError) -> Result<SourceRead, Memory>
+    ensures { IfOk result (λ r. (a : cut.Answer) → Refuses (refusal_of refusal) a → (end : ℕ) → read_as r ≡ of_cut end a) }
+{
+    Ok(match refusal {
+        LexError::NotUtf8(at) => SourceRead::Uncut(1, at),
+        LexError::BadChar(at) => SourceRead::Uncut(2, at),
+        LexError::OpenString(at) => SourceRead::Uncut(3, at),
+        LexError::OpenComment(at) => SourceRead::Uncut(4, at),
+        LexError::BadEscape(at) => SourceRead::Uncut(5, at),
+        LexError::NumberForm(at) => SourceRead::Uncut(6, at),
+        LexError::NumberTooLarge(at) => SourceRead::Uncut(7, at),
+        LexError::EscapeInName(at) => SourceRead::Uncut(8, at),
+        LexError::RegExp(at) => SourceRead::Uncut(9, at),
+        LexError::TooLong(at) => SourceRead::Uncut(10, at),
+        LexError::Memory => return Err(Memory),
+    })
+}
+
+fn read_tokens(alloc: Global, list: &Tokens) -> Result<SourceRead, Memory>
+    ensures { IfOk result (λ r. read_as r ≡ of_tokens (answer deepest list.now.end (map placed_of list.now.list.items))) }
+{
+    Ok(match read_program(alloc, list, DEEPEST) {
+        Ok(program) => SourceRead::Spelled(program),
+        Err(ReadError::Syntax(at)) => SourceRead::Unread(1, at),
+        Err(ReadError::TooDeep(at)) => SourceRead::Unread(2, at),
+        Err(ReadError::Memory) => return Err(Memory),
+    })
+}
+
+/// The program that a source spells, or what refuses it.
+pub fn read_source(alloc: Global, source: &[u8]) -> Result<SourceRead, Memory>
+    ensures { IfOk result (λ r. read_as r ≡ source_of source.now) }
+{
+    if source.len() > LONGEST_SOURCE {
+        return Ok(SourceRead::Uncut(10, 0));
+    }
+    match tokens(alloc, source, LONGEST_SOURCE) {
+        Ok(list) => read_tokens(alloc, &list),
+        Err(refusal) => lex_refusal(refusal),
+    }
+}
