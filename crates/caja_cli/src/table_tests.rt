@@ -13,7 +13,7 @@ const BEHIND: &str = "return moduleResult___;});";
 /// A source, its cajoled statements, and what stands behind the text; a refused source has a line alone.
 type Row = (&'static str, &'static str, &'static str);
 
-static ROWS: [Row; 89] = [
+static ROWS: [Row; 90] = [
     (
         "'a' + {};",
         "moduleResult___=\"a\"+___.initializeMap([]);",
@@ -196,6 +196,7 @@ static ROWS: [Row; 89] = [
     ("a + b = c;", "", "refused main read 1 6\n"),
     ("var a = ;", "", "refused main read 1 8\n"),
     ("a b;", "", "refused main read 1 2\n"),
+    ("x = 1", "", "refused main read 1 5\n"),
     ("{", "", "refused main read 1 1\n"),
     (
         "{{{{{{{{{{{{{{{{{{{{{{{{{{{{{{{{{{{{{{{{{{{{{{{{{{{{{{{{{{{{{{{{{{{{{{{{{{{{{{{{{{{{{{{{{{{{{{{{{{{{{{{{{{{{{{{{{{{{{{{{{{{{{{{{",
