@@ -4,9 +4,9 @@ use Rattle.es3_tree.specs.Token.{punct}
 use Rattle.es3_grammar.specs.Spots.{Spot, is}
 use Rattle.es3_grammar.specs.Frames.{Stack}
 use Rattle.es3_grammar.specs.Machine.{step, when}
-use Rattle.es3_stmt.specs.declared.frames.After.{After}
-use Rattle.es3_stmt.specs.declared.frames.After.TheVariants as a
-use Rattle.es3_stmt.specs.Views.{after_of, behind}
+use Rattle.es3_frames.specs.declared.frames.After.{After}
+use Rattle.es3_frames.specs.declared.frames.After.TheVariants as a
+use Rattle.es3_frames.specs.Views.{after_of, behind}
 
 pub behind_step : (n : ℕ) (x : After) (k : Stack) (c : Spot) → step (behind n x k) c ≡ when (is (punct n) c) (after_of x k)
 unfolding step

@@ -1,9 +1,3 @@
 pub mod Awaited
-pub mod Depths
 pub mod Readings
-pub mod Rows
-pub mod Settled
-pub mod Stacks
-pub mod Starts
-pub mod Tags
 pub mod Unfinished

@@ -13,7 +13,7 @@ use Rattle.es3_grammar.specs.Within.{Reading, reading_of, too_deep, read_within}
 use Rattle.es3_grammar.proofs.Quickly.{read_same}
 use Rattle.es3_lexer.specs.declared.token.Token.{Token}
 use Rattle.es3_lexer.specs.Views.{placed_of}
-use Rattle.es3_stmt.specs.Views.{spot_of}
+use Rattle.es3_frames.specs.Views.{spot_of}
 
 -- the tokens from the i-th on are read from the state as all of them are from the beginning
 pub record ReadingOn (n o i : ℕ) (ts : List Token) (s : State) : Type 0 where

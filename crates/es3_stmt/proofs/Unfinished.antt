@@ -7,13 +7,13 @@ use Rattle.es3_grammar.specs.Levels.{E}
 use Rattle.es3_grammar.specs.Frames as m
 use Rattle.es3_grammar.specs.Machine.{part, filled, finished, ending}
 use Rattle.es3_grammar.specs.Within.{broken, reading_of}
-use Rattle.es3_stmt.specs.declared.parts.Done.{Done}
-use Rattle.es3_stmt.specs.declared.parts.Stmts.{Stmts}
-use Rattle.es3_stmt.specs.declared.frames.After.{After}
-use Rattle.es3_stmt.specs.declared.frames.After.TheVariants as a
-use Rattle.es3_stmt.specs.declared.frames.State.{State}
-use Rattle.es3_stmt.specs.declared.frames.State.TheVariants as s
-use Rattle.es3_stmt.specs.Views.{behind, state_of}
+use Rattle.es3_frames.specs.declared.parts.Done.{Done}
+use Rattle.es3_frames.specs.declared.parts.Stmts.{Stmts}
+use Rattle.es3_frames.specs.declared.frames.After.{After}
+use Rattle.es3_frames.specs.declared.frames.After.TheVariants as a
+use Rattle.es3_frames.specs.declared.frames.State.{State}
+use Rattle.es3_frames.specs.declared.frames.State.TheVariants as s
+use Rattle.es3_frames.specs.Views.{behind, state_of}
 
 -- an expression is no program
 an_expression : (k : m.Stack) (x : E) → broken ≡ reading_of (finished k x)

@@ -1,10 +1,2 @@
-pub mod Begins
 pub mod Endings
-pub mod FrameViews
-pub mod Kept
-pub mod KeptOnce
-pub mod Lists
 pub mod Reads
-pub mod Resumed
-pub mod Settling
-pub mod Views

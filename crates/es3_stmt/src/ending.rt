@@ -6,11 +6,11 @@ ghost use Rattle.es3_grammar.specs.Frames.{Stack as Frames, a_program, body as l
 ghost use Rattle.es3_grammar.specs.Machine.{all_of as all_of_spec, ending as ending_spec, program_at as program_at_spec};
 ghost use Rattle.es3_grammar.specs.Within.{reading_of};
 ghost use Rattle.es3_stmt.specs.Endings.{ended, closed};
-ghost use Rattle.es3_stmt.specs.Views.{frame_of, outer_of, stack_of, state_of};
+ghost use Rattle.es3_frames.specs.Views.{frame_of, outer_of, stack_of, state_of};
 
-use crate::frames::{Body, Frame, Outer, State};
-use crate::parts::{Done, Stmts};
-use crate::stack::Stack;
+use es3_frames::frames::{Body, Frame, Outer, State};
+use es3_frames::parts::{Done, Stmts};
+use es3_frames::stack::Stack;
 use caja_units::Memory;
 use es3_tree::Program;
 use std::alloc::Global;
@@ -27,7 +27,7 @@ pub enum Closed {
 }
 
 /// A program of these statements, if nothing is open round it.
-#[tactic(auto, using(crate::proofs::Rows::stmts_mapped))]
+#[tactic(auto, using(es3_frames::proofs::Rows::stmts_mapped))]
 fn script(stack: &Stack, statements: Stmts) -> Option<Program>
     ensures { ended result
         ≡ reading_of (program_at_spec (list_frame a_program (map stmt statements.list.items) ∷ stack_of stack.now)) }

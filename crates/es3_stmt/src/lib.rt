@@ -4,27 +4,12 @@
 //! calls: each token leads from a state to the next (src/step.rt), as `step` of the grammar's machine says.
 #![tactic(auto)]
 
-mod begin;
-mod brackets;
-mod closing;
 mod ending;
-mod expressions;
-mod frames;
-mod function;
-mod heads;
-mod limit;
-mod lists;
-mod operand;
-mod parts;
 mod read;
-mod resume;
-mod settle;
-mod stack;
-mod statements;
 mod step;
-mod sums;
-mod tokens;
-mod tries;
-mod variables;
+#[cfg(test)]
+mod test_tables;
+#[cfg(test)]
+mod tests;
 
 pub use read::{ReadError, read_program};

@@ -2,7 +2,7 @@ use Rattle.std.proofs.Common.{◌≡◌, length}
 use Rattle.es3_tree.specs.PlacedView.{stmt}
 use Rattle.es3_grammar.specs.Machine.{all_of}
 use Rattle.es3_grammar.specs.Within.{reading_of}
-use Rattle.es3_stmt.specs.Views.{stack_of}
+use Rattle.es3_frames.specs.Views.{stack_of}
 use Rattle.es3_stmt.proofs.ending.all_of.Given as goal
 
 abbrev pub invariant-loop-frame : goal.invariant-loop-frame

@@ -1,4 +1,4 @@
-use Rattle.es3_stmt.specs.Views.{stack_of}
+use Rattle.es3_frames.specs.Views.{stack_of}
 use Rattle.es3_stmt.proofs.Unfinished.{unfinished}
 use Rattle.es3_stmt.proofs.ending.ending.Goals as goal
 

@@ -1,6 +1,6 @@
 use Rattle.std.proofs.Common.{refl, arith, sym, ap, ◌∙◌}
 use Rattle.es3_grammar.specs.Answers.{answer_of}
-use Rattle.es3_stmt.specs.Views.{stack_of, state_of}
+use Rattle.es3_frames.specs.Views.{stack_of, state_of}
 use Rattle.es3_grammar.specs.Frames.{start}
 use Rattle.es3_stmt.proofs.Readings.{begun, few, stops, deepens, goes_on, ends}
 use Rattle.es3_stmt.proofs.read.read_program.Goals as goal

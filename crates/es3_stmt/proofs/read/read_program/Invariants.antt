@@ -1,5 +1,5 @@
 use Rattle.std.proofs.Common.{◌*◌, ◌≤◌}
-use Rattle.es3_stmt.specs.Views.{stack_of, state_of}
+use Rattle.es3_frames.specs.Views.{stack_of, state_of}
 use Rattle.es3_stmt.proofs.Readings.{ReadingOn}
 use Rattle.es3_stmt.proofs.read.read_program.Given as goal
 

@@ -1,0 +1,6 @@
+pub mod FrameViews
+pub mod Kept
+pub mod KeptOnce
+pub mod Lists
+pub mod Made
+pub mod Views

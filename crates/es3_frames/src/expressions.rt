@@ -1,0 +1,81 @@
+//! Expressions of their parts, with how deep they nest (ES3 11).
+
+ghost use Rattle.std.specs.Prelude.{◌≡◌, IfOk, None, Some, if◌then◌else◌};
+ghost use Rattle.es3_tree.specs.Placed as placed;
+ghost use Rattle.es3_tree.specs.PlacedView.{expr};
+ghost use Rattle.es3_grammar.specs.Levels.{joined as joined_spec, is_target as is_target_spec};
+ghost use Rattle.es3_expr.specs.Views.{join_of};
+ghost use Rattle.es3_frames.specs.Made.{made_of};
+
+use crate::parts::{Part, above};
+use caja_units::Memory;
+use es3_expr::{Join, is_target};
+use es3_tree::{UnOp, make_cond, make_index, make_new, make_step, make_unary};
+use std::alloc::Global;
+
+impl Part {
+    /// A `new` without arguments (ES3 11.2.2).
+    pub fn constructed(alloc: Global, constructor: Part) -> Result<Part, Memory>
+        ensures { IfOk result (λ x. expr x.tree ≡ placed.new (expr constructor.tree) placed.no_exprs) }
+    {
+        let depth = above(constructor.depth);
+        let tree = make_new(alloc, constructor.tree, Vec::new(alloc))?;
+        Ok(Part { tree, depth })
+    }
+
+    /// The member of an object by a key between brackets (ES3 11.2.1).
+    pub fn indexed(alloc: Global, object: Part, key: Part) -> Result<Part, Memory>
+        ensures { IfOk result (λ x. expr x.tree ≡ placed.index (expr object.tree) (expr key.tree)) }
+    {
+        let depth = above(object.depth.max(key.depth));
+        let tree = make_index(alloc, object.tree, key.tree)?;
+        Ok(Part { tree, depth })
+    }
+
+    /// A prefix operator that is no `++` or `--`, which begins at the byte `at`, and its operand (ES3 11.4).
+    pub fn prefixed(alloc: Global, op: UnOp, operand: Part, at: u32) -> Result<Part, Memory>
+        ensures { IfOk result (λ x. expr x.tree ≡ placed.unary op (expr operand.tree) at) }
+    {
+        let depth = above(operand.depth);
+        let tree = make_unary(alloc, op, operand.tree, at)?;
+        Ok(Part { tree, depth })
+    }
+
+    /// `++` where `up`, else `--`, before its operand where `before`, else behind it; none where the operand can't be assigned to
+    /// (ES3 11.3, 11.4.4, 11.4.5).
+    pub fn stepped(
+        alloc: Global,
+        up: bool,
+        before: bool,
+        operand: Part,
+    ) -> Result<Option<Part>, Memory>
+        ensures { IfOk result (λ x.
+            made_of x
+            ≡ (if is_target_spec (expr operand.tree) then Some (placed.step up before (expr operand.tree)) else None)) }
+    {
+        if !is_target(&operand.tree) {
+            return Ok(None);
+        }
+        let depth = above(operand.depth);
+        let tree = make_step(alloc, up, before, operand.tree)?;
+        Ok(Some(Part { tree, depth }))
+    }
+
+    /// An operator between two parts (ES3 11.5 to 11.11, 11.13, 11.14).
+    pub fn joined(alloc: Global, join: Join, left: Part, right: Part) -> Result<Part, Memory>
+        ensures { IfOk result (λ x. expr x.tree ≡ joined_spec (join_of join) (expr left.tree) (expr right.tree)) }
+    {
+        let depth = above(left.depth.max(right.depth));
+        let tree = join.make(alloc, left.tree, right.tree)?;
+        Ok(Part { tree, depth })
+    }
+
+    /// A conditional (ES3 11.12).
+    pub fn chosen(alloc: Global, test: Part, yes: Part, no: Part) -> Result<Part, Memory>
+        ensures { IfOk result (λ x. expr x.tree ≡ placed.choice (expr test.tree) (expr yes.tree) (expr no.tree)) }
+    {
+        let depth = above(test.depth.max(yes.depth).max(no.depth));
+        let tree = make_cond(alloc, test.tree, yes.tree, no.tree)?;
+        Ok(Part { tree, depth })
+    }
+}
