@@ -108,6 +108,19 @@ fn an_input_that_is_no_module_is_refused(rt: HostRuntime) -> Result<(), Fail> {
 }
 
 #[test]
+fn bytes_that_are_no_source_are_refused(rt: HostRuntime) -> Result<(), Fail> {
+    let alloc = rt.alloc();
+    let spaces = vec![in alloc; b' '; 512 * 1024 + 1]?;
+    let (status, output) = solo_run(alloc, &spaces)?;
+    assert_eq!(rt; status, Status::Refused);
+    assert_eq!(rt; output.as_slice(), b"refused main lex 10 0\n".as_slice());
+    let (status, output) = solo_run(alloc, b"\xFF")?;
+    assert_eq!(rt; status, Status::Refused);
+    assert_eq!(rt; output.as_slice(), b"refused main lex 1 0\n".as_slice());
+    Ok(())
+}
+
+#[test]
 fn nothing_is_written_after_a_failing_read(rt: HostRuntime) -> Result<(), Fail> {
     let alloc = rt.alloc();
     let input = b"var o = {x: 1}; o.x + 2;".to_vec(alloc)?;

@@ -13,7 +13,7 @@ const BEHIND: &str = "return moduleResult___;});";
 /// A source, its cajoled statements, and what stands behind the text; a refused source has a line alone.
 type Row = (&'static str, &'static str, &'static str);
 
-static ROWS: [Row; 90] = [
+static ROWS: [Row; 91] = [
     (
         "'a' + {};",
         "moduleResult___=\"a\"+___.initializeMap([]);",
@@ -190,6 +190,7 @@ static ROWS: [Row; 90] = [
     ),
     ("foo\\u005f_;", "", "refused main lex 8 3\n"),
     ("a = /b/;", "", "refused main lex 9 4\n"),
+    ("'\\x4';", "", "refused main lex 5 0\n"),
     ("1; /* a", "", "refused main lex 4 3\n"),
     ("1; \u{E9};", "", "refused main lex 2 3\n"),
     ("if (", "", "refused main read 1 4\n"),

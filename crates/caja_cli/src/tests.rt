@@ -30,18 +30,3 @@ fn an_input_of_a_byte_too_many_is_refused(rt: HostRuntime) -> Result<(), Fail> {
     assert_eq!(rt; sink.written(), b"refused main input 1 0\n".as_slice());
     Ok(())
 }
-
-#[test]
-fn a_source_of_a_byte_too_many_is_refused(rt: HostRuntime) -> Result<(), Fail> {
-    let alloc = rt.alloc();
-    let input = vec![in alloc; b' '; 512 * 1024 + 1]?;
-    let mut source = MemSource::new(input, LONGEST_INPUT, Vec::new(alloc));
-    let mut sink = MemSink::new(4096, vec![in alloc; 0; 64]?, Vec::new(alloc));
-    let words = vec![in alloc; String::from_str(alloc, "solo")?]?;
-    assert_eq!(rt;
-        caja(&words, &mut source, &mut sink, alloc),
-        Status::Refused
-    );
-    assert_eq!(rt; sink.written(), b"refused main lex 10 0\n".as_slice());
-    Ok(())
-}
