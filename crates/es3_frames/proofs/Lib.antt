@@ -1,4 +1,5 @@
 pub mod Depths
+pub mod Ending
 pub mod Rows
 pub mod Stacks
 pub mod Starts
