@@ -54,7 +54,7 @@ went_on kind f k (Some s) x e = (s, refl, e)
 
 -- ---- a text that is whole ends where it stands
 
-record Ending (kind : Kind) (h : ℕ) (z : List Spot) (x : Placed (sort kind)) : Type 0 where
+pub record Ending (kind : Kind) (h : ℕ) (z : List Spot) (x : Placed (sort kind)) : Type 0 where
   pub shallow : h ≤ deep (sort kind) x
   pub nothing : z ≡ []
 
@@ -114,7 +114,7 @@ phrase_ends (caught ss n hs f) y e = absurd (no_phrase_all f _ y e)
 phrase_ends (start (body a_program ss ∷ [])) y e = absurd cc
 phrase_ends _ y e = absurd cc
 
-state_ends : (kind : Kind) (s : State) (x : Placed (sort kind)) → ending s ≡ said kind x → Ending kind (height s) (tail s) x
+pub state_ends : (kind : Kind) (s : State) (x : Placed (sort kind)) → ending s ≡ said kind x → Ending kind (height s) (tail s) x
 state_ends programs s p e = program_ends s p e
 state_ends phrases s y e = phrase_ends s y e
 
@@ -204,10 +204,13 @@ module _ (kind : Kind) where
     },
   )
 
-  pub known_whole : (n : ℕ) (u : List Spot) (s : State) (x : Placed (sort kind)) → Known n u s → ending s ≡ said kind x → SpelledWithin kind n x u
+  pub known_ending : (n : ℕ) (u : List Spot) (s : State) → Known n u s → run u (outset kind) ≡ ending s
   unfolding run
+  known_ending n u s k = ap (λ (z : List Spot). run z (outset kind)) (sym (append-nil u)) ∙ k.come []
+
+  pub known_whole : (n : ℕ) (u : List Spot) (s : State) (x : Placed (sort kind)) → Known n u s → ending s ≡ said kind x → SpelledWithin kind n x u
   known_whole n u s x k e = record {
-    spelled = said_spelled kind x u (ap (λ (z : List Spot). run z (outset kind)) (sym (append-nil u)) ∙ k.come [] ∙ e);
+    spelled = said_spelled kind x u (known_ending n u s k ∙ e);
     shallow = (let d = end_deep s x k.fits e in let b = k.shallow in omega arith);
     few = k.few;
   }

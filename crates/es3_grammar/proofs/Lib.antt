@@ -27,3 +27,4 @@ pub mod OpenBrackets
 pub mod Turns
 pub mod Quickly
 pub mod BracketExamples
+pub mod Longest
