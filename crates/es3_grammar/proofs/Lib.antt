@@ -28,3 +28,4 @@ pub mod Turns
 pub mod Quickly
 pub mod BracketExamples
 pub mod Longest
+pub mod LongestExamples

@@ -1,5 +1,5 @@
 -- The longest expression at the front of tokens is found, and reading stops at its exact place.
-use Rattle.std.proofs.Common.{◌≡◌, ℕ, zero, suc, ◌+◌, ◌*◌, ◌≤◌, ◌⊎◌, Bool, true, false, cond, ◌&&◌, List, [], ◌∷◌, ◌++◌, length, take, Option, Some, None, nat_le, refl, sym, ap, subst, inl, inr, ◌∙◌, arith, append_assoc, length-append}
+use Rattle.std.proofs.Common.{◌≡◌, ℕ, zero, suc, ◌+◌, ◌*◌, ◌≤◌, ◌⊎◌, Bool, true, false, cond, List, [], ◌∷◌, ◌++◌, length, take, Option, Some, None, refl, sym, ap, subst, inl, inr, ◌∙◌, arith, append_assoc, length-append}
 use Rattle.std.proofs.lemmas.Bool.{lt-leb}
 use Rattle.std.proofs.lemmas.List.{append-nil}
 use Rattle.std.proofs.Math.Seq.{take-append_seam}
@@ -14,7 +14,7 @@ use Rattle.es3_grammar.specs.Ends.{height}
 use Rattle.es3_grammar.specs.Limit.{turn, most, counted}
 use Rattle.es3_grammar.specs.Within.{is_within}
 use Rattle.es3_grammar.specs.Sums.{brackets_in, Steady, within_by}
-use Rattle.es3_grammar.specs.Longest.{ExprWithin, BeginsExpr, BeginsExprWithin, Longest, NoExpr, Best, ExprRefusedAt, ExprDeepAt, Stop, used_up, refused_at, deep_at, StopsExpr, KnownExpr, known_first, known_on, is_phrase, better, Found, found, goes_longest, run_longest, read_longest}
+use Rattle.es3_grammar.specs.Longest.{ExprWithin, BeginsExpr, BeginsExprWithin, Longest, NoExpr, Best, ExprRefusedAt, ExprDeepAt, used_up, deep_at, StopsExpr, KnownExpr, known_first, known_on, is_phrase, better, Found, found, goes_longest, run_longest, read_longest}
 use Rattle.es3_grammar.proofs.Texts.{phrases, programs}
 use Rattle.es3_grammar.proofs.Phrases.{phrase_is, phrase_read}
 use Rattle.es3_grammar.proofs.Fits.{step_fits}
@@ -119,17 +119,20 @@ best_stays n u k None none b = λ y v w e i. elim (fronts u k v w e) [
   | inl p ↦ b y v p.0 p.1 i
   | inr q ↦ none y q.0 q.1 w q.3 (subst (ExprWithin n y) q.2 i)
 ]
-best_stays n u k (Some m) none b = let l = b.1 in (b.0, record {
-  front = l.front;
-  rest = l.rest ++ k;
-  parts = ap (λ (z : List Spot). z ++ k) l.parts ∙ append_assoc l.front l.rest k;
-  counted = l.counted;
-  is = l.is;
-  longest = λ y v w e i. elim (fronts u k v w e) [
-    | inl p ↦ l.longest y v p.0 p.1 i
-    | inr q ↦ absurd (none y q.0 q.1 w q.3 (subst (ExprWithin n y) q.2 i))
-  ];
-})
+best_stays n u k (Some m) none b = let l = b.1 in (
+  b.0,
+  record {
+    front = l.front;
+    rest = l.rest ++ k;
+    parts = ap (λ (z : List Spot). z ++ k) l.parts ∙ append_assoc l.front l.rest k;
+    counted = l.counted;
+    is = l.is;
+    longest = λ y v w e i. elim (fronts u k v w e) [
+      | inl p ↦ l.longest y v p.0 p.1 i
+      | inr q ↦ absurd (none y q.0 q.1 w q.3 (subst (ExprWithin n y) q.2 i))
+    ];
+  },
+)
 
 -- with this token no expression within the limit goes on
 best_at : (n : ℕ) (u : List Spot) (c : Spot) (k : List Spot) (best : Option ℕ) → (BeginsExprWithin n (u ++ c ∷ []) → ⊥) → Best n u best → Best n (u ++ c ∷ k) best
@@ -146,14 +149,17 @@ best_on n u c r best k b = go (ending r) refl
     only y d (g ∷ v) w p e i = cc
 
     go : (a : Answer) → ending r ≡ a → Best n (u ++ c ∷ []) (cond (is_phrase a) (Some (length u + 1)) best)
-    go (phrase x) e = (x, record {
-      front = u ++ c ∷ [];
-      rest = [];
-      parts = sym (append-nil (u ++ c ∷ []));
-      counted = length-append u (c ∷ []);
-      is = expr_whole n (u ++ c ∷ []) r x k e;
-      longest = λ y v w e i. omega (arith, ap length e, length-append v w, length-append u (c ∷ []));
-    })
+    go (phrase x) e = (
+      x,
+      record {
+        front = u ++ c ∷ [];
+        rest = [];
+        parts = sym (append-nil (u ++ c ∷ []));
+        counted = length-append u (c ∷ []);
+        is = expr_whole n (u ++ c ∷ []) r x k e;
+        longest = λ y v w e i. omega (arith, ap length e, length-append v w, length-append u (c ∷ []));
+      },
+    )
     go part e = best_stays n u (c ∷ []) best (λ y d v w i j. only y d v w e i j) b
     go (whole p) e = absurd (expr_alone n (u ++ c ∷ []) r p k e)
     go (stopped z) e = absurd (never r z e)
