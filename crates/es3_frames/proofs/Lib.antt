@@ -1,5 +1,4 @@
 pub mod Depths
-pub mod Ending
 pub mod Rows
 pub mod Stacks
 pub mod Starts

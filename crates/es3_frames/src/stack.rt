@@ -1,6 +1,6 @@
 //! The frames that are open, the innermost last, with their sums.
 
-ghost use Rattle.std.specs.Prelude.{◌≡◌, ◌&&◌, ◌∷◌, []};
+ghost use Rattle.std.specs.Prelude.{◌≡◌, ◌&&◌, ◌∷◌, [], false};
 ghost use Rattle.es3_grammar.specs.Frames.{Stack as Frames, asks as asks_spec};
 ghost use Rattle.es3_frames.specs.Ending.{ends_all};
 ghost use Rattle.es3_grammar.specs.Machine.{holds as holds_spec};
@@ -125,14 +125,12 @@ impl Stack {
     pub fn ends_with(&self, is_target: bool) -> bool
         ensures { result ≡ ends_all is_target (stack_of self.now) }
     {
-        let mut open = self.entries.as_slice();
         let mut target = is_target;
-        while let Some((entry, outer)) = open.split_last() {
+        for entry in self.entries.iter().rev() {
             if !fills(&entry.frame, target) {
                 return false;
             }
             target = false;
-            open = outer;
         }
         true
     }
