@@ -9,15 +9,15 @@ pub returns-then-not-fills : goal.returns-then-not-fills
 returns-then-not-fills c = sym (
     c.loop-entry.invariant
     ∙ ap (λ (es : List Entry). ends_all c.loop-entry.target (over es [])) c.in-Some.ensures.steps
-    ∙ ap (ends_all c.loop-entry.target) (pushed _ _ [])
-    ∙ c.if-not-fills.ensures _)
+    ∙ ap (ends_all c.loop-entry.target) (pushed c.next.new.self.iter.rest.now c.in-Some.entry.now [])
+    ∙ c.if-not-fills.ensures (over c.next.new.self.iter.rest.now []))
 
 pub loop-entry-preserved : goal.loop-entry-preserved
 loop-entry-preserved c =
     c.loop-entry.invariant
     ∙ ap (λ (es : List Entry). ends_all c.loop-entry.target (over es [])) c.in-Some.ensures.steps
-    ∙ ap (ends_all c.loop-entry.target) (pushed _ _ [])
-    ∙ c.if-not-fills.ensures _
+    ∙ ap (ends_all c.loop-entry.target) (pushed c.next.new.self.iter.rest.now c.in-Some.entry.now [])
+    ∙ c.if-not-fills.ensures (over c.next.new.self.iter.rest.now [])
 
 pub returns : goal.returns
 returns c = sym (c.loop-entry.invariant ∙ all_ended c.loop-entry.target _ c.in-None.ensures.steps.0)
