@@ -3,6 +3,7 @@ use Rattle.std.proofs.Common.{◌≡◌, suc, ◌-◌, Bool, true, false, cond, 
 use Rattle.std.specs.Prelude.{slice_get, option_to_list}
 use Rattle.es3_grammar.specs.Sums as m
 use Rattle.es3_grammar.specs.Frames.{Stack}
+use Rattle.es3_frames.specs.Ending.{ends_all}
 use Rattle.es3_frames.specs.FrameViews.{frame_of}
 use Rattle.es3_frames.specs.declared.stack.Entry.{Entry}
 use Rattle.es3_frames.specs.Kept.{IsSums, over, Kept}
@@ -55,3 +56,8 @@ last_sums xs x e h = rw e.is (kept_last e.front x [] (rw e.is at h))
 
 pub innermost_is : (xs : List Entry) (x : Entry) → Ends xs x → (outside : Stack) × (over xs [] ≡ frame_of x.frame ∷ outside)
 innermost_is xs x e = (over e.front [], ap (λ (s : List Entry). over s []) e.is ∙ pushed e.front x [])
+
+-- where nothing is open
+pub all_ended : (b : Bool) (xs : List Entry) → length xs ≡ 0 → ends_all b (over xs []) ≡ true
+all_ended b [] e = refl
+all_ended b (x ∷ xs) e = absurd cc

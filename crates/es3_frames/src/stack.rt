@@ -1,7 +1,8 @@
 //! The frames that are open, the innermost last, with their sums.
 
-ghost use Rattle.std.specs.Prelude.{◌≡◌, []};
-ghost use Rattle.es3_grammar.specs.Frames.{asks as asks_spec};
+ghost use Rattle.std.specs.Prelude.{◌≡◌, ◌&&◌, ◌∷◌, [], false};
+ghost use Rattle.es3_grammar.specs.Frames.{Stack as Frames, asks as asks_spec};
+ghost use Rattle.es3_frames.specs.Ending.{ends_all};
 ghost use Rattle.es3_grammar.specs.Machine.{holds as holds_spec};
 ghost use Rattle.es3_frames.specs.FrameViews.{body_of, bracket_of, frame_of, waiting_of};
 ghost use Rattle.es3_frames.specs.Kept.{Kept};
@@ -31,6 +32,7 @@ impl Stack {
     ghost use Rattle.es3_grammar.specs.Frames.{asked as asked_spec, behind_new as behind_new_spec, no_in_here};
     ghost use Rattle.es3_grammar.specs.Machine.{declares as declares_spec};
     ghost use Rattle.es3_grammar.specs.Sums as m;
+    ghost use Rattle.es3_frames.specs.Ending.{ends_all};
     ghost use Rattle.es3_frames.specs.Kept.{Innermost, IsSums};
     ghost use Rattle.es3_frames.specs.Views.{frame_of, lists, stack_of, Popped};
 
@@ -118,11 +120,39 @@ impl Stack {
         }
     }
 
+    /// Whether an expression, which may be assigned to or not, ends everything that is open (ES3 11).
+    #[tactic(auto, using(crate::proofs::Stacks::pushed))]
+    pub fn ends_with(&self, is_target: bool) -> bool
+        ensures { result ≡ ends_all is_target (stack_of self.now) }
+    {
+        let mut target = is_target;
+        for entry in self.entries.iter().rev() {
+            if !fills(&entry.frame, target) {
+                return false;
+            }
+            target = false;
+        }
+        true
+    }
+
     /// Whether no `in` may stand here (ES3 12.6.3).
     pub fn no_in(&self) -> bool
         ensures { result ≡ no_in_here (stack_of self.now) }
     {
         self.sums().no_in
+    }
+}
+
+/// Whether an expression, which may be assigned to or not, is the last part that the frame waits for.
+fn fills(frame: &Frame, is_target: bool) -> bool
+    ensures { (k : Frames) → ends_all is_target (frame_of frame.now ∷ k) ≡ (result && ends_all false k) }
+{
+    match frame {
+        Frame::Waiting(Waiting::Step(_)) => is_target,
+        Frame::Waiting(
+            Waiting::New | Waiting::Prefix(_, _) | Waiting::Join(_, _) | Waiting::Branch(_, _),
+        ) => true,
+        Frame::Bracket(_) | Frame::Root(_) | Frame::Outer(_) | Frame::List(_, _) => false,
     }
 }
 

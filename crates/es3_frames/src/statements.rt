@@ -10,9 +10,9 @@ ghost use Rattle.es3_frames.specs.Lists.{item_of, clause_of};
 use crate::parts::{Clauses, Done, Front, Handler, Items, Maybe, Part, Stmts, Target, above};
 use caja_units::Memory;
 use es3_tree::{
-    First, Loop, Name, Stmt, make_block, make_break, make_continue, make_do, make_first_var, make_for,
-    make_for_in, make_if, make_label, make_return, make_switch, make_try, make_var, make_while,
-    make_with,
+    First, Loop, Name, Stmt, make_block, make_break, make_continue, make_do, make_first_var,
+    make_for, make_for_in, make_if, make_label, make_return, make_switch, make_try, make_var,
+    make_while, make_with,
 };
 use std::alloc::Global;
 

@@ -1,4 +1,5 @@
 -- No step makes the shortest end of a text less deep, or opens fewer brackets in all.
+use Rattle.es3_grammar.proofs.Texts.{Kind}
 use Rattle.es3_grammar.proofs.Fits.{By, Takes, Fits, body_more}
 use Rattle.es3_grammar.proofs.Sound.{begin_sign, sign_is, clause_or, and_three}
 use Rattle.es3_grammar.specs.Levels as l
@@ -201,23 +202,29 @@ closes_more _ f x c s e = none_some s e
 
 -- ---- behind a part
 
-fill_more : (g : Frame) (f : Stack) (x y : E) (c : Spot) (s : State) (i : Bool) → filled g x ≡ Some y → settle i f y c ≡ Some s → More (height_at (is_target y) f (deep t.expr y)) (close (is_target y) f) c s
-    → More (height_at (is_target x) (g ∷ f) (deep t.expr x)) (close (is_target x) (g ∷ f)) c s
-fill_more new_of f x y c s i e r m = new_more (stepped f) refl
+-- a frame that is filled ends as what fills it does, unless it is a `new` within a prefix `++`
+pub record Fills (g : Frame) (f : Stack) (x y : E) : Type 0 where
+  pub higher : height_at (is_target x) (g ∷ f) (deep t.expr x) ≤ height_at (is_target y) f (deep t.expr y)
+  pub same : close (is_target x) (g ∷ f) ≡ close (is_target y) f
+
+pub fill_same : (g : Frame) (f : Stack) (x y : E) → filled g x ≡ Some y → (stepped f ≡ true → is_target y ≡ false → ⊥) → Fills g f x y
+fill_same new_of f x y e n = subst (Fills new_of f x) (some_is _ y e) (new_same (stepped f) refl)
   where
-    new_more : (b : Bool) → stepped f ≡ b → More (height_at (is_target x) (new_of ∷ f) (deep t.expr x)) (close (is_target x) (new_of ∷ f)) c s
-    new_more true h = absurd (stuck f i (tree.new x tree.no_exprs) c s h refl (subst (λ z. settle i f z c ≡ Some s) (sym (some_is _ y e)) r))
-    new_more false h = less_more _ _ _ _ c s (more_at f false (1 + deep t.expr x) (deep t.expr (tree.new x tree.no_exprs)) (omega arith)) (λ o. rw h (omega arith)) (subst (λ z. More (height_at (is_target z) f (deep t.expr z)) (close (is_target z) f) c s) (sym (some_is _ y e)) m)
-fill_more (prefix_step up) f x y c s i e r m = elim (chosen (is_target x) (Some (tree.step up true x)) None (Some y) e) [
-  | inl g ↦ less_more _ _ _ _ c s (rw g.0 (omega arith)) (λ o. rw g.0 (omega arith)) (subst (λ z. More (height_at (is_target z) f (deep t.expr z)) (close (is_target z) f) c s) (sym (some_is (tree.step up true x) y g.1)) m)
+    new_same : (b : Bool) → stepped f ≡ b → Fills new_of f x (tree.new x tree.no_exprs)
+    new_same true h = absurd (n h (subst (λ z. is_target z ≡ false) (some_is (tree.new x tree.no_exprs) y e) refl))
+    new_same false h = record { higher = more_at f false _ _ (omega arith); same = ap (λ b. close_new b (close false f)) h }
+fill_same (prefix_step up) f x y e n = elim (chosen (is_target x) (Some (tree.step up true x)) None (Some y) e) [
+  | inl g ↦ subst (Fills (prefix_step up) f x) (some_is _ y g.1) (record { higher = rw g.0 (omega arith); same = rw g.0 refl })
   | inr g ↦ none_some y g.1
 ]
-fill_more (prefix op a) f x y c s i e r m = subst (λ z. More (height_at (is_target z) f (deep t.expr z)) (close (is_target z) f) c s) (sym (some_is (tree.unary op x a) y e)) m
-fill_more (join j z) f x y c s i e r m = (let w = subst (λ z. More (height_at (is_target z) f (deep t.expr z)) (close (is_target z) f) c s) (sym (some_is (joined j z x) y e)) m in
-    let v = subst (λ (b : Bool). More (height_at b f (deep t.expr (joined j z x))) (close b f) c s) (not_target j z x) w in
-    less_more _ _ _ _ c s (more_at f false (1 + max (deep t.expr z) (deep t.expr x)) (deep t.expr (joined j z x)) (omega (arith, joined_deep j z x))) (λ o. omega arith) v)
-fill_more (either p q) f x y c s i e r m = subst (λ z. More (height_at (is_target z) f (deep t.expr z)) (close (is_target z) f) c s) (sym (some_is (tree.choice p q x) y e)) m
-fill_more _ f x y c s i e r m = none_some y e
+fill_same (prefix op a) f x y e n = subst (Fills (prefix op a) f x) (some_is _ y e) (record { higher = omega arith; same = refl })
+fill_same (join j z) f x y e n = subst (Fills (join j z) f x) (some_is _ y e) (record { higher = rw (not_target j z x) (more_at f false _ _ (omega (arith, joined_deep j z x))); same = rw (not_target j z x) refl })
+fill_same (either p q) f x y e n = subst (Fills (either p q) f x) (some_is _ y e) (record { higher = omega arith; same = refl })
+fill_same _ f x y e n = none_some y e
+
+fill_more : (g : Frame) (f : Stack) (x y : E) (c : Spot) (s : State) (i : Bool) → filled g x ≡ Some y → settle i f y c ≡ Some s → More (height_at (is_target y) f (deep t.expr y)) (close (is_target y) f) c s
+    → More (height_at (is_target x) (g ∷ f) (deep t.expr x)) (close (is_target x) (g ∷ f)) c s
+fill_more g f x y c s i e r m = let w = fill_same g f x y e (λ h n. stuck f i y c s h n r) in less_more _ _ _ _ c s w.higher (λ o. (let k = ap (most o) w.same in omega arith)) m
 
 abbrev settled : Bool → Frame → Stack → E → Spot → Option E → Option State
 settled i f k x c o = elim o [ Some y ↦ settle i k y c | None ↦ closes f x k c ]
@@ -358,20 +365,20 @@ by_first : (d : Bool) (a b : Type 0) → By d a b → d ≡ true → a
 by_first true a b h e = h
 by_first false a b h e = absurd cc
 
-body_close_more : (q : Body) (ss : List S) (f : Stack) (a : ℕ) (s : State) → Takes (body q ss ∷ f) → body_closed q ss f ≡ Some s → More (height_behind (body q ss ∷ f) 0) (close_statement (body q ss ∷ f)) (close_brace, a) s
-body_close_more a_program ss f a s h e = none_some s e
-body_close_more a_block ss f a s h e = the_more _ _ _ _ s e (record { higher = more_behind f _ _ (omega arith); wider = λ o. omega arith })
-body_close_more (a_function k ps) ss f a s h e = the_more _ _ _ _ s e (less_more _ _ _ _ _ _ (cond_more k.declared _ _ _ _ (more_behind f _ _ (omega arith)) (more_at f false _ _ (omega arith))) (λ o. omega arith)
+body_close_more : (kind : Kind) (q : Body) (ss : List S) (f : Stack) (a : ℕ) (s : State) → Takes kind (body q ss ∷ f) → body_closed q ss f ≡ Some s → More (height_behind (body q ss ∷ f) 0) (close_statement (body q ss ∷ f)) (close_brace, a) s
+body_close_more kind a_program ss f a s h e = none_some s e
+body_close_more kind a_block ss f a s h e = the_more _ _ _ _ s e (record { higher = more_behind f _ _ (omega arith); wider = λ o. omega arith })
+body_close_more kind (a_function k ps) ss f a s h e = the_more _ _ _ _ s e (less_more _ _ _ _ _ _ (cond_more k.declared _ _ _ _ (more_behind f _ _ (omega arith)) (more_at f false _ _ (omega arith))) (λ o. omega arith)
     (made_more k.declared (func_of k ps ss) f a (λ d. (by_first k.declared _ _ h d).0)))
-body_close_more (a_clause x cs m) ss f a s h e = the_more _ _ _ _ s e (record { higher = more_behind f _ _ (omega (arith, cases_deep cs m ss)); wider = λ o. omega arith })
-body_close_more a_try ss f a s h e = the_more _ _ _ _ s e (record { higher = more_behind f _ _ (omega arith); wider = λ o. omega arith })
-body_close_more (a_catch rs n) ss f a s h e = the_more _ _ _ _ s e (record { higher = more_behind f _ _ (omega arith); wider = λ o. omega arith })
-body_close_more (a_finally rs k) ss f a s h e = the_more _ _ _ _ s e (record { higher = more_behind f _ _ (omega arith); wider = λ o. omega arith })
+body_close_more kind (a_clause x cs m) ss f a s h e = the_more _ _ _ _ s e (record { higher = more_behind f _ _ (omega (arith, cases_deep cs m ss)); wider = λ o. omega arith })
+body_close_more kind a_try ss f a s h e = the_more _ _ _ _ s e (record { higher = more_behind f _ _ (omega arith); wider = λ o. omega arith })
+body_close_more kind (a_catch rs n) ss f a s h e = the_more _ _ _ _ s e (record { higher = more_behind f _ _ (omega arith); wider = λ o. omega arith })
+body_close_more kind (a_finally rs k) ss f a s h e = the_more _ _ _ _ s e (record { higher = more_behind f _ _ (omega arith); wider = λ o. omega arith })
 
-list_close_more : (f : Stack) (a : ℕ) (s : State) → Takes f → list_closed f ≡ Some s → More (height_start f) (close_start f) (close_brace, a) s
-list_close_more (body q ss ∷ f) a s h e = body_close_more q ss f a s h e
-list_close_more [] a s h e = none_some s e
-list_close_more _ a s h e = none_some s e
+list_close_more : (kind : Kind) (f : Stack) (a : ℕ) (s : State) → Takes kind f → list_closed f ≡ Some s → More (height_start f) (close_start f) (close_brace, a) s
+list_close_more kind (body q ss ∷ f) a s h e = body_close_more kind q ss f a s h e
+list_close_more kind [] a s h e = none_some s e
+list_close_more kind _ a s h e = none_some s e
 
 next_more : (f : Stack) (c : Spot) (s : State) → next_clause f c ≡ Some s → More (height_start f) (close_start f) c s
 next_more (body (a_clause x cs m) ss ∷ f) c s e = less_more _ _ _ _ c s (more_behind f _ _ (omega (arith, cases_deep cs m ss))) (λ o. omega arith) (clause_more x (cs ++ (m, ss) ∷ []) f c s e)
@@ -385,53 +392,53 @@ started_more f c s m = less_more _ _ _ _ c s (start_low f) (start_wide f) m
 brackets_more : (k : List Spot) (o : ℕ) → most o k ≤ most o (spot open_paren ∷ letter ∷ spot close_paren ∷ spot semicolon ∷ k)
 brackets_more k o = omega (arith, most_back k o)
 
-sign_more : (f : Stack) (a : ℕ) (b : Begin) (s : State) → Takes f → (b ≡ a_next_clause → ⊥) → begin_by f (begin_sign b, a) (Some b) ≡ Some s → More (height_start f) (close_start f) (begin_sign b, a) s
-sign_more f a a_block_begins s h n e = the_more _ _ _ _ s e (started_more f _ _ (record { higher = more_behind f _ _ (omega arith); wider = λ o. omega (arith, most_back (close_statement f) o) }))
-sign_more f a a_list_ends s h n e = list_close_more f a s h e
-sign_more f a an_empty s h n e = the_more _ _ _ _ s e (started_more f _ _ (record { higher = omega arith; wider = λ o. omega arith }))
-sign_more f a (a_break true) s h n e = the_more _ _ _ _ s e (started_more f _ _ (record { higher = omega arith; wider = λ o. omega arith }))
-sign_more f a (a_break false) s h n e = the_more _ _ _ _ s e (started_more f _ _ (record { higher = omega arith; wider = λ o. omega arith }))
-sign_more f a a_next_clause s h n e = absurd (n refl)
-sign_more f a a_do s h n e = the_more _ _ _ _ s e (started_more f _ _ (record { higher = more_behind f _ _ (omega arith); wider = λ o. omega (arith, most_back (spot semicolon ∷ close_statement f) o, most_low (close_statement f) o) }))
-sign_more f a a_for s h n e = the_more _ _ _ _ s e (started_more f _ _ (record { higher = more_behind f _ _ (omega arith); wider = λ o. omega (arith, most_back (spot semicolon ∷ close_statement f) o, most_low (close_statement f) o) }))
-sign_more f a a_declaration s h n e = more_when _ _ _ (declares f) (func true a f) s e (λ g. started_more f _ _ (record { higher = more_behind f _ _ (omega arith); wider = λ o. omega (arith, most_back (close_statement f) o, most_back (spot open_brace ∷ spot close_brace ∷ close_statement f) o) }))
-sign_more f a an_if s h n e = the_more _ _ _ _ s e (started_more f _ _ (record { higher = more_behind f _ _ (omega arith); wider = λ o. omega (arith, brackets_more (close_statement f) o) }))
-sign_more f a a_return s h n e = the_more _ _ _ _ s e (started_more f _ _ (record { higher = omega arith; wider = λ o. omega arith }))
-sign_more f a a_switch s h n e = the_more _ _ _ _ s e (started_more f _ _ (record { higher = more_behind f _ _ (omega arith); wider = λ o. omega (arith, most_back (close_statement f) o, most_back (spot open_brace ∷ spot close_brace ∷ close_statement f) o) }))
-sign_more f a a_throw s h n e = the_more _ _ _ _ s e (started_more f _ _ (record { higher = more_behind f _ _ (omega arith); wider = λ o. omega arith }))
-sign_more f a a_try_begins s h n e = the_more _ _ _ _ s e (started_more f _ _ (record { higher = more_behind f _ _ (omega arith); wider = λ o. omega (arith, most_back (close_statement f) o, most_back (spot finally_word ∷ spot open_brace ∷ spot close_brace ∷ close_statement f) o) }))
-sign_more f a a_var s h n e = the_more _ _ _ _ s e (started_more f _ _ (record { higher = omega arith; wider = λ o. omega arith }))
-sign_more f a a_while s h n e = the_more _ _ _ _ s e (started_more f _ _ (record { higher = more_behind f _ _ (omega arith); wider = λ o. omega (arith, brackets_more (close_statement f) o) }))
-sign_more f a a_with s h n e = the_more _ _ _ _ s e (started_more f _ _ (record { higher = more_behind f _ _ (omega arith); wider = λ o. omega (arith, brackets_more (close_statement f) o) }))
+sign_more : (kind : Kind) (f : Stack) (a : ℕ) (b : Begin) (s : State) → Takes kind f → (b ≡ a_next_clause → ⊥) → begin_by f (begin_sign b, a) (Some b) ≡ Some s → More (height_start f) (close_start f) (begin_sign b, a) s
+sign_more kind f a a_block_begins s h n e = the_more _ _ _ _ s e (started_more f _ _ (record { higher = more_behind f _ _ (omega arith); wider = λ o. omega (arith, most_back (close_statement f) o) }))
+sign_more kind f a a_list_ends s h n e = list_close_more kind f a s h e
+sign_more kind f a an_empty s h n e = the_more _ _ _ _ s e (started_more f _ _ (record { higher = omega arith; wider = λ o. omega arith }))
+sign_more kind f a (a_break true) s h n e = the_more _ _ _ _ s e (started_more f _ _ (record { higher = omega arith; wider = λ o. omega arith }))
+sign_more kind f a (a_break false) s h n e = the_more _ _ _ _ s e (started_more f _ _ (record { higher = omega arith; wider = λ o. omega arith }))
+sign_more kind f a a_next_clause s h n e = absurd (n refl)
+sign_more kind f a a_do s h n e = the_more _ _ _ _ s e (started_more f _ _ (record { higher = more_behind f _ _ (omega arith); wider = λ o. omega (arith, most_back (spot semicolon ∷ close_statement f) o, most_low (close_statement f) o) }))
+sign_more kind f a a_for s h n e = the_more _ _ _ _ s e (started_more f _ _ (record { higher = more_behind f _ _ (omega arith); wider = λ o. omega (arith, most_back (spot semicolon ∷ close_statement f) o, most_low (close_statement f) o) }))
+sign_more kind f a a_declaration s h n e = more_when _ _ _ (declares f) (func true a f) s e (λ g. started_more f _ _ (record { higher = more_behind f _ _ (omega arith); wider = λ o. omega (arith, most_back (close_statement f) o, most_back (spot open_brace ∷ spot close_brace ∷ close_statement f) o) }))
+sign_more kind f a an_if s h n e = the_more _ _ _ _ s e (started_more f _ _ (record { higher = more_behind f _ _ (omega arith); wider = λ o. omega (arith, brackets_more (close_statement f) o) }))
+sign_more kind f a a_return s h n e = the_more _ _ _ _ s e (started_more f _ _ (record { higher = omega arith; wider = λ o. omega arith }))
+sign_more kind f a a_switch s h n e = the_more _ _ _ _ s e (started_more f _ _ (record { higher = more_behind f _ _ (omega arith); wider = λ o. omega (arith, most_back (close_statement f) o, most_back (spot open_brace ∷ spot close_brace ∷ close_statement f) o) }))
+sign_more kind f a a_throw s h n e = the_more _ _ _ _ s e (started_more f _ _ (record { higher = more_behind f _ _ (omega arith); wider = λ o. omega arith }))
+sign_more kind f a a_try_begins s h n e = the_more _ _ _ _ s e (started_more f _ _ (record { higher = more_behind f _ _ (omega arith); wider = λ o. omega (arith, most_back (close_statement f) o, most_back (spot finally_word ∷ spot open_brace ∷ spot close_brace ∷ close_statement f) o) }))
+sign_more kind f a a_var s h n e = the_more _ _ _ _ s e (started_more f _ _ (record { higher = omega arith; wider = λ o. omega arith }))
+sign_more kind f a a_while s h n e = the_more _ _ _ _ s e (started_more f _ _ (record { higher = more_behind f _ _ (omega arith); wider = λ o. omega (arith, brackets_more (close_statement f) o) }))
+sign_more kind f a a_with s h n e = the_more _ _ _ _ s e (started_more f _ _ (record { higher = more_behind f _ _ (omega arith); wider = λ o. omega (arith, brackets_more (close_statement f) o) }))
 
-found_begin_more : (f : Stack) (c : Spot) (q : Option Begin) (s : State) → look_up begins c.0 ≡ q → Takes f → begin_by f c q ≡ Some s → More (height_start f) (close_start f) c s
-found_begin_more f c None s g h e = started_more f c s (less_more _ _ _ _ c s (more_behind f 1 2 (omega arith)) (λ o. omega (arith, most_low (close_statement f) o)) (operand_more (statement ∷ f) c s e))
-found_begin_more f c (Some b) s g h e = elim (clause_or b) [
+found_begin_more : (kind : Kind) (f : Stack) (c : Spot) (q : Option Begin) (s : State) → look_up begins c.0 ≡ q → Takes kind f → begin_by f c q ≡ Some s → More (height_start f) (close_start f) c s
+found_begin_more kind f c None s g h e = started_more f c s (less_more _ _ _ _ c s (more_behind f 1 2 (omega arith)) (λ o. omega (arith, most_low (close_statement f) o)) (operand_more (statement ∷ f) c s e))
+found_begin_more kind f c (Some b) s g h e = elim (clause_or b) [
   | inl k ↦ next_more f c s (subst (λ b. begin_by f c (Some b) ≡ Some s) k e)
-  | inr k ↦ (let i = sign_is c.0 b g k in subst (λ (z : Token). begin_by f (z, c.1) (Some b) ≡ Some s → More (height_start f) (close_start f) (z, c.1) s) (sym i) (λ e. sign_more f c.1 b s h k e) e)
+  | inr k ↦ (let i = sign_is c.0 b g k in subst (λ (z : Token). begin_by f (z, c.1) (Some b) ≡ Some s → More (height_start f) (close_start f) (z, c.1) s) (sym i) (λ e. sign_more kind f c.1 b s h k e) e)
 ]
 
-begin_more : (f : Stack) (c : Spot) (s : State) → Takes f → begin f c ≡ Some s → More (height_start f) (close_start f) c s
-begin_more f (name us, a) s h e = the_more _ _ _ _ s e (started_more f _ _ (record { higher = more_behind f _ _ (omega arith); wider = λ o. omega (arith, most_low (close_statement f) o) }))
-begin_more f (word n, a) s h e = found_begin_more f (word n, a) (look_up begins (word n)) s refl h e
-begin_more f (punct n, a) s h e = found_begin_more f (punct n, a) (look_up begins (punct n)) s refl h e
-begin_more f (num n, a) s h e = found_begin_more f (num n, a) (look_up begins (num n)) s refl h e
-begin_more f (text us, a) s h e = found_begin_more f (text us, a) (look_up begins (text us)) s refl h e
+begin_more : (kind : Kind) (f : Stack) (c : Spot) (s : State) → Takes kind f → begin f c ≡ Some s → More (height_start f) (close_start f) c s
+begin_more kind f (name us, a) s h e = the_more _ _ _ _ s e (started_more f _ _ (record { higher = more_behind f _ _ (omega arith); wider = λ o. omega (arith, most_low (close_statement f) o) }))
+begin_more kind f (word n, a) s h e = found_begin_more kind f (word n, a) (look_up begins (word n)) s refl h e
+begin_more kind f (punct n, a) s h e = found_begin_more kind f (punct n, a) (look_up begins (punct n)) s refl h e
+begin_more kind f (num n, a) s h e = found_begin_more kind f (num n, a) (look_up begins (num n)) s refl h e
+begin_more kind f (text us, a) s h e = found_begin_more kind f (text us, a) (look_up begins (text us)) s refl h e
 
-resume_more : (f : Stack) (x : S) (c : Spot) (s : State) → Takes f → resume f x c ≡ Some s → More (height_behind f (deep t.stmt x)) (close_statement f) c s
+resume_more : (kind : Kind) (f : Stack) (x : S) (c : Spot) (s : State) → Takes kind f → resume f x c ≡ Some s → More (height_behind f (deep t.stmt x)) (close_statement f) c s
 unfolding resume
-resume_more [] x c s h e = none_some s e
-resume_more (then_of y ∷ f) x c s h e = more_or _ _ else_word c (start (else_of y x ∷ f)) _ s e (record { higher = more_behind f _ _ (omega arith); wider = λ o. omega (arith, most_low (close_statement f) o) })
-    (λ e. less_more _ _ _ _ c s (more_behind f _ _ (omega arith)) (λ o. omega arith) (resume_more f (tree.branch y x tree.no_stmt) c s h e))
-resume_more (else_of y r ∷ f) x c s h e = less_more _ _ _ _ c s (more_behind f _ _ (omega arith)) (λ o. omega arith) (resume_more f (tree.branch y r (tree.some_stmt x)) c s h e)
-resume_more (while_body y ∷ f) x c s h e = less_more _ _ _ _ c s (more_behind f _ _ (omega arith)) (λ o. omega arith) (resume_more f (tree.while_loop y x) c s h e)
-resume_more (do_body ∷ f) x c s h e = more_token _ _ while_word c (await (open_paren ∷ []) (want (do_test x ∷ f))) s e (record { higher = more_behind f _ _ (omega arith); wider = λ o. omega arith })
-resume_more (for_body r m n ∷ f) x c s h e = less_more _ _ _ _ c s (more_behind f _ _ (omega arith)) (λ o. omega arith) (resume_more f (tree.for_loop r m n x) c s h e)
-resume_more (in_body r y ∷ f) x c s h e = less_more _ _ _ _ c s (more_behind f _ _ (omega arith)) (λ o. omega arith) (resume_more f (tree.for_in r y x) c s h e)
-resume_more (with_body y a ∷ f) x c s h e = less_more _ _ _ _ c s (more_behind f _ _ (omega arith)) (λ o. omega arith) (resume_more f (tree.with_object y x a) c s h e)
-resume_more (label_of n ∷ f) x c s h e = less_more _ _ _ _ c s (more_behind f _ _ (omega arith)) (λ o. omega arith) (resume_more f (tree.label n x) c s h e)
-resume_more (body b ss ∷ f) x c s h e = less_more _ _ _ _ c s (list_more b ss x f) (λ o. omega (arith, ap (most o) (list_close_same b ss (ss ++ x ∷ []) f))) (begin_more (body b (ss ++ x ∷ []) ∷ f) c s (body_more b f ss (ss ++ x ∷ []) h) e)
-resume_more _ x c s h e = none_some s e
+resume_more kind [] x c s h e = none_some s e
+resume_more kind (then_of y ∷ f) x c s h e = more_or _ _ else_word c (start (else_of y x ∷ f)) _ s e (record { higher = more_behind f _ _ (omega arith); wider = λ o. omega (arith, most_low (close_statement f) o) })
+    (λ e. less_more _ _ _ _ c s (more_behind f _ _ (omega arith)) (λ o. omega arith) (resume_more kind f (tree.branch y x tree.no_stmt) c s h e))
+resume_more kind (else_of y r ∷ f) x c s h e = less_more _ _ _ _ c s (more_behind f _ _ (omega arith)) (λ o. omega arith) (resume_more kind f (tree.branch y r (tree.some_stmt x)) c s h e)
+resume_more kind (while_body y ∷ f) x c s h e = less_more _ _ _ _ c s (more_behind f _ _ (omega arith)) (λ o. omega arith) (resume_more kind f (tree.while_loop y x) c s h e)
+resume_more kind (do_body ∷ f) x c s h e = more_token _ _ while_word c (await (open_paren ∷ []) (want (do_test x ∷ f))) s e (record { higher = more_behind f _ _ (omega arith); wider = λ o. omega arith })
+resume_more kind (for_body r m n ∷ f) x c s h e = less_more _ _ _ _ c s (more_behind f _ _ (omega arith)) (λ o. omega arith) (resume_more kind f (tree.for_loop r m n x) c s h e)
+resume_more kind (in_body r y ∷ f) x c s h e = less_more _ _ _ _ c s (more_behind f _ _ (omega arith)) (λ o. omega arith) (resume_more kind f (tree.for_in r y x) c s h e)
+resume_more kind (with_body y a ∷ f) x c s h e = less_more _ _ _ _ c s (more_behind f _ _ (omega arith)) (λ o. omega arith) (resume_more kind f (tree.with_object y x a) c s h e)
+resume_more kind (label_of n ∷ f) x c s h e = less_more _ _ _ _ c s (more_behind f _ _ (omega arith)) (λ o. omega arith) (resume_more kind f (tree.label n x) c s h e)
+resume_more kind (body b ss ∷ f) x c s h e = less_more _ _ _ _ c s (list_more b ss x f) (λ o. omega (arith, ap (most o) (list_close_same b ss (ss ++ x ∷ []) f))) (begin_more kind (body b (ss ++ x ∷ []) ∷ f) c s (body_more kind b f ss (ss ++ x ∷ []) h) e)
+resume_more kind _ x c s h e = none_some s e
 
 item_more : (h : Bool) (its : List Item) (f : Stack) (c : Spot) (s : State) → item_step h its f c ≡ Some s → More (height (item h its f)) (tail (item h its f)) c s
 item_more h its f (name us, a) s e = the_more _ _ _ _ s e (record { higher = omega arith; wider = λ o. omega arith })
@@ -489,37 +496,37 @@ await_more [] r c s e = none_some s e
 await_more (d ∷ []) r c s e = more_token _ _ d c r s e (record { higher = omega arith; wider = λ o. omega arith })
 await_more (d ∷ g ∷ ds) r c s e = more_token _ _ d c (await (g ∷ ds) r) s e (record { higher = omega arith; wider = λ o. omega arith })
 
-pub step_least : (s : State) (c : Spot) (r : State) → Fits s → step s c ≡ Some r → More (height s) (tail s) c r
+pub step_least : (kind : Kind) (s : State) (c : Spot) (r : State) → Fits kind s → step s c ≡ Some r → More (height s) (tail s) c r
 unfolding step
-step_least (want f) c r h e = operand_more f c r e
-step_least (have x f) c r h e = have_more f x c r e
-step_least (past x f) c r h e = settle_more f (no_in_here f) x c r e
-step_least (listed q xs f) c r h e = listed_more q xs f c r e
-step_least (member x f) c r h e = member_more x f c r e
-step_least (key fs f) c r h e = key_more fs f c r e
-step_least (func d a f) c r h e = func_more d a f c r e
-step_least (params k f) c r h e = params_more k f c r e
-step_least (param k ps f) c r h e = param_more k ps f c r e
-step_least (param_end k ps f) c r h e = more_or _ _ comma c (param k ps f) _ r e (record { higher = omega arith; wider = λ o. omega arith }) (λ e. more_token _ _ close_paren c (bodied k ps f) r e (bodied_more k ps f c.1))
-step_least (start f) c r h e = begin_more f c r h e
-step_least (begun n f) c r h e = more_or _ _ colon c (start (label_of n ∷ f)) _ r e (record { higher = omega arith; wider = λ o. omega arith }) (λ e. have_more (statement ∷ f) (tree.name n) c r e)
-step_least (ended s f) c r h e = resume_more f s c r h e
-step_least (closing s f) c r h e = more_token _ _ semicolon c (ended s f) r e (record { higher = omega arith; wider = λ o. omega arith })
-step_least (item k its f) c r h e = item_more k its f c r e
-step_least (item_end k n its f) c r h e = item_end_more k n its f c r e
-step_least (for_open f) c r h e = more_or _ _ var_word c (item true [] f) _ r e (record { higher = omega arith; wider = λ o. omega arith })
+step_least kind (want f) c r h e = operand_more f c r e
+step_least kind (have x f) c r h e = have_more f x c r e
+step_least kind (past x f) c r h e = settle_more f (no_in_here f) x c r e
+step_least kind (listed q xs f) c r h e = listed_more q xs f c r e
+step_least kind (member x f) c r h e = member_more x f c r e
+step_least kind (key fs f) c r h e = key_more fs f c r e
+step_least kind (func d a f) c r h e = func_more d a f c r e
+step_least kind (params k f) c r h e = params_more k f c r e
+step_least kind (param k ps f) c r h e = param_more k ps f c r e
+step_least kind (param_end k ps f) c r h e = more_or _ _ comma c (param k ps f) _ r e (record { higher = omega arith; wider = λ o. omega arith }) (λ e. more_token _ _ close_paren c (bodied k ps f) r e (bodied_more k ps f c.1))
+step_least kind (start f) c r h e = begin_more kind f c r h e
+step_least kind (begun n f) c r h e = more_or _ _ colon c (start (label_of n ∷ f)) _ r e (record { higher = omega arith; wider = λ o. omega arith }) (λ e. have_more (statement ∷ f) (tree.name n) c r e)
+step_least kind (ended s f) c r h e = resume_more kind f s c r h e
+step_least kind (closing s f) c r h e = more_token _ _ semicolon c (ended s f) r e (record { higher = omega arith; wider = λ o. omega arith })
+step_least kind (item k its f) c r h e = item_more k its f c r e
+step_least kind (item_end k n its f) c r h e = item_end_more k n its f c r e
+step_least kind (for_open f) c r h e = more_or _ _ var_word c (item true [] f) _ r e (record { higher = omega arith; wider = λ o. omega arith })
     (λ e. more_or _ _ semicolon c (for_second tree.no_first f) _ r e (record { higher = omega arith; wider = λ o. omega arith }) (λ e. less_more _ _ _ _ c r (omega arith) (λ o. omega arith) (operand_more (for_first ∷ f) c r e)))
-step_least (for_second i f) c r h e = more_or _ _ semicolon c (for_third i tree.no_expr f) _ r e (record { higher = more_behind f _ _ (omega arith); wider = λ o. omega arith })
+step_least kind (for_second i f) c r h e = more_or _ _ semicolon c (for_third i tree.no_expr f) _ r e (record { higher = more_behind f _ _ (omega arith); wider = λ o. omega arith })
     (λ e. less_more _ _ _ _ c r (more_behind f _ _ (omega arith)) (λ o. omega arith) (operand_more (for_test i ∷ f) c r e))
-step_least (for_third i m f) c r h e = more_or _ _ close_paren c (start (for_body i m tree.no_expr ∷ f)) _ r e (record { higher = more_behind f _ _ (omega arith); wider = λ o. omega arith })
+step_least kind (for_third i m f) c r h e = more_or _ _ close_paren c (start (for_body i m tree.no_expr ∷ f)) _ r e (record { higher = more_behind f _ _ (omega arith); wider = λ o. omega arith })
     (λ e. less_more _ _ _ _ c r (more_behind f _ _ (omega arith)) (λ o. omega arith) (operand_more (for_step i m ∷ f) c r e))
-step_least (returned a f) c r h e = more_or _ _ semicolon c (ended (tree.return tree.no_expr a) f) _ r e (record { higher = more_behind f _ _ (omega arith); wider = λ o. omega arith })
+step_least kind (returned a f) c r h e = more_or _ _ semicolon c (ended (tree.return tree.no_expr a) f) _ r e (record { higher = more_behind f _ _ (omega arith); wider = λ o. omega arith })
     (λ e. less_more _ _ _ _ c r (more_behind f _ _ (omega arith)) (λ o. omega arith) (operand_more (giving a ∷ f) c r e))
-step_least (jumped b a f) c r h e = jumped_more b a f c r e
-step_least (clauses x f) c r h e = less_more _ _ _ _ c r (more_behind f _ _ (omega arith)) (λ o. omega arith) (clause_more x [] f c r e)
-step_least (tried ss f) c r h e = more_or _ _ catch_word c (await (open_paren ∷ []) (catch_name ss f)) _ r e (record { higher = omega arith; wider = λ o. omega (arith, most_back (spot open_brace ∷ spot close_brace ∷ close_statement f) o) })
+step_least kind (jumped b a f) c r h e = jumped_more b a f c r e
+step_least kind (clauses x f) c r h e = less_more _ _ _ _ c r (more_behind f _ _ (omega arith)) (λ o. omega arith) (clause_more x [] f c r e)
+step_least kind (tried ss f) c r h e = more_or _ _ catch_word c (await (open_paren ∷ []) (catch_name ss f)) _ r e (record { higher = omega arith; wider = λ o. omega (arith, most_back (spot open_brace ∷ spot close_brace ∷ close_statement f) o) })
     (λ e. more_token _ _ finally_word c (finally_begins ss tree.no_handler f) r e (record { higher = more_behind f _ _ (omega arith); wider = λ o. omega arith }))
-step_least (caught ss n hs f) c r h e = more_or _ _ finally_word c (finally_begins ss (tree.some_handler n (stmts_of hs)) f) _ r e (record { higher = more_behind f _ _ (omega arith); wider = λ o. omega (arith, most_back (close_statement f) o) })
-    (λ e. less_more _ _ _ _ c r (more_behind f _ _ (omega arith)) (λ o. omega arith) (resume_more f (caught_made ss n hs) c r h e))
-step_least (catch_name ss f) c r h e = catch_more ss f c r e
-step_least (await ds s) c r h e = await_more ds s c r e
+step_least kind (caught ss n hs f) c r h e = more_or _ _ finally_word c (finally_begins ss (tree.some_handler n (stmts_of hs)) f) _ r e (record { higher = more_behind f _ _ (omega arith); wider = λ o. omega (arith, most_back (close_statement f) o) })
+    (λ e. less_more _ _ _ _ c r (more_behind f _ _ (omega arith)) (λ o. omega arith) (resume_more kind f (caught_made ss n hs) c r h e))
+step_least kind (catch_name ss f) c r h e = catch_more ss f c r e
+step_least kind (await ds s) c r h e = await_more ds s c r e

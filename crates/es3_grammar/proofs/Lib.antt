@@ -11,11 +11,13 @@ pub mod SoundExpr
 pub mod SoundFunctions
 pub mod Sound
 pub mod Exact
+pub mod Texts
 pub mod Fits
 pub mod Viable
 pub mod Stops
 pub mod Heights
 pub mod Least
+pub mod Known
 pub mod Limits
 pub mod DeepExamples
 pub mod Phrases
@@ -25,3 +27,5 @@ pub mod OpenBrackets
 pub mod Turns
 pub mod Quickly
 pub mod BracketExamples
+pub mod Longest
+pub mod LongestExamples

@@ -15,7 +15,7 @@ use Rattle.es3_grammar.proofs.SoundExpr.{as_part}
 use Rattle.es3_grammar.proofs.Sound.{step_sound}
 use Rattle.es3_grammar.proofs.Stops.{no_phrase_all}
 
-phrase_is : (x y : E) → phrase x ≡ phrase y → x ≡ y
+pub phrase_is : (x y : E) → phrase x ≡ phrase y → x ≡ y
 phrase_is x y e = cc
 
 pub phrase_read : (x : E) (u : List Spot) → Spells t.expr free 0 x u → read_phrase u ≡ phrase x

@@ -9,6 +9,7 @@ use Rattle.es3_grammar.specs.Machine.{Answer, whole, part, stopped, all_of, endi
 use Rattle.es3_grammar.specs.Begins.{Begins, StopsAt}
 use Rattle.es3_grammar.proofs.OneTree.{spots_read}
 use Rattle.es3_grammar.proofs.Exact.{spots_spelled}
+use Rattle.es3_grammar.proofs.Texts.{programs}
 use Rattle.es3_grammar.proofs.Fits.{Fits, step_fits, Expects, filled_fits}
 use Rattle.es3_grammar.proofs.Viable.{viable}
 
@@ -20,7 +21,7 @@ pub record Halt (s : State) (u r : List Spot) : Type 0 where
   pub last : State
   pub parts : u ≡ front ++ token ∷ rest
   pub at : r ≡ token ∷ rest
-  pub fits : Fits last
+  pub fits : Fits programs last
   pub come : (z : List Spot) → run (front ++ z) s ≡ run z last
   pub refused : step last token ≡ None
 
@@ -61,26 +62,26 @@ pub goes_by : (c : Spot) (k : List Spot) (s n : State) → step s c ≡ Some n �
 unfolding run
 goes_by c k s n e = rw e refl
 
-pub halt : (u : List Spot) (s : State) (r : List Spot) → Fits s → run u s ≡ stopped r → Halt s u r
+pub halt : (u : List Spot) (s : State) (r : List Spot) → Fits programs s → run u s ≡ stopped r → Halt s u r
 unfolding run
 halt [] s r h e = absurd (never s r e)
 halt (c ∷ u) s r h e =
     elim (halts_here (run u) c u r (step s c) e) [
       | inl p ↦ record { front = []; token = c; rest = u; last = s; parts = refl; at = p.1; fits = h; come = λ z. refl; refused = p.0 }
-      | inr p ↦ (let q = halt u p.0 r (step_fits s c p.0 h p.1) p.2 in record { front = c ∷ q.front; token = q.token; rest = q.rest; last = q.last; parts = ap (λ (v : List Spot). c ∷ v) q.parts; at = q.at; fits = q.fits; come = λ z. goes_by c (q.front ++ z) s p.0 p.1 ∙ q.come z; refused = q.refused })
+      | inr p ↦ (let q = halt u p.0 r (step_fits programs s c p.0 h p.1) p.2 in record { front = c ∷ q.front; token = q.token; rest = q.rest; last = q.last; parts = ap (λ (v : List Spot). c ∷ v) q.parts; at = q.at; fits = q.fits; come = λ z. goes_by c (q.front ++ z) s p.0 p.1 ∙ q.come z; refused = q.refused })
     ]
 
 stopped_is : (c d : Spot) (k l : List Spot) → c ∷ k ≡ d ∷ l → (c ≡ d) × (k ≡ l)
 stopped_is c d k l e = (cc, cc)
 
 -- what a state that is reached goes on to
-pub begins_at : (u : List Spot) (s : State) → Fits s → ((z : List Spot) → run (u ++ z) beginning ≡ run z s) → Begins u
-begins_at u s h come = let y = viable s h in (y.made, tail s, spots_spelled y.made (u ++ tail s) (come (tail s) ∙ y.reads))
+pub begins_at : (u : List Spot) (s : State) → Fits programs s → ((z : List Spot) → run (u ++ z) beginning ≡ run z s) → Begins u
+begins_at u s h come = let y = viable programs s h in (y.made, tail s, spots_spelled y.made (u ++ tail s) (come (tail s) ∙ y.reads))
 
 pub stops_exactly : (u : List Spot) (c : Spot) (k : List Spot) → read u ≡ stopped (c ∷ k) → StopsAt u c k
 unfolding run
 stops_exactly u c k e =
-    let q = halt u beginning (c ∷ k) tt e in
+    let q = halt u beginning (c ∷ k) refl e in
     let i = stopped_is c q.token k q.rest q.at in
     record {
       front = q.front;
@@ -95,27 +96,27 @@ stops_exactly u c k e =
     refused_so s e z = rw e refl
 
 -- tokens that break off begin a program
-pub part_begins : (u : List Spot) (s : State) → Fits s → (r : Answer) → run u s ≡ r → r ≡ part → (n : State) × Fits n × ((z : List Spot) → run (u ++ z) s ≡ run z n)
+pub part_begins : (u : List Spot) (s : State) → Fits programs s → (r : Answer) → run u s ≡ r → r ≡ part → (n : State) × Fits programs n × ((z : List Spot) → run (u ++ z) s ≡ run z n)
 unfolding run
 part_begins [] s h r e p = (s, h, λ z. refl)
 part_begins (c ∷ u) s h r e p = go (λ n k q. part_begins u n k part q refl) (step s c) refl (e ∙ p)
   where
-    go : ((n : State) → Fits n → run u n ≡ part → (m : State) × Fits m × ((z : List Spot) → run (u ++ z) n ≡ run z m)) → (o : Option State) → step s c ≡ o → goes (run u) (c ∷ u) o ≡ part → (n : State) × Fits n × ((z : List Spot) → run ((c ∷ u) ++ z) s ≡ run z n)
+    go : ((n : State) → Fits programs n → run u n ≡ part → (m : State) × Fits programs m × ((z : List Spot) → run (u ++ z) n ≡ run z m)) → (o : Option State) → step s c ≡ o → goes (run u) (c ∷ u) o ≡ part → (n : State) × Fits programs n × ((z : List Spot) → run ((c ∷ u) ++ z) s ≡ run z n)
     go rec None i e = absurd cc
-    go rec (Some n) i e = let m = rec n (step_fits s c n h i) e in (m.0, m.1, λ z. goes_by c (u ++ z) s n i ∙ m.2 z)
+    go rec (Some n) i e = let m = rec n (step_fits programs s c n h i) e in (m.0, m.1, λ z. goes_by c (u ++ z) s n i ∙ m.2 z)
 
 pub breaks_off : (u : List Spot) → read u ≡ part → Begins u
-breaks_off u e = let m = part_begins u beginning tt part e refl in begins_at u m.0 m.1 m.2
+breaks_off u e = let m = part_begins u beginning refl part e refl in begins_at u m.0 m.1 m.2
 
 -- a program's tokens are never an expression alone
-no_phrase : (f : Stack) (x y : E) → Expects f → finished f x ≡ phrase y → ⊥
+no_phrase : (f : Stack) (x y : E) → Expects programs f → finished f x ≡ phrase y → ⊥
 unfolding finished
-no_phrase [] x y h e = h
+no_phrase [] x y h e = cc
 no_phrase (g ∷ f) x y h e = go (λ z k i. no_phrase f z y k i) (filled g x) refl e
   where
-    go : ((z : E) → Expects f → finished f z ≡ phrase y → ⊥) → (o : Option E) → filled g x ≡ o → elim o [ Some z ↦ finished f z | None ↦ part ] ≡ phrase y → ⊥
+    go : ((z : E) → Expects programs f → finished f z ≡ phrase y → ⊥) → (o : Option E) → filled g x ≡ o → elim o [ Some z ↦ finished f z | None ↦ part ] ≡ phrase y → ⊥
     go rec None q e = cc
-    go rec (Some z) q e = rec z (filled_fits g f x z q h) e
+    go rec (Some z) q e = rec z (filled_fits programs g f x z q h) e
 
 pub no_phrase_all : (f : Stack) (x : S) (y : E) → all_of f x ≡ phrase y → ⊥
 unfolding all_of
@@ -129,7 +130,7 @@ no_phrase_all (label_of n ∷ f) x y e = no_phrase_all f _ y e
 no_phrase_all (body a_program ss ∷ []) x y e = cc
 no_phrase_all _ x y e = cc
 
-no_phrase_ends : (s : State) (y : E) → Fits s → ending s ≡ phrase y → ⊥
+no_phrase_ends : (s : State) (y : E) → Fits programs s → ending s ≡ phrase y → ⊥
 no_phrase_ends (have x f) y h e = no_phrase f x y h e
 no_phrase_ends (past x f) y h e = no_phrase f x y h.0 e
 no_phrase_ends (ended x f) y h e = no_phrase_all f x y e
@@ -137,14 +138,14 @@ no_phrase_ends (caught ss n hs f) y h e = no_phrase_all f _ y e
 no_phrase_ends (start (body a_program ss ∷ [])) y h e = cc
 no_phrase_ends _ y h e = cc
 
-no_phrase_run : (u : List Spot) (s : State) (y : E) → Fits s → run u s ≡ phrase y → ⊥
+no_phrase_run : (u : List Spot) (s : State) (y : E) → Fits programs s → run u s ≡ phrase y → ⊥
 unfolding run
 no_phrase_run [] s y h e = no_phrase_ends s y h e
 no_phrase_run (c ∷ u) s y h e = go (λ n k i. no_phrase_run u n y k i) (step s c) refl e
   where
-    go : ((n : State) → Fits n → run u n ≡ phrase y → ⊥) → (o : Option State) → step s c ≡ o → goes (run u) (c ∷ u) o ≡ phrase y → ⊥
+    go : ((n : State) → Fits programs n → run u n ≡ phrase y → ⊥) → (o : Option State) → step s c ≡ o → goes (run u) (c ∷ u) o ≡ phrase y → ⊥
     go rec None q e = cc
-    go rec (Some n) q e = rec n (step_fits s c n h q) e
+    go rec (Some n) q e = rec n (step_fits programs s c n h q) e
 
 pub no_program_is_a_phrase : (u : List Spot) (y : E) → read u ≡ phrase y → ⊥
-no_program_is_a_phrase u y e = no_phrase_run u beginning y tt e
+no_program_is_a_phrase u y e = no_phrase_run u beginning y refl e

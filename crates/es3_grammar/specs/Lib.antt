@@ -10,3 +10,4 @@ pub mod Ends
 pub mod Limit
 pub mod Within
 pub mod Sums
+pub mod Longest

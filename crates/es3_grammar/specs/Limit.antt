@@ -17,6 +17,11 @@ shuts r = same_token close_paren r || same_token close_bracket r || same_token c
 abbrev pub turn : ℕ → Spot → ℕ
 turn o c = if opens c.0 then o + 1 else if shuts c.0 then o - 1 else o
 
+-- how many are open behind the tokens
+abbrev pub counted : ℕ → List Spot → ℕ
+counted o [] = o
+counted o (c ∷ u) = counted (turn o c) u
+
 -- the most brackets that are open at once
 abbrev pub most : ℕ → List Spot → ℕ
 most o [] = o

@@ -20,7 +20,7 @@ use es3_lexer::{Punct, Token};
 use std::alloc::Global;
 
 /// What an operator that waits, or a `new`, makes of the part behind it; none where that part can't be assigned to and must.
-fn filled(alloc: Global, waiting: Waiting, part: Part) -> Result<Option<Part>, Memory>
+pub fn filled(alloc: Global, waiting: Waiting, part: Part) -> Result<Option<Part>, Memory>
     ensures { IfOk result (λ x. made_of x ≡ filled_spec (waiting_of waiting) (expr part.tree)) }
 {
     match waiting {

@@ -5,6 +5,7 @@
 #![tactic(auto)]
 
 mod ending;
+mod expr;
 mod read;
 mod step;
 #[cfg(test)]
@@ -12,4 +13,5 @@ mod test_tables;
 #[cfg(test)]
 mod tests;
 
+pub use expr::read_expr;
 pub use read::{ReadError, read_program};

@@ -2,12 +2,10 @@
 
 ghost use Rattle.std.specs.Prelude.{◌≡◌, ◌-◌, ◌<◌, ◌^◌, map};
 ghost use Rattle.es3_grammar.specs.Answers.{answer};
-ghost use Rattle.es3_grammar.specs.Limit.{turn as turn_spec};
 ghost use Rattle.es3_lexer.specs.Views.{placed_of};
 ghost use Rattle.es3_stmt.specs.Reads.{Reads};
-ghost use Rattle.es3_frames.specs.Views.{spot_of};
 
-use es3_frames::brackets::{opens, shuts};
+use es3_frames::brackets::turn;
 use crate::ending::ending;
 use es3_frames::frames::{Body, Frame, State};
 use es3_frames::limit::is_within;
@@ -15,7 +13,7 @@ use es3_frames::parts::Stmts;
 use es3_frames::stack::Stack;
 use crate::step::step;
 use caja_units::Memory;
-use es3_lexer::{Kind, Token, Tokens};
+use es3_lexer::Tokens;
 use es3_tree::Program;
 use std::alloc::Global;
 use thiserror::Error;
@@ -42,25 +40,6 @@ impl From<Memory> for ReadError {
 
     fn from(_error: Memory) -> ReadError {
         ReadError::Memory
-    }
-}
-
-/// How many brackets are open behind the token, of so many before it.
-fn turn(token: &Token, brackets: u64) -> u64
-    requires { brackets < 2 ^ 64 - 1 }
-    ensures { result ≡ turn_spec brackets (spot_of token.now) }
-{
-    match token.kind {
-        Kind::Punct(punct) => {
-            if opens(punct) {
-                brackets + 1
-            } else if shuts(punct) {
-                brackets.saturating_sub(1)
-            } else {
-                brackets
-            }
-        }
-        Kind::Name(_) | Kind::Word(_) | Kind::Num(_) | Kind::Text(_) => brackets,
     }
 }
 

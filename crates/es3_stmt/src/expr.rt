@@ -1,0 +1,131 @@
+//! The longest expression at the front of tokens.
+
+ghost use Rattle.std.specs.Prelude.{◌≡◌, ◌<◌, ◌≤◌, ◌-◌, ◌^◌, IfOk, length, map, drop};
+ghost use Rattle.es3_tree.specs.PlacedView.{expr};
+ghost use Rattle.es3_grammar.specs.Longest.{is_phrase as is_phrase_spec};
+ghost use Rattle.es3_grammar.specs.Machine.{ending, filled as filled_spec, finished as finished_spec, read_phrase};
+ghost use Rattle.es3_frames.specs.Made.{made_of};
+ghost use Rattle.es3_frames.specs.Views.{frame_of, spot_of, stack_of, state_of};
+ghost use Rattle.es3_stmt.specs.ReadsExpr.{Counts, Phrased, ReadsExpr};
+
+use crate::read::ReadError;
+use crate::step::step;
+use caja_units::Memory;
+use es3_expr::is_target;
+use es3_frames::brackets::turn;
+use es3_frames::frames::{Frame, State};
+use es3_frames::limit::is_within;
+use es3_frames::parts::Part;
+use es3_frames::stack::Stack;
+use es3_lexer::{Token, Tokens};
+use es3_steps::settle::filled;
+use es3_tree::Expr;
+use std::alloc::Global;
+
+/// Whether an expression is whole where the tokens end.
+fn is_phrase(state: &State, stack: &Stack) -> bool
+    ensures { result ≡ is_phrase_spec (ending (state_of state.now (stack_of stack.now))) }
+{
+    match state {
+        State::Have(part) | State::Past(part) => stack.ends_with(is_target(&part.tree)),
+        _ => false,
+    }
+}
+
+/// What the frame makes of the part within it, where it waits for nothing else.
+fn close(alloc: Global, frame: Frame, part: Part) -> Result<Option<Part>, Memory>
+    ensures { IfOk result (λ r. made_of r ≡ filled_spec (frame_of frame) (expr part.tree)) }
+{
+    match frame {
+        Frame::Waiting(waiting) => filled(alloc, waiting, part),
+        Frame::Bracket(_) | Frame::Root(_) | Frame::Outer(_) | Frame::List(_, _) => Ok(None),
+    }
+}
+
+/// The part is the last one.
+#[tactic(auto, unfolding(es3_grammar::specs::Machine::finished))]
+fn finished(alloc: Global, mut stack: Stack, part: Part) -> Result<Option<Expr>, Memory>
+    ensures { IfOk result (λ e. Phrased e (finished_spec (stack_of stack) (expr part.tree))) }
+{
+    let mut part = part;
+    while let Some(frame) = stack.pop() {
+        match close(alloc, frame, part)? {
+            Some(made) => part = made,
+            None => return Ok(None),
+        }
+    }
+    Ok(Some(part.tree))
+}
+
+/// The expression, if it is whole where the tokens end.
+fn phrase(alloc: Global, stack: Stack, state: State) -> Result<Option<Expr>, Memory>
+    ensures { IfOk result (λ e. Phrased e (ending (state_of state (stack_of stack)))) }
+{
+    match state {
+        State::Have(part) | State::Past(part) => finished(alloc, stack, part),
+        _ => Ok(None),
+    }
+}
+
+/// The expression that all of the tokens are, if they are one.
+fn whole(alloc: Global, tokens: &[Token]) -> Result<Option<Expr>, Memory>
+    ensures { IfOk result (λ e. Phrased e (read_phrase (map spot_of tokens.now))) }
+{
+    let mut stack = Stack::new(alloc);
+    let mut state = State::Want;
+    for token in tokens {
+        match step(alloc, &mut stack, state, token)? {
+            Some(next) => state = next,
+            None => return Ok(None),
+        }
+    }
+    phrase(alloc, stack, state)
+}
+
+/// How many tokens the longest expression at the front of these has.
+fn longest(alloc: Global, tokens: &[Token], end: u32, nest: u32) -> Result<usize, ReadError>
+    requires { nest < 2 ^ 32 - 1 }
+    ensures { Counts nest end (map spot_of tokens.now) result }
+{
+    if nest == 0 {
+        return Err(ReadError::TooDeep(0));
+    }
+    let mut stack = Stack::new(alloc);
+    let mut state = State::Want;
+    let mut brackets = 0;
+    let mut best = None;
+    for (before, token) in tokens.iter().enumerate() {
+        brackets = turn(token, brackets);
+        match step(alloc, &mut stack, state, token)? {
+            Some(next) => state = next,
+            None => return best.ok_or(ReadError::Syntax(token.start)),
+        }
+        if !is_within(&state, &stack, brackets, nest) {
+            return best.ok_or(ReadError::TooDeep(0));
+        }
+        if is_phrase(&state, &stack) {
+            best = Some(before + 1);
+        }
+    }
+    best.ok_or(ReadError::Syntax(end))
+}
+
+/// The longest expression (ES3 11.14) that the tokens from the one at `at` on begin with, counted from 0, and the place of the token
+/// behind it, where no path into its tree passes more than `nest` expressions, statements and functions and at none of its tokens more
+/// than twice as many brackets are open. What stands behind it is of no matter: an error comes only where no front of those tokens is
+/// such an expression, and it is then that of the first token from which none goes on.
+pub fn read_expr(
+    alloc: Global,
+    tokens: &Tokens,
+    at: usize,
+    nest: u32,
+) -> Result<(Expr, usize), ReadError>
+    requires { at ≤ length tokens.now.list.items }
+    requires { nest < 2 ^ 32 - 1 }
+    ensures { ReadsExpr nest tokens.now.end at (map spot_of (drop at tokens.now.list.items)) result }
+{
+    let rest = &tokens.list[at..];
+    let count = longest(alloc, rest, tokens.end, nest)?;
+    let tree = whole(alloc, &rest[..count])?.unwrap();
+    Ok((tree, at + count))
+}
