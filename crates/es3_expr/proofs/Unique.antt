@@ -4,7 +4,7 @@ use Rattle.es3_grammar.specs.Levels.{E, Join, an_op, an_and, an_or, an_assign, a
 use Rattle.es3_grammar.proofs.Follow.{level_fits}
 use Rattle.es3_expr.specs.Grouped.{Grouped, alone, between}
 
-abbrev Item : Type 0
+abbrev pub Item : Type 0
 Item = E × Join
 
 -- what is made is at no lower a level than its parts ask
