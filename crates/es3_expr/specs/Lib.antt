@@ -1,3 +1,4 @@
 pub mod Grouped
+pub mod Taking
 pub mod Views
 pub mod Waiting

@@ -1,8 +1,11 @@
 //! Operators of ECMAScript 3 expressions with their levels (ES3 11), and what a token is where an operand is wanted or was read.
 #![tactic(auto)]
 
+mod grouping;
 mod levels;
 mod signs;
+mod waiting;
 
+pub use grouping::Infix;
 pub use levels::{Join, is_target};
 pub use signs::{Behind, Opening, as_behind, as_opening};

@@ -1,0 +1,66 @@
+-- How deep the tree of a list nests, by the nestings of what waits behind it.
+use Rattle.std.proofs.Common.{◌≡◌, ℕ, ◌+◌, ◌≤◌, ◌<◌, max, Bool, true, false, cond, nat_le, le-leb, List, [], ◌∷◌, ◌++◌, map, refl, sym, ap, ◌∙◌, arith}
+use Rattle.es3_tree.specs.Tree as t
+use Rattle.es3_grammar.specs.Levels.{E, Join, own, joined}
+use Rattle.es3_grammar.specs.Plain.{deep}
+use Rattle.es3_grammar.proofs.Heights.{joined_deep}
+use Rattle.es3_expr.specs.Grouped.{Grouped}
+use Rattle.es3_expr.specs.Waiting.{closed, outside, waiting_behind, waiting, closed_depth, outside_depths, depths, whole_depth}
+use Rattle.es3_expr.proofs.Unique.{Item, Above, one_tree}
+use Rattle.es3_expr.proofs.Exists.{Lefts, Waits, nothing, more, waits_all, some_tree}
+
+cond_deep : (b : Bool) (x y : E) → deep t.expr (cond b x y) ≡ cond b (deep t.expr x) (deep t.expr y)
+cond_deep true x y = refl
+cond_deep false x y = refl
+
+cond_depths : (b : Bool) (v w : Lefts) → depths (cond b v w) ≡ cond b (depths v) (depths w)
+cond_depths true v w = refl
+cond_depths false v w = refl
+
+pub closed_deep : (n : ℕ) (w : Lefts) (x : E) → deep t.expr (closed n w x) ≡ closed_depth n (depths w) (deep t.expr x)
+closed_deep n [] x = refl
+closed_deep n ((j, a) ∷ w) x =
+    cond_deep (nat_le n (own j)) _ _ ∙ ap (λ d. cond (nat_le n (own j)) d (deep t.expr x)) (closed_deep n w (joined j a x) ∙ ap (closed_depth n (depths w)) (joined_deep j a x))
+
+pub outside_deep : (n : ℕ) (w : Lefts) → depths (outside n w) ≡ outside_depths n (depths w)
+outside_deep n [] = refl
+outside_deep n ((j, a) ∷ w) = cond_depths (nat_le n (own j)) _ _ ∙ ap (λ d. cond (nat_le n (own j)) d (depths ((j, a) ∷ w))) (outside_deep n w)
+
+pub waiting_push : (w : Lefts) (ps : List Item) (x : E) (j : Join) → waiting w (ps ++ (x, j) ∷ []) ≡ waiting_behind (waiting w ps) x j
+waiting_push w [] x j = refl
+waiting_push w ((y, k) ∷ ps) x j = waiting_push (waiting_behind w y k) ps x j
+
+-- a part of a whole nests no deeper
+pub whole_more : (w : List (ℕ × ℕ)) (d : ℕ) → d ≤ whole_depth w d
+whole_more [] d = omega arith
+whole_more (p ∷ w) d = omega (arith, whole_more w (1 + max p.1 d))
+
+pub closed_more : (n : ℕ) (w : List (ℕ × ℕ)) (d : ℕ) → d ≤ closed_depth n w d
+closed_more n [] d = omega arith
+closed_more n (p ∷ w) d = more (nat_le n p.0) (closed_more n w (1 + max p.1 d))
+  where
+    more : (b : Bool) → 1 + max p.1 d ≤ closed_depth n w (1 + max p.1 d) → d ≤ cond b (closed_depth n w (1 + max p.1 d)) d
+    more true h = omega arith
+    more false h = omega arith
+
+-- to close some of what waits, and then the rest, is to close all
+pub closed_whole : (n : ℕ) (w : List (ℕ × ℕ)) (d : ℕ) → whole_depth (outside_depths n w) (closed_depth n w d) ≡ whole_depth w d
+closed_whole n [] d = refl
+closed_whole n (p ∷ w) d = more (nat_le n p.0) (closed_whole n w (1 + max p.1 d))
+  where
+    more : (b : Bool) → whole_depth (outside_depths n w) (closed_depth n w (1 + max p.1 d)) ≡ whole_depth w (1 + max p.1 d)
+        → whole_depth (cond b (outside_depths n w) (p ∷ w)) (cond b (closed_depth n w (1 + max p.1 d)) d) ≡ whole_depth w (1 + max p.1 d)
+    more true h = h
+    more false h = refl
+
+-- from the level 3 on nothing is left waiting
+all_closed : (ps : List Item) (w : Lefts) (d : ℕ) → Waits ps w → closed_depth 3 (depths w) d ≡ whole_depth (depths w) d
+all_closed ps [] d nothing = refl
+all_closed ps ((j, a) ∷ w) d (more qs _ _ _ _ _ h k _ _) = rw (le-leb 3 (own j) h) (all_closed qs w (1 + max (deep t.expr a) d) k)
+
+-- how deep each tree of a list nests
+pub nested : (ps : List Item) (x y : E) → Above 3 ps → Grouped 3 ps x y → deep t.expr y ≡ whole_depth (depths (waiting [] ps)) (deep t.expr x)
+nested ps x y h g =
+    ap (deep t.expr) (one_tree 3 3 ps ps x x y _ g (some_tree ps x h) refl refl)
+    ∙ closed_deep 3 (waiting [] ps) x
+    ∙ all_closed ps (waiting [] ps) (deep t.expr x) (waits_all [] ps [] h nothing)
