@@ -1,3 +1,4 @@
+pub mod Closing
 pub mod Exists
 pub mod Nested
 pub mod Unique
