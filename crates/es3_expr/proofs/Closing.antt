@@ -8,6 +8,7 @@ use Rattle.es3_grammar.specs.Levels.{E, Join, own, joined}
 use Rattle.es3_expr.specs.declared.grouping.Infix.{Infix}
 use Rattle.es3_expr.specs.Taking.{Taken}
 use Rattle.es3_expr.specs.Views.{infix_join, depth_of, left_of}
+use Rattle.es3_expr.proofs.Nested.{whole_more}
 use Rattle.es3_expr.specs.Waiting.{closed, outside, closed_depth, outside_depths, whole_depth}
 
 data Ended {A : Type 0} : List A → Type 0 where
@@ -43,8 +44,11 @@ depth_step n ws vs p d h = rw (h.0, inmost depth_of vs p, le-leb n (own (infix_j
 pub outside_step : (n : ℕ) (ws vs : Depths) (p : ℕ × Infix) → Taken n ws vs (Some p) → outside_depths n (reverse (map depth_of ws)) ≡ outside_depths n (reverse (map depth_of vs))
 outside_step n ws vs p h = rw (h.0, inmost depth_of vs p, le-leb n (own (infix_join p.1)) h.1) refl
 
-pub whole_step : (n : ℕ) (ws vs : Depths) (p : ℕ × Infix) (d : ℕ) → Taken n ws vs (Some p) → whole_depth (reverse (map depth_of ws)) d ≡ whole_depth (reverse (map depth_of vs)) (1 + max p.0 d)
-whole_step n ws vs p d h = rw (h.0, inmost depth_of vs p) refl
+-- a part of a whole nests no deeper than that
+pub fits_behind : (ws vs : Depths) (p : ℕ × Infix) (d k : ℕ) → ws ≡ vs ++ p ∷ [] → whole_depth (reverse (map depth_of ws)) d ≡ k → 1 + max p.0 d ≤ k
+fits_behind ws vs p d k e h =
+    let w : whole_depth (reverse (map depth_of ws)) d ≡ whole_depth (reverse (map depth_of vs)) (1 + max p.0 d) = rw (e, inmost depth_of vs p) refl in
+    omega (arith, whole_more (reverse (map depth_of vs)) (1 + max p.0 d))
 
 depth_ends : (n : ℕ) (ws : Depths) (d : ℕ) → Low n ws → Ended ws → closed_depth n (reverse (map depth_of ws)) d ≡ d
 depth_ends n ws d h empty = refl

@@ -39,6 +39,18 @@ pub fn close_depths(waiting: &mut Vec<(u32, Infix)>, level: u32, depth: u32) -> 
     depth
 }
 
+/// How deep a whole nests where a single node, which has the depth 1, stands behind all that waits.
+pub fn whole_depth(waiting: &[(u32, Infix)]) -> u32
+    requires { all.whole_depth (reverse (map depth_of waiting.now)) 1 < 2 ^ 32 }
+    ensures { result ≡ all.whole_depth (reverse (map depth_of waiting.now)) 1 }
+{
+    let mut depth = 1;
+    for (left, _) in waiting.iter().rev() {
+        depth = 1 + (*left).max(depth);
+    }
+    depth
+}
+
 /// The part within the operators of this level or above, which are taken off.
 pub fn close(
     alloc: Global,
