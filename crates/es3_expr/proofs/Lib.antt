@@ -1,5 +1,5 @@
 pub mod Closing
 pub mod Exists
-pub mod Measuring
 pub mod Nested
 pub mod Unique
+pub mod Unplaced

@@ -3,6 +3,7 @@
 
 mod grouping;
 mod levels;
+mod measuring;
 mod signs;
 mod waiting;
 
