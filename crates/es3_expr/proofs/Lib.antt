@@ -1,3 +1,4 @@
+pub mod Adding
 pub mod Closing
 pub mod Exists
 pub mod Nested

@@ -5,7 +5,7 @@ use Rattle.es3_grammar.specs.Levels.{E, Join, own, joined}
 use Rattle.es3_grammar.specs.Plain.{deep}
 use Rattle.es3_grammar.proofs.Heights.{joined_deep}
 use Rattle.es3_expr.specs.Grouped.{Grouped}
-use Rattle.es3_expr.specs.Waiting.{closed, outside, waiting_behind, waiting, closed_depth, outside_depths, depths, whole_depth}
+use Rattle.es3_expr.specs.Waiting.{closed, outside, waiting_behind, waiting, closed_depth, outside_depths, behind_depths, depths, whole_depth}
 use Rattle.es3_expr.proofs.Unique.{Item, Above, one_tree}
 use Rattle.es3_expr.proofs.Exists.{Lefts, Waits, nothing, more, waits_all, some_tree}
 
@@ -26,6 +26,9 @@ pub outside_deep : (n : ℕ) (w : Lefts) → depths (outside n w) ≡ outside_de
 outside_deep n [] = refl
 outside_deep n ((j, a) ∷ w) = cond_depths (nat_le n (own j)) _ _ ∙ ap (λ d. cond (nat_le n (own j)) d (depths ((j, a) ∷ w))) (outside_deep n w)
 
+pub behind_deep : (w : Lefts) (x : E) (j : Join) → depths (waiting_behind w x j) ≡ behind_depths (depths w) (deep t.expr x) (own j)
+behind_deep w x j = cc (closed_deep (own j) w x, outside_deep (own j) w)
+
 pub waiting_push : (w : Lefts) (ps : List Item) (x : E) (j : Join) → waiting w (ps ++ (x, j) ∷ []) ≡ waiting_behind (waiting w ps) x j
 waiting_push w [] x j = refl
 waiting_push w ((y, k) ∷ ps) x j = waiting_push (waiting_behind w y k) ps x j
@@ -34,6 +37,10 @@ waiting_push w ((y, k) ∷ ps) x j = waiting_push (waiting_behind w y k) ps x j
 pub whole_more : (w : List (ℕ × ℕ)) (d : ℕ) → d ≤ whole_depth w d
 whole_more [] d = omega arith
 whole_more (p ∷ w) d = omega (arith, whole_more w (1 + max p.1 d))
+
+pub whole_deeper : (w : List (ℕ × ℕ)) (d e : ℕ) → d ≤ e → whole_depth w d ≤ whole_depth w e
+whole_deeper [] d e le = le
+whole_deeper (p ∷ w) d e le = whole_deeper w (1 + max p.1 d) (1 + max p.1 e) (omega arith)
 
 pub closed_more : (n : ℕ) (w : List (ℕ × ℕ)) (d : ℕ) → d ≤ closed_depth n w d
 closed_more n [] d = omega arith
@@ -52,6 +59,16 @@ closed_whole n (p ∷ w) d = more (nat_le n p.0) (closed_whole n w (1 + max p.1 
         → whole_depth (cond b (outside_depths n w) (p ∷ w)) (cond b (closed_depth n w (1 + max p.1 d)) d) ≡ whole_depth w (1 + max p.1 d)
     more true h = h
     more false h = refl
+
+-- where a single node behind one operand and operator more is no deeper than this, the operand within what waits is none, nor is it alone
+pub operand_within : (w : List (ℕ × ℕ)) (d n k : ℕ) → whole_depth (behind_depths w d n) 1 < k → whole_depth w d < k
+operand_within w d n k h =
+    let v : List (ℕ × ℕ) = outside_depths n w in
+    let c : ℕ = closed_depth n w d in
+    omega (arith, closed_whole n w d, whole_deeper v c (1 + max c 1) (omega arith))
+
+pub operand_below : (w : List (ℕ × ℕ)) (d n k : ℕ) → whole_depth (behind_depths w d n) 1 < k → d + 1 < k
+operand_below w d n k h = omega (arith, closed_more n w d, whole_more (outside_depths n w) (1 + max (closed_depth n w d) 1))
 
 -- from the level 3 on nothing is left waiting
 all_closed : (ps : List Item) (w : Lefts) (d : ℕ) → Waits ps w → closed_depth 3 (depths w) d ≡ whole_depth (depths w) d

@@ -30,6 +30,9 @@ abbrev pub outside_depths : ℕ → List (ℕ × ℕ) → List (ℕ × ℕ)
 outside_depths n [] = []
 outside_depths n (p ∷ w) = if nat_le n p.0 then outside_depths n w else p ∷ w
 
+abbrev pub behind_depths : List (ℕ × ℕ) → ℕ → ℕ → List (ℕ × ℕ)
+behind_depths w d n = (n, closed_depth n w d) ∷ outside_depths n w
+
 abbrev pub depths : List (Join × E) → List (ℕ × ℕ)
 depths w = map (λ p. (own p.0, deep t.expr p.1)) w
 

@@ -7,6 +7,6 @@ mod measuring;
 mod signs;
 mod waiting;
 
-pub use grouping::Infix;
+pub use grouping::{Infix, Ops};
 pub use levels::{Join, is_target};
 pub use signs::{Behind, Opening, as_behind, as_opening};

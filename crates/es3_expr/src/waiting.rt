@@ -3,7 +3,8 @@
 ghost use Rattle.std.specs.Prelude.{◌≡◌, ◌+◌, ◌^◌, ◌<◌, ◌≤◌, IfOk, OnOk, map, max, reverse, vec_capacity, vec_len};
 ghost use Rattle.es3_tree.specs.PlacedView.{expr};
 ghost use Rattle.es3_expr.specs.Taking.{Taken};
-ghost use Rattle.es3_expr.specs.Views.{depth_of, left_of};
+ghost use Rattle.es3_grammar.specs.Levels.{own};
+ghost use Rattle.es3_expr.specs.Views.{depth_of, infix_join, left_of};
 ghost use Rattle.es3_expr.specs.Waiting as all;
 
 use crate::grouping::Infix;
@@ -23,7 +24,7 @@ fn taken<T>(waiting: &mut Vec<(T, Infix)>, level: u32) -> Option<(T, Infix)>
 }
 
 /// How deep a part nests within the operators of this level or above, which are taken off; the part itself nests so deep.
-pub fn close_depths(waiting: &mut Vec<(u32, Infix)>, level: u32, depth: u32) -> u32
+fn close_depths(waiting: &mut Vec<(u32, Infix)>, level: u32, depth: u32) -> u32
     requires { all.whole_depth (reverse (map depth_of waiting.old.items)) depth < 2 ^ 32 }
     ensures depth { result ≡ all.closed_depth level (reverse (map depth_of waiting.old.items)) depth }
     ensures rest {
@@ -40,7 +41,7 @@ pub fn close_depths(waiting: &mut Vec<(u32, Infix)>, level: u32, depth: u32) -> 
 }
 
 /// How deep a whole nests where a single node, which has the depth 1, stands behind all that waits.
-pub fn whole_depth(waiting: &[(u32, Infix)]) -> u32
+fn whole_depth(waiting: &[(u32, Infix)]) -> u32
     requires { all.whole_depth (reverse (map depth_of waiting.now)) 1 < 2 ^ 32 }
     ensures { result ≡ all.whole_depth (reverse (map depth_of waiting.now)) 1 }
 {
@@ -49,6 +50,23 @@ pub fn whole_depth(waiting: &[(u32, Infix)]) -> u32
         depth = 1 + (*left).max(depth);
     }
     depth
+}
+
+/// One operator more, behind an operand that nests so deep. What comes back is how deep the whole nests with a single node behind it.
+pub fn wait_behind(waiting: &mut Vec<(u32, Infix)>, depth: u32, op: Infix) -> u32
+    requires room { vec_len waiting.old < vec_capacity waiting.old }
+    requires fits {
+        all.whole_depth (all.behind_depths (reverse (map depth_of waiting.old.items)) depth (own (infix_join op))) 1 < 2 ^ 32 }
+    ensures waits {
+        reverse (map depth_of waiting.new.items)
+        ≡ all.behind_depths (reverse (map depth_of waiting.old.items)) depth (own (infix_join op)) }
+    ensures depth {
+        result
+        ≡ all.whole_depth (all.behind_depths (reverse (map depth_of waiting.old.items)) depth (own (infix_join op))) 1 }
+{
+    let left = close_depths(waiting, op.level(), depth);
+    waiting.push((left, op)).unwrap();
+    whole_depth(waiting)
 }
 
 /// The part within the operators of this level or above, which are taken off.
