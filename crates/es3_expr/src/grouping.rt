@@ -1,10 +1,10 @@
 //! Operands with operators between them, grouped by the operators' levels (ES3 11.5 to 11.11).
 
-ghost use Rattle.std.specs.Prelude.{◌≡◌, [], map, reverse};
+ghost use Rattle.std.specs.Prelude.{◌≡◌, [], IfOk, map, reverse};
 ghost use Rattle.std.specs.Coded.{Coded-set, coded_ℕ, coded_list, coded×};
 ghost use Rattle.es3_grammar.specs.Levels as levels;
-ghost use Rattle.es3_expr.specs.Views.{depth_of, infix_join, item_of, join_of};
-ghost use Rattle.es3_expr.specs.Waiting.{depths, waiting as all_waiting};
+ghost use Rattle.es3_expr.specs.Views.{depth_of, infix_join, item_of, join_of, left_of};
+ghost use Rattle.es3_expr.specs.Waiting as all;
 
 use crate::levels::Join;
 use crate::measuring::measured;
@@ -48,7 +48,7 @@ pub struct Ops {
     last: Option<Expr>,
     waiting: Vec<(u32, Infix)>,
     ghost kept: {
-        reverse (map depth_of waiting.items) ≡ depths (all_waiting [] (map item_of front.items))
+        reverse (map depth_of waiting.items) ≡ all.depths (all.waiting [] (map item_of front.items))
     },
 }
 
@@ -108,15 +108,19 @@ impl Ops {
         let Ops {
             alloc, front, last, ..
         } = self;
-        grouped(alloc, front, last.unwrap())
+        let mut waiting = all_waiting(alloc, front)?;
+        close(alloc, &mut waiting, Infix::Or.level(), last.unwrap())
     }
 }
 
-fn grouped(alloc: Global, front: Vec<(Expr, Infix)>, last: Expr) -> Result<Expr, Memory> {
+/// What waits behind operands that each have an operator behind them.
+fn all_waiting(alloc: Global, front: Vec<(Expr, Infix)>) -> Result<Vec<(Expr, Infix)>, Memory>
+    ensures { IfOk result (λ w. reverse (map left_of w.items) ≡ all.waiting [] (map item_of front.items)) }
+{
     let mut waiting = Vec::new(alloc);
     for (part, op) in front {
         let left = close(alloc, &mut waiting, op.level(), part)?;
         waiting.push((left, op))?;
     }
-    close(alloc, &mut waiting, 0, last)
+    Ok(waiting)
 }
