@@ -11,12 +11,12 @@ use Rattle.es3_grammar.proofs.Follow.{level_fits}
 use Rattle.es3_expr.specs.declared.grouping.Infix.{Infix}
 use Rattle.es3_expr.specs.declared.grouping.Infix.TheVariants as i
 use Rattle.es3_expr.specs.declared.grouping.Ops.{Ops}
-use Rattle.es3_expr.specs.Grouped.{Grouped}
+use Rattle.es3_expr.specs.Grouped.{Front, Grouped}
 use Rattle.es3_expr.specs.Listed.{front_of, followed, front_with}
 use Rattle.es3_expr.specs.Views.{infix_join, item_of, depth_of}
 use Rattle.es3_expr.specs.Waiting.{closed, waiting, waiting_behind, behind_depths, depths, whole_depth}
 use Rattle.es3_expr.proofs.Unique.{Item, Above, above_both}
-use Rattle.es3_expr.proofs.Exists.{some_tree}
+use Rattle.es3_expr.proofs.Exists.{some_closed}
 use Rattle.es3_expr.proofs.Nested.{behind_deep, waiting_push, nested}
 
 infix_above : (op : Infix) → 3 ≤ own (infix_join op)
@@ -44,9 +44,9 @@ pub record Adds (o : Ops) (z : Expr) (ws : List (ℕ × Infix)) (d : ℕ) : Type
 with_depths : (o : Ops) (z : Expr) (ws : List (ℕ × Infix)) (d : ℕ) (op : Infix) → Adds o z ws d
     → depths (waiting [] (front_with o op)) ≡ behind_depths (reverse (map depth_of ws)) d (own (infix_join op))
 with_depths o z ws d op a =
-    let f : List Item = map item_of o.front.items in
+    let f : Front = map item_of o.front.items in
     let e : depths (waiting [] (front_with o op)) ≡ behind_depths (depths (waiting [] f)) (deep t.expr (expr z)) (own (infix_join op)) =
-        ap (λ (f : List Item). depths (waiting [] f)) (front_is o z op a.last_is)
+        ap (λ (f : Front). depths (waiting [] f)) (front_is o z op a.last_is)
         ∙ ap depths (waiting_push [] f (expr z) (infix_join op))
         ∙ behind_deep (waiting [] f) (expr z) (infix_join op) in
     let w : reverse (map depth_of ws) ≡ depths (waiting [] f) = ap (λ (v : List (ℕ × Infix)). reverse (map depth_of v)) a.waiting_is ∙ o.kept in
@@ -59,15 +59,15 @@ adds_nest o z ws d op x y a one g =
     ∙ ap (whole_depth (depths (waiting [] (front_with o op)))) (sym one)
     ∙ sym (nested (front_with o op) x y (with_above o z op a.last_is) g)
 
-abbrev pub AllFit : List Item → Type 0
+abbrev pub AllFit : Front → Type 0
 AllFit f = (x y : E) → deep t.expr x ≡ 1 → Grouped 3 f x y → deep t.expr y < 2 ^ 32
 
 pub adds_fit : (o : Ops) (z : Expr) (ws : List (ℕ × Infix)) (d : ℕ) (op : Infix) → Adds o z ws d → AllFit (front_with o op)
     → whole_depth (behind_depths (reverse (map depth_of ws)) d (own (infix_join op))) 1 < 2 ^ 32
 adds_fit o z ws d op a fits =
-    let f : List Item = front_with o op in
+    let f : Front = front_with o op in
     let y : E = closed 3 (waiting [] f) tree.null in
-    let g : Grouped 3 f tree.null y = some_tree f tree.null (with_above o z op a.last_is) in
+    let g : Grouped 3 f tree.null y = some_closed f tree.null (with_above o z op a.last_is) in
     omega (arith, adds_nest o z ws d op tree.null y a refl g, fits tree.null y refl g)
 
 pub adds_keep : (o : Ops) (z : Expr) (ws vs : List (ℕ × Infix)) (d : ℕ) (op : Infix) (ps : List (Expr × Infix)) → Adds o z ws d
@@ -76,4 +76,4 @@ pub adds_keep : (o : Ops) (z : Expr) (ws vs : List (ℕ × Infix)) (d : ℕ) (op
     → reverse (map depth_of vs) ≡ depths (waiting [] (map item_of ps))
 adds_keep o z ws vs d op ps a f w =
     w ∙ sym (with_depths o z ws d op a)
-    ∙ ap (λ (f : List Item). depths (waiting [] f)) (front_is o z op a.last_is ∙ sym (ap (map item_of) f ∙ map_push item_of o.front.items (z, op)))
+    ∙ ap (λ (f : Front). depths (waiting [] f)) (front_is o z op a.last_is ∙ sym (ap (map item_of) f ∙ map_push item_of o.front.items (z, op)))

@@ -8,7 +8,7 @@ use Rattle.es3_expr.specs.Grouped.{Grouped}
 use Rattle.es3_expr.specs.Listed.{front_of, last_of}
 use Rattle.es3_expr.specs.Views.{item_of, left_of}
 use Rattle.es3_expr.specs.Waiting.{closed, waiting}
-use Rattle.es3_expr.proofs.Exists.{some_tree}
+use Rattle.es3_expr.proofs.Exists.{some_closed}
 use Rattle.es3_expr.proofs.Closing.{Parts}
 use Rattle.es3_expr.proofs.Adding.{items_above}
 
@@ -22,4 +22,4 @@ pub whole : (F : Type 0) (o : Ops) (z : Expr) (ws : Parts) (n : ℕ) (r : Result
 whole F o z ws n (Err f) l e i h = tt
 whole F o z ws n (Ok t) l e i h = λ x m.
     let k : x ≡ expr z = cc (m, ap (option_map expr) l) in
-    rw (h, i, e, k) (some_tree (front_of o) (expr z) (items_above o.front.items))
+    rw (h, i, e, k) (some_closed (front_of o) (expr z) (items_above o.front.items))

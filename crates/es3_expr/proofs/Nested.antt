@@ -1,13 +1,14 @@
 -- How deep the tree of a list nests, by the nestings of what waits behind it.
-use Rattle.std.proofs.Common.{◌≡◌, ℕ, ◌+◌, ◌≤◌, ◌<◌, max, Bool, true, false, cond, nat_le, le-leb, List, [], ◌∷◌, ◌++◌, map, refl, sym, ap, ◌∙◌, arith}
+use Rattle.std.proofs.Common.{◌≡◌, ℕ, ◌+◌, ◌≤◌, ◌<◌, max, Bool, true, false, cond, nat_le, le-leb, List, [], ◌∷◌, ◌++◌, map, sum_by, refl, sym, ap, ◌∙◌, arith}
+use Rattle.std.proofs.lemmas.List.Sums.{sum_by-append, sum_by-cons}
 use Rattle.es3_tree.specs.Tree as t
-use Rattle.es3_grammar.specs.Levels.{E, Join, own, joined}
+use Rattle.es3_grammar.specs.Levels.{E, Join, own, left, right, joined}
 use Rattle.es3_grammar.specs.Plain.{deep}
 use Rattle.es3_grammar.proofs.Heights.{joined_deep}
-use Rattle.es3_expr.specs.Grouped.{Grouped}
+use Rattle.es3_expr.specs.Grouped.{Front, Grouped, alone, between}
 use Rattle.es3_expr.specs.Waiting.{closed, outside, waiting_behind, waiting, closed_depth, outside_depths, behind_depths, depths, whole_depth}
 use Rattle.es3_expr.proofs.Unique.{Item, Above, one_tree}
-use Rattle.es3_expr.proofs.Exists.{Lefts, Waits, nothing, more, waits_all, some_tree}
+use Rattle.es3_expr.proofs.Exists.{Lefts, Waits, nothing, more, waits_all, some_closed}
 
 cond_deep : (b : Bool) (x y : E) → deep t.expr (cond b x y) ≡ cond b (deep t.expr x) (deep t.expr y)
 cond_deep true x y = refl
@@ -29,7 +30,7 @@ outside_deep n ((j, a) ∷ w) = cond_depths (nat_le n (own j)) _ _ ∙ ap (λ d.
 pub behind_deep : (w : Lefts) (x : E) (j : Join) → depths (waiting_behind w x j) ≡ behind_depths (depths w) (deep t.expr x) (own j)
 behind_deep w x j = cc (closed_deep (own j) w x, outside_deep (own j) w)
 
-pub waiting_push : (w : Lefts) (ps : List Item) (x : E) (j : Join) → waiting w (ps ++ (x, j) ∷ []) ≡ waiting_behind (waiting w ps) x j
+pub waiting_push : (w : Lefts) (ps : Front) (x : E) (j : Join) → waiting w (ps ++ (x, j) ∷ []) ≡ waiting_behind (waiting w ps) x j
 waiting_push w [] x j = refl
 waiting_push w ((y, k) ∷ ps) x j = waiting_push (waiting_behind w y k) ps x j
 
@@ -71,13 +72,19 @@ pub operand_below : (w : List (ℕ × ℕ)) (d n k : ℕ) → whole_depth (behin
 operand_below w d n k h = omega (arith, closed_more n w d, whole_more (outside_depths n w) (1 + max (closed_depth n w d) 1))
 
 -- from the level 3 on nothing is left waiting
-all_closed : (ps : List Item) (w : Lefts) (d : ℕ) → Waits ps w → closed_depth 3 (depths w) d ≡ whole_depth (depths w) d
+all_closed : (ps : Front) (w : Lefts) (d : ℕ) → Waits ps w → closed_depth 3 (depths w) d ≡ whole_depth (depths w) d
 all_closed ps [] d nothing = refl
 all_closed ps ((j, a) ∷ w) d (more qs _ _ _ _ _ h k _ _) = rw (le-leb 3 (own j) h) (all_closed qs w (1 + max (deep t.expr a) d) k)
 
 -- how deep each tree of a list nests
-pub nested : (ps : List Item) (x y : E) → Above 3 ps → Grouped 3 ps x y → deep t.expr y ≡ whole_depth (depths (waiting [] ps)) (deep t.expr x)
+pub nested : (ps : Front) (x y : E) → Above 3 ps → Grouped 3 ps x y → deep t.expr y ≡ whole_depth (depths (waiting [] ps)) (deep t.expr x)
 nested ps x y h g =
-    ap (deep t.expr) (one_tree 3 3 ps ps x x y _ g (some_tree ps x h) refl refl)
+    ap (deep t.expr) (one_tree 3 3 ps ps x x y _ g (some_closed ps x h) refl refl)
     ∙ closed_deep 3 (waiting [] ps) x
     ∙ all_closed ps (waiting [] ps) (deep t.expr x) (waits_all [] ps [] h nothing)
+
+-- a tree nests no deeper than all its parts together, with one more for each operator
+pub within_parts : (n : ℕ) (ps : Front) (x a : E) → Grouped n ps x a → deep t.expr a ≤ sum_by (λ (p : Item). deep t.expr p.0 + 1) ps + deep t.expr x
+within_parts n ps x a (alone _ _) = omega arith
+within_parts n ps x a (between _ fs bs u _ b c j _ f g) =
+    omega (arith, joined_deep j b c, within_parts (left j) fs u b f, within_parts (right j) bs x c g, sum_by-append (λ (p : Item). deep t.expr p.0 + 1) fs ((u, j) ∷ bs), sum_by-cons (λ (p : Item). deep t.expr p.0 + 1) (u, j) bs)

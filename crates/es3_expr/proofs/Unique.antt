@@ -2,7 +2,7 @@
 use Rattle.std.proofs.Common.{◌≡◌, ℕ, ◌+◌, ◌≤◌, ◌⊎◌, inl, inr, List, [], ◌∷◌, ◌++◌, refl, sym, ap, ◌∙◌, arith}
 use Rattle.es3_grammar.specs.Levels.{E, Join, an_op, an_and, an_or, an_assign, a_comma, own, left, right, joined}
 use Rattle.es3_grammar.proofs.Follow.{level_fits}
-use Rattle.es3_expr.specs.Grouped.{Grouped, alone, between}
+use Rattle.es3_expr.specs.Grouped.{Front, Grouped, alone, between}
 
 abbrev pub Item : Type 0
 Item = E × Join
@@ -16,23 +16,23 @@ levels_rise (an_assign op) = omega arith
 levels_rise a_comma = omega arith
 
 -- each operator belongs at this level
-abbrev pub Above : ℕ → List Item → Type 0
+abbrev pub Above : ℕ → Front → Type 0
 Above n [] = Unit {0}
 Above n (p ∷ ps) = (n ≤ own p.1) × Above n ps
 
-above_lower : (n m : ℕ) (ps : List Item) → n ≤ m → Above m ps → Above n ps
+above_lower : (n m : ℕ) (ps : Front) → n ≤ m → Above m ps → Above n ps
 above_lower n m [] le h = tt
 above_lower n m (p ∷ ps) le h = (omega (arith, h.0), above_lower n m ps le h.1)
 
-pub above_both : (n : ℕ) (ps qs : List Item) → Above n ps → Above n qs → Above n (ps ++ qs)
+pub above_both : (n : ℕ) (ps qs : Front) → Above n ps → Above n qs → Above n (ps ++ qs)
 above_both n [] qs h g = g
 above_both n (p ∷ ps) qs h g = (h.0, above_both n ps qs h.1 g)
 
-above_between : (n : ℕ) (ps qs : List Item) (p : Item) → Above n (ps ++ p ∷ qs) → n ≤ own p.1
+above_between : (n : ℕ) (ps qs : Front) (p : Item) → Above n (ps ++ p ∷ qs) → n ≤ own p.1
 above_between n [] qs p h = h.0
 above_between n (o ∷ ps) qs p h = above_between n ps qs p h.1
 
-pub grouped_above : (n : ℕ) (ps : List Item) (x t : E) → Grouped n ps x t → Above n ps
+pub grouped_above : (n : ℕ) (ps : Front) (x t : E) → Grouped n ps x t → Above n ps
 grouped_above n ps x t (alone _ _) = tt
 grouped_above n ps y t (between _ front back x _ a b j le f g) =
     let up = levels_rise j in
@@ -41,25 +41,25 @@ grouped_above n ps y t (between _ front back x _ a b j le f g) =
     (le, above_lower n (right j) back (omega arith) (grouped_above (right j) back y b g))
 
 -- two places where a list is parted: the first before the second, both at one, or the second before the first
-pub record Apart (fs : List Item) (p : Item) (bs gs : List Item) (q : Item) (cs : List Item) : Type 0 where
-  pub middle : List Item
+pub record Apart (fs : Front) (p : Item) (bs gs : Front) (q : Item) (cs : Front) : Type 0 where
+  pub middle : Front
   pub later : gs ≡ fs ++ p ∷ middle
   pub earlier : bs ≡ middle ++ q ∷ cs
 
-pub record Same (fs : List Item) (p : Item) (bs gs : List Item) (q : Item) (cs : List Item) : Type 0 where
+pub record Same (fs : Front) (p : Item) (bs gs : Front) (q : Item) (cs : Front) : Type 0 where
   pub fronts : fs ≡ gs
   pub items : p ≡ q
   pub backs : bs ≡ cs
 
-abbrev Parted : List Item → Item → List Item → List Item → Item → List Item → Type 0
+abbrev Parted : Front → Item → Front → Front → Item → Front → Type 0
 Parted fs p bs gs q cs = Apart fs p bs gs q cs ⊎ (Same fs p bs gs q cs ⊎ Apart gs q cs fs p bs)
 
-parted_behind : (o r : Item) (fs : List Item) (p : Item) (bs gs : List Item) (q : Item) (cs : List Item) → o ≡ r → Parted fs p bs gs q cs → Parted (o ∷ fs) p bs (r ∷ gs) q cs
+parted_behind : (o r : Item) (fs : Front) (p : Item) (bs gs : Front) (q : Item) (cs : Front) → o ≡ r → Parted fs p bs gs q cs → Parted (o ∷ fs) p bs (r ∷ gs) q cs
 parted_behind o r fs p bs gs q cs e (inl h) = inl (record { middle = h.middle; later = cc; earlier = h.earlier })
 parted_behind o r fs p bs gs q cs e (inr (inl h)) = inr (inl (record { fronts = cc; items = h.items; backs = h.backs }))
 parted_behind o r fs p bs gs q cs e (inr (inr h)) = inr (inr (record { middle = h.middle; later = cc; earlier = h.earlier }))
 
-parted : (fs : List Item) (p : Item) (bs gs : List Item) (q : Item) (cs : List Item) → fs ++ p ∷ bs ≡ gs ++ q ∷ cs → Parted fs p bs gs q cs
+parted : (fs : Front) (p : Item) (bs gs : Front) (q : Item) (cs : Front) → fs ++ p ∷ bs ≡ gs ++ q ∷ cs → Parted fs p bs gs q cs
 parted [] p bs [] q cs e = inr (inl (record { fronts = refl; items = cc; backs = cc }))
 parted [] p bs (r ∷ gs) q cs e = inl (record { middle = gs; later = cc; earlier = cc })
 parted (o ∷ fs) p bs [] q cs e = inr (inr (record { middle = fs; later = cc; earlier = cc }))
@@ -78,18 +78,18 @@ no_turn (an_assign o) a_comma h g = omega arith
 no_turn a_comma k h g = omega (arith, levels_rise k)
 
 -- the first operator is not the last to bind where the second is
-not_apart : (fs bs gs cs : List Item) (x y z w a b : E) (j k : Join)
+not_apart : (fs bs gs cs : Front) (x y z w a b : E) (j k : Join)
     → Apart fs (x, j) bs gs (z, k) cs → Grouped (left k) gs z a → Grouped (right j) bs y b → ⊥
 not_apart fs bs gs cs x y z w a b j k h f g =
     no_turn j k
     (above_between (left k) fs h.middle (x, j) (rw h.later at (grouped_above (left k) gs z a f)))
     (above_between (right j) h.middle cs (z, k) (rw h.earlier at (grouped_above (right j) bs y b g)))
 
-nothing_between : (fs : List Item) (p : Item) (bs : List Item) → [] ≡ fs ++ p ∷ bs → ⊥
+nothing_between : (fs : Front) (p : Item) (bs : Front) → [] ≡ fs ++ p ∷ bs → ⊥
 nothing_between [] p bs e = cc
 nothing_between (o ∷ fs) p bs e = cc
 
-same_tree : (fs bs gs cs : List Item) (x y z w a b c d : E) (j k : Join)
+same_tree : (fs bs gs cs : Front) (x y z w a b c d : E) (j k : Join)
     → Grouped (left j) fs x a → Grouped (right j) bs y b → Grouped (left k) gs z c → Grouped (right k) cs w d
     → (fs ≡ gs → x ≡ z → a ≡ c) → (bs ≡ cs → b ≡ d) → Parted fs (x, j) bs gs (z, k) cs → joined j a b ≡ joined k c d
 same_tree fs bs gs cs x y z w a b c d j k f g f' g' l r (inl h) = absurd (not_apart fs bs gs cs x y z w c b j k h f' g)
@@ -100,7 +100,7 @@ same_tree fs bs gs cs x y z w a b c d j k f g f' g' l r (inr (inl h)) =
     cc
 same_tree fs bs gs cs x y z w a b c d j k f g f' g' l r (inr (inr h)) = absurd (not_apart gs cs fs bs z w x y a d k j h f g')
 
-pub one_tree : (n m : ℕ) (ps qs : List Item) (x y a b : E) → Grouped n ps x a → Grouped m qs y b → ps ≡ qs → x ≡ y → a ≡ b
+pub one_tree : (n m : ℕ) (ps qs : Front) (x y a b : E) → Grouped n ps x a → Grouped m qs y b → ps ≡ qs → x ≡ y → a ≡ b
 one_tree n m ps qs x y a b (alone _ _) (alone _ _) e i = i
 one_tree n m ps qs x y a b (alone _ _) (between _ gs cs z _ c d k _ f' g') e i = absurd (nothing_between gs (z, k) cs e)
 one_tree n m ps qs x y a b (between _ fs bs u _ c d j _ f g) (alone _ _) e i = absurd (nothing_between fs (u, j) bs (sym e))

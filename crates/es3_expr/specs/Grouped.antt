@@ -2,8 +2,12 @@
 use Rattle.std.specs.Prelude.{ℕ, ◌≤◌, List, [], ◌∷◌, ◌++◌}
 use Rattle.es3_grammar.specs.Levels.{E, Join, own, left, right, joined}
 
--- The number is the level that the place asks. Each operand but the last stands with the operator behind it; then the last one, and the tree.
-pub data Grouped : ℕ → List (E × Join) → E → E → Type 0 where
+-- operands, each with the operator behind it
+abbrev pub Front : Type 0
+Front = List (E × Join)
+
+-- The number is the level that the place asks. Behind the operands with their operators stands the last one, and then the tree.
+pub data Grouped : ℕ → Front → E → E → Type 0 where
   alone : (n : ℕ) (x : E) → Grouped n [] x x
-  between : (n : ℕ) (front back : List (E × Join)) (x y a b : E) (j : Join) → n ≤ own j
+  between : (n : ℕ) (front back : Front) (x y a b : E) (j : Join) → n ≤ own j
       → Grouped (left j) front x a → Grouped (right j) back y b → Grouped n (front ++ (x, j) ∷ back) y (joined j a b)
