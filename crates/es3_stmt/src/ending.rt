@@ -8,10 +8,10 @@ ghost use Rattle.es3_grammar.specs.Within.{reading_of};
 ghost use Rattle.es3_stmt.specs.Endings.{ended, closed};
 ghost use Rattle.es3_frames.specs.Views.{frame_of, outer_of, stack_of, state_of};
 
+use caja_units::Memory;
 use es3_frames::frames::{Body, Frame, Outer, State};
 use es3_frames::parts::{Done, Stmts};
 use es3_frames::stack::Stack;
-use caja_units::Memory;
 use es3_tree::Program;
 use std::alloc::Global;
 

@@ -5,14 +5,14 @@ ghost use Rattle.es3_grammar.specs.Answers.{answer};
 ghost use Rattle.es3_lexer.specs.Views.{placed_of};
 ghost use Rattle.es3_stmt.specs.Reads.{Reads};
 
-use es3_frames::brackets::turn;
 use crate::ending::ending;
+use crate::step::step;
+use caja_units::Memory;
+use es3_frames::brackets::turn;
 use es3_frames::frames::{Body, Frame, State};
 use es3_frames::limit::is_within;
 use es3_frames::parts::Stmts;
 use es3_frames::stack::Stack;
-use crate::step::step;
-use caja_units::Memory;
 use es3_lexer::Tokens;
 use es3_tree::Program;
 use std::alloc::Global;

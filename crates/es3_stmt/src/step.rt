@@ -6,21 +6,21 @@ ghost use Rattle.es3_grammar.specs.Machine.{step as step_spec};
 ghost use Rattle.es3_lexer.specs.Tables.{punct_number};
 ghost use Rattle.es3_frames.specs.Views.{after_of, behind, next_of, spot_of, stack_of, state_of};
 
-use es3_steps::begin::{begin, begun, clause};
+use caja_units::Memory;
 use es3_frames::frames::{After, State};
+use es3_frames::parts::Clauses;
+use es3_frames::stack::Stack;
+use es3_frames::tokens::is_punct;
+use es3_lexer::{Punct, Token};
+use es3_steps::begin::{begin, begun, clause};
 use es3_steps::function::{func, param, param_end, params};
 use es3_steps::heads::{closing, for_open, for_second, for_third, jumped, returned};
 use es3_steps::lists::{key, listed, member};
 use es3_steps::operand::operand;
-use es3_frames::parts::Clauses;
 use es3_steps::resume::resume;
 use es3_steps::settle::{have, past};
-use es3_frames::stack::Stack;
-use es3_frames::tokens::is_punct;
 use es3_steps::tries::{catch_name, caught, tried};
 use es3_steps::variables::{item, item_end};
-use caja_units::Memory;
-use es3_lexer::{Punct, Token};
 use std::alloc::Global;
 
 fn reached(after: After) -> State

@@ -7,6 +7,7 @@ use std::test::Fail;
 
 /// How many bytes the sources may have, and how deep their programs may nest.
 const LONGEST: usize = 1 << 20;
+
 const DEEPEST: u32 = 128;
 
 /// What becomes of a source.
@@ -21,7 +22,13 @@ fn outcome(alloc: Global, source: &str) -> Result<String, Fail> {
 }
 
 /// A part of a source so many times, between two others.
-fn repeated(alloc: Global, front: &str, part: &str, times: u32, back: &str) -> Result<String, Memory> {
+fn repeated(
+    alloc: Global,
+    front: &str,
+    part: &str,
+    times: u32,
+    back: &str,
+) -> Result<String, Memory> {
     let mut source = String::new(alloc);
     source.push_str(front)?;
     for _ in 0..times {

@@ -1,4 +1,4 @@
-use Rattle.std.proofs.Common.{◌≡◌, [], List, sym, ap, ◌∙◌}
+use Rattle.std.proofs.Common.{[], List, sym, ap, ◌∙◌}
 use Rattle.es3_frames.specs.Ending.{ends_all}
 use Rattle.es3_frames.specs.Kept.{over}
 use Rattle.es3_frames.specs.declared.stack.Entry.{Entry}
