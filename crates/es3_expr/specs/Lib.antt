@@ -1,5 +1,1 @@
-pub mod Grouped
-pub mod Listed
-pub mod Taking
 pub mod Views
-pub mod Waiting

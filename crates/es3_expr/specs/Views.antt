@@ -1,12 +1,8 @@
 -- What the operators and openings of the program are in the grammar.
-use Rattle.std.specs.Prelude.{ℕ, Option, Some, None}
-use Rattle.es3_tree.specs.declared.Expr.{Expr}
-use Rattle.es3_tree.specs.PlacedView.{expr}
+use Rattle.std.specs.Prelude.{Option, Some, None}
 use Rattle.es3_grammar.specs.Levels as l
 use Rattle.es3_expr.specs.declared.levels.Join.{Join}
 use Rattle.es3_expr.specs.declared.levels.Join.TheVariants as j
-use Rattle.es3_expr.specs.declared.grouping.Infix.{Infix}
-use Rattle.es3_expr.specs.declared.grouping.Infix.TheVariants as i
 use Rattle.es3_expr.specs.declared.signs.Behind.{Behind}
 use Rattle.es3_expr.specs.declared.signs.Behind.TheVariants as b
 use Rattle.es3_expr.specs.declared.signs.Opening.{Opening}
@@ -43,20 +39,3 @@ maybe_behind (Some x) = Some (behind_of x)
 abbrev pub maybe_opening : Option Opening → Option l.Opening
 maybe_opening None = None
 maybe_opening (Some x) = Some (opening_of x)
-
--- ---- lists of operands and operators
-
-abbrev pub infix_join : Infix → l.Join
-infix_join (i.Op op) = l.an_op op
-infix_join i.And = l.an_and
-infix_join i.Or = l.an_or
-
--- an operand with the operator behind it; an operator with its left part; the level of one, and how deep its left part nests
-abbrev pub item_of : Expr × Infix → l.E × l.Join
-item_of (x, op) = (expr x, infix_join op)
-
-abbrev pub left_of : Expr × Infix → l.Join × l.E
-left_of (x, op) = (infix_join op, expr x)
-
-abbrev pub depth_of : ℕ × Infix → ℕ × ℕ
-depth_of (d, op) = (l.own (infix_join op), d)

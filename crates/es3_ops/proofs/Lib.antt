@@ -1,0 +1,7 @@
+pub mod Adding
+pub mod Closing
+pub mod Exists
+pub mod Finishing
+pub mod Nested
+pub mod Unique
+pub mod Unplaced

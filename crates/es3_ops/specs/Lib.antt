@@ -1,0 +1,6 @@
+pub mod Alone
+pub mod Grouped
+pub mod Listed
+pub mod Taking
+pub mod Views
+pub mod Waiting
