@@ -23,14 +23,14 @@ ghost use Rattle.es3_steps.specs.Begins.{begin_of, maybe_begin, ListPopped};
 ghost use Rattle.es3_frames.specs.Lists.{clause_of};
 ghost use Rattle.es3_frames.specs.Views.{body_of, frame_of, next_of, root_of, spot_of, stack_of, state_of};
 
-use es3_frames::frames::{After, Body, Frame, Outer, Root, State};
 use crate::function::func_made;
 use crate::operand::operand;
-use es3_frames::parts::{Clauses, Done, Items, Maybe, Part, Stmts};
 use crate::settle::have;
+use caja_units::Memory;
+use es3_frames::frames::{After, Body, Frame, Outer, Root, State};
+use es3_frames::parts::{Clauses, Done, Items, Maybe, Part, Stmts};
 use es3_frames::stack::Stack;
 use es3_frames::tokens::{is_punct, is_word, named};
-use caja_units::Memory;
 use es3_lexer::{Kind, Punct, Token, Word};
 use es3_tree::{Expr, Name};
 use std::alloc::Global;

@@ -10,14 +10,14 @@ ghost use Rattle.es3_grammar.specs.Spots.{is, close_paren};
 ghost use Rattle.es3_frames.specs.Lists.{clause_of};
 ghost use Rattle.es3_frames.specs.Views.{bracket_of, frame_of, next_of, root_of, spot_of, stack_of, state_of, outer_of};
 
-use es3_frames::frames::{After, Body, Bracket, Frame, Outer, Root, State, Waiting};
 use crate::lists::{after_field, after_item};
-use es3_frames::parts::{Clauses, Done, Front, Maybe, Part, Stmts, Target, above};
-use es3_frames::stack::Stack;
-use es3_frames::tokens::{is_punct, is_word};
 use crate::variables::after_variable;
 use caja_units::Memory;
 use es3_expr::is_target;
+use es3_frames::frames::{After, Body, Bracket, Frame, Outer, Root, State, Waiting};
+use es3_frames::parts::{Clauses, Done, Front, Maybe, Part, Stmts, Target, above};
+use es3_frames::stack::Stack;
+use es3_frames::tokens::{is_punct, is_word};
 use es3_lexer::{Punct, Token, Word};
 use std::alloc::Global;
 

@@ -18,11 +18,11 @@ ghost use Rattle.es3_grammar.specs.Plain.{deep};
 ghost use Rattle.es3_grammar.specs.Sums.{capped};
 ghost use Rattle.es3_frames.specs.Views.{head_of, next_of, spot_of, stack_of, state_of};
 
+use caja_units::Memory;
 use es3_frames::frames::{After, Body, Frame, Head, State};
 use es3_frames::parts::{Done, Part, Stmts, above};
 use es3_frames::stack::Stack;
 use es3_frames::tokens::{is_punct, named};
-use caja_units::Memory;
 use es3_lexer::{Kind, Punct, Token};
 use es3_tree::{Func, Name, make_declaration, make_function};
 use std::alloc::Global;

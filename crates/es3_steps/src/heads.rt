@@ -7,12 +7,12 @@ ghost use Rattle.es3_grammar.specs.Frames.{Stack as Frames, ended};
 ghost use Rattle.es3_grammar.specs.Machine.{when, for_open_step, for_second_step, for_third_step, returned_step, jumped_step};
 ghost use Rattle.es3_frames.specs.Views.{next_of, spot_of, stack_of};
 
-use es3_frames::frames::{Frame, Outer, Root, State};
 use crate::operand::operand;
+use caja_units::Memory;
+use es3_frames::frames::{Frame, Outer, Root, State};
 use es3_frames::parts::{Done, Front, Items, Maybe};
 use es3_frames::stack::Stack;
 use es3_frames::tokens::{is_punct, is_word, named};
-use caja_units::Memory;
 use es3_lexer::{Kind, Punct, Token, Word};
 use std::alloc::Global;
 

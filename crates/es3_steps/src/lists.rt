@@ -24,13 +24,13 @@ ghost use Rattle.es3_grammar.specs.Machine.{
 ghost use Rattle.es3_frames.specs.Lists.{field_of};
 ghost use Rattle.es3_frames.specs.Views.{next_of, opened_of, spot_of, stack_of, state_of};
 
-use es3_frames::frames::{After, Bracket, Frame, Opened, State};
 use crate::operand::operand;
+use caja_num::Whole;
+use caja_units::{Memory, Units};
+use es3_frames::frames::{After, Bracket, Frame, Opened, State};
 use es3_frames::parts::{Exprs, Fields, Part, above};
 use es3_frames::stack::Stack;
 use es3_frames::tokens::{is_punct, named};
-use caja_num::Whole;
-use caja_units::{Memory, Units};
 use es3_lexer::{Kind, Punct, Token};
 use es3_tree::{Name, make_array, make_call, make_dot, make_new, make_object};
 use std::alloc::Global;

@@ -6,12 +6,12 @@ ghost use Rattle.es3_grammar.specs.Machine.{when, opened as opened_spec, operand
 ghost use Rattle.es3_expr.specs.Views.{opening_of};
 ghost use Rattle.es3_frames.specs.Views.{next_of, spot_of, stack_of, waiting_of};
 
+use caja_units::Memory;
+use es3_expr::{Opening, as_opening};
 use es3_frames::frames::{Bracket, Frame, Opened, State, Waiting};
 use es3_frames::parts::{Exprs, Fields, Part};
 use es3_frames::stack::Stack;
 use es3_frames::tokens::named;
-use caja_units::Memory;
-use es3_expr::{Opening, as_opening};
 use es3_lexer::{Kind, Token};
 use es3_tree::Expr;
 use std::alloc::Global;

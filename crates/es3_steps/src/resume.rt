@@ -8,11 +8,11 @@ ghost use Rattle.es3_steps.specs.Resumed.{resumed};
 ghost use Rattle.es3_frames.specs.Views.{frame_of, next_of, outer_of, spot_of, stack_of};
 
 use crate::begin::begin;
+use caja_units::Memory;
 use es3_frames::frames::{After, Frame, Outer, Root, State};
 use es3_frames::parts::{Done, Part};
 use es3_frames::stack::Stack;
 use es3_frames::tokens::is_word;
-use caja_units::Memory;
 use es3_lexer::{Punct, Token, Word};
 use std::alloc::Global;
 

@@ -10,12 +10,12 @@ ghost use Rattle.es3_steps.specs.Settling.{bound};
 ghost use Rattle.es3_frames.specs.Views.{next_of, spot_of, stack_of, state_of, waiting_of};
 
 use crate::closing::closes;
+use caja_units::Memory;
+use es3_expr::{Behind, Join, as_behind};
 use es3_frames::frames::{Bracket, Frame, Opened, State, Waiting};
 use es3_frames::parts::{Exprs, Part};
 use es3_frames::stack::Stack;
 use es3_frames::tokens::is_punct;
-use caja_units::Memory;
-use es3_expr::{Behind, Join, as_behind};
 use es3_lexer::{Punct, Token};
 use std::alloc::Global;
 

@@ -5,12 +5,12 @@ ghost use Rattle.es3_tree.specs.PlacedView.{word, stmt, of_handler};
 ghost use Rattle.es3_grammar.specs.Machine.{catch_name_step, caught_step, finally_begins as finally_spec, tried_step};
 ghost use Rattle.es3_frames.specs.Views.{next_of, spot_of, stack_of, state_of};
 
+use crate::resume::resume;
+use caja_units::Memory;
 use es3_frames::frames::{After, Body, Frame, State};
 use es3_frames::parts::{Done, Handler, Stmts};
-use crate::resume::resume;
 use es3_frames::stack::Stack;
 use es3_frames::tokens::{is_word, named};
-use caja_units::Memory;
 use es3_lexer::{Kind, Punct, Token, Word};
 use es3_tree::Name;
 use std::alloc::Global;

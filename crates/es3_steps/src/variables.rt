@@ -7,11 +7,11 @@ ghost use Rattle.es3_tree.specs.PlacedView.{word};
 ghost use Rattle.es3_frames.specs.Lists.{item_of};
 ghost use Rattle.es3_frames.specs.Views.{next_of, spot_of, stack_of};
 
+use caja_units::Memory;
 use es3_frames::frames::{Frame, Root, State};
 use es3_frames::parts::{Done, Front, Items, Maybe, Target};
 use es3_frames::stack::Stack;
 use es3_frames::tokens::{is_punct, is_word, named};
-use caja_units::Memory;
 use es3_lexer::{Kind, Punct, Token, Word};
 use es3_tree::Name;
 use std::alloc::Global;
