@@ -5,13 +5,11 @@
 #![tactic(auto)]
 
 mod ending;
-mod expr;
 mod read;
-mod step;
+pub mod step;
 #[cfg(test)]
 mod test_tables;
 #[cfg(test)]
 mod tests;
 
-pub use expr::read_expr;
 pub use read::{ReadError, read_program};

@@ -1,4 +1,5 @@
-//! The longest expression at the front of tokens.
+//! The longest expression of ECMAScript 3 at the front of tokens (ES3 11.14).
+#![tactic(auto)]
 
 ghost use Rattle.std.specs.Prelude.{◌≡◌, ◌<◌, ◌≤◌, ◌-◌, ◌^◌, IfOk, length, map, drop};
 ghost use Rattle.es3_tree.specs.PlacedView.{expr};
@@ -6,10 +7,8 @@ ghost use Rattle.es3_grammar.specs.Longest.{is_phrase as is_phrase_spec};
 ghost use Rattle.es3_grammar.specs.Machine.{ending, filled as filled_spec, finished as finished_spec, read_phrase};
 ghost use Rattle.es3_frames.specs.Made.{made_of};
 ghost use Rattle.es3_frames.specs.Views.{frame_of, spot_of, stack_of, state_of};
-ghost use Rattle.es3_stmt.specs.ReadsExpr.{Counts, Phrased, ReadsExpr};
+ghost use Rattle.es3_phrase.specs.ReadsExpr.{Counts, Phrased, ReadsExpr};
 
-use crate::read::ReadError;
-use crate::step::step;
 use caja_units::Memory;
 use es3_expr::is_target;
 use es3_frames::brackets::turn;
@@ -19,6 +18,8 @@ use es3_frames::parts::Part;
 use es3_frames::stack::Stack;
 use es3_lexer::{Token, Tokens};
 use es3_steps::settle::filled;
+use es3_stmt::ReadError;
+use es3_stmt::step::step;
 use es3_tree::Expr;
 use std::alloc::Global;
 
@@ -120,8 +121,8 @@ pub fn read_expr(
     at: usize,
     nest: u32,
 ) -> Result<(Expr, usize), ReadError>
-    requires { at ≤ length tokens.now.list.items }
-    requires { nest < 2 ^ 32 - 1 }
+    requires placed { at ≤ length tokens.now.list.items }
+    requires below { nest < 2 ^ 32 - 1 }
     ensures { ReadsExpr nest tokens.now.end at (map spot_of (drop at tokens.now.list.items)) result }
 {
     let rest = &tokens.list[at..];
