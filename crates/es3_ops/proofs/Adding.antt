@@ -1,7 +1,7 @@
 -- One operator more behind the operands that are read.
 use Rattle.std.proofs.Common.{◌≡◌, ℕ, ◌+◌, ◌^◌, ◌≤◌, ◌<◌, List, [], ◌∷◌, ◌++◌, map, reverse, sum_by, Some, option_map, refl, sym, ap, ◌∙◌, arith}
 use Rattle.std.proofs.lemmas.List.{map_push}
-use Rattle.std.proofs.lemmas.List.Sums.{sum_by-append}
+use Rattle.std.proofs.lemmas.List.Sums.{sum_by-append, sum_by-cons}
 use Rattle.es3_tree.specs.Tree as t
 use Rattle.es3_tree.specs.Placed as tree
 use Rattle.es3_tree.specs.PlacedView.{expr}
@@ -13,9 +13,9 @@ use Rattle.es3_ops.specs.declared.grouping.Infix.{Infix}
 use Rattle.es3_ops.specs.declared.grouping.Infix.TheVariants as i
 use Rattle.es3_ops.specs.declared.grouping.Ops.{Ops}
 use Rattle.es3_ops.specs.Grouped.{Front, Grouped}
-use Rattle.es3_ops.specs.Listed.{front_of, followed, front_with}
+use Rattle.es3_ops.specs.Listed.{front_of, last_of, followed, front_with}
 use Rattle.es3_ops.specs.Views.{infix_join, item_of, depth_of}
-use Rattle.es3_ops.specs.Waiting.{closed, waiting, waiting_behind, behind_depths, depths, whole_depth}
+use Rattle.es3_ops.specs.Waiting.{closed, waiting, behind_depths, depths, whole_depth}
 use Rattle.es3_ops.proofs.Unique.{Item, Above, above_both}
 use Rattle.es3_ops.proofs.Exists.{some_closed}
 use Rattle.es3_ops.proofs.Nested.{behind_deep, waiting_push, nested, within_parts}
@@ -47,9 +47,9 @@ with_depths : (o : Ops) (z : Expr) (ws : List (ℕ × Infix)) (d : ℕ) (op : In
 with_depths o z ws d op a =
     let f : Front = map item_of o.front.items in
     let e : depths (waiting [] (front_with o op)) ≡ behind_depths (depths (waiting [] f)) (deep t.expr (expr z)) (own (infix_join op)) =
-        ap (λ (f : Front). depths (waiting [] f)) (front_is o z op a.last_is)
-        ∙ ap depths (waiting_push [] f (expr z) (infix_join op))
-        ∙ behind_deep (waiting [] f) (expr z) (infix_join op) in
+    ap (λ (f : Front). depths (waiting [] f)) (front_is o z op a.last_is)
+    ∙ ap depths (waiting_push [] f (expr z) (infix_join op))
+    ∙ behind_deep (waiting [] f) (expr z) (infix_join op) in
     let w : reverse (map depth_of ws) ≡ depths (waiting [] f) = ap (λ (v : List (ℕ × Infix)). reverse (map depth_of v)) a.waiting_is ∙ o.kept in
     cc (e, w, a.depth_is)
 
@@ -79,9 +79,12 @@ adds_keep o z ws vs d op ps a f w =
     w ∙ sym (with_depths o z ws d op a)
     ∙ ap (λ (f : Front). depths (waiting [] f)) (front_is o z op a.last_is ∙ sym (ap (map item_of) f ∙ map_push item_of o.front.items (z, op)))
 
--- a bound by all the parts, of which the last is one that nests so deep
-pub parts_fit : (o : Ops) (z : Expr) (op : Infix) → o.last ≡ Some z → sum_by (λ (p : Item). deep t.expr p.0 + 1) (front_of o) + deep t.expr (expr z) + 2 < 2 ^ 32 → AllFit (front_with o op)
+-- a bound by all the parts, of which z is the last
+abbrev pub parts_of : Front → ℕ
+parts_of f = sum_by (λ (p : Item). deep t.expr p.0 + 1) f
+
+pub parts_fit : (o : Ops) (z : E) (op : Infix) → last_of o ≡ Some z → parts_of (front_of o) + deep t.expr z + 2 < 2 ^ 32 → AllFit (front_with o op)
 parts_fit o z op e h x y one g =
     let f : Item → ℕ = λ p. deep t.expr p.0 + 1 in
-    let s : sum_by f (front_with o op) ≡ sum_by f (front_of o) + (deep t.expr (expr z) + 1) = ap (sum_by f) (front_is o z op e) ∙ sum_by-append f (front_of o) ((expr z, infix_join op) ∷ []) in
-    omega (arith, within_parts 3 (front_with o op) x y g)
+    let j : Join = infix_join op in
+    omega (arith, within_parts 3 (front_with o op) x y g, ap (λ l. sum_by f (followed (front_of o) l j)) e, sum_by-append f (front_of o) ((z, j) ∷ []), sum_by-cons f (z, j) [])

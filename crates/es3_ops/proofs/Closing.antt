@@ -1,10 +1,9 @@
 -- One step of closing what waits.
-use Rattle.std.proofs.Common.{◌≡◌, ℕ, ◌+◌, ◌≤◌, ◌<◌, max, Bool, true, false, cond, nat_le, le-leb, List, [], ◌∷◌, ◌++◌, map, reverse, length, Option, Some, None, refl, sym, ap, ◌∙◌, arith}
+use Rattle.std.proofs.Common.{◌≡◌, ℕ, ◌+◌, ◌≤◌, ◌<◌, max, List, [], ◌∷◌, ◌++◌, map, reverse, None, refl, sym, ap, ◌∙◌, arith}
 use Rattle.std.proofs.lemmas.Bool.{lt-leb}
-use Rattle.std.proofs.lemmas.List.{reverse-append, map_push, length-append}
+use Rattle.std.proofs.lemmas.List.{reverse-append, map_push}
 use Rattle.es3_tree.specs.declared.Expr.{Expr}
-use Rattle.es3_tree.specs.PlacedView.{expr}
-use Rattle.es3_grammar.specs.Levels.{E, Join, own, joined}
+use Rattle.es3_grammar.specs.Levels.{E, own}
 use Rattle.es3_ops.specs.declared.grouping.Infix.{Infix}
 use Rattle.es3_ops.specs.Taking.{Taken}
 use Rattle.es3_ops.specs.Views.{infix_join, depth_of, left_of}
@@ -30,19 +29,10 @@ inmost f xs x = ap reverse (map_push f xs x) ∙ reverse-append (map f xs) (f x 
 abbrev Low : {A : Type 0} → ℕ → List (A × Infix) → Type 0
 Low {A} n ws = (front : List (A × Infix)) (p : A × Infix) → ws ≡ front ++ p ∷ [] → own (infix_join p.1) < n
 
-pub shorter : {A : Type 0} (n : ℕ) (ws vs : List (A × Infix)) (p : A × Infix) → Taken n ws vs (Some p) → length vs < length ws
-shorter n ws vs p h = rw h.0 (omega (arith, length-append vs (p ∷ [])))
-
 -- ---- nestings
 
 abbrev pub Depths : Type 0
 Depths = List (ℕ × Infix)
-
-pub depth_step : (n : ℕ) (ws vs : Depths) (p : ℕ × Infix) (d : ℕ) → Taken n ws vs (Some p) → closed_depth n (reverse (map depth_of ws)) d ≡ closed_depth n (reverse (map depth_of vs)) (1 + max p.0 d)
-depth_step n ws vs p d h = rw (h.0, inmost depth_of vs p, le-leb n (own (infix_join p.1)) h.1) refl
-
-pub outside_step : (n : ℕ) (ws vs : Depths) (p : ℕ × Infix) → Taken n ws vs (Some p) → outside_depths n (reverse (map depth_of ws)) ≡ outside_depths n (reverse (map depth_of vs))
-outside_step n ws vs p h = rw (h.0, inmost depth_of vs p, le-leb n (own (infix_join p.1)) h.1) refl
 
 -- a part of a whole nests no deeper than that
 pub fits_behind : (ws vs : Depths) (p : ℕ × Infix) (d k : ℕ) → ws ≡ vs ++ p ∷ [] → whole_depth (reverse (map depth_of ws)) d ≡ k → 1 + max p.0 d ≤ k
@@ -68,12 +58,6 @@ outside_end n ws vs h = outside_ends n ws h.1 (ended ws) ∙ ap (λ (v : Depths)
 
 abbrev pub Parts : Type 0
 Parts = List (Expr × Infix)
-
-pub part_step : (n : ℕ) (ws vs : Parts) (p : Expr × Infix) (x : E) → Taken n ws vs (Some p) → closed n (reverse (map left_of ws)) x ≡ closed n (reverse (map left_of vs)) (joined (infix_join p.1) (expr p.0) x)
-part_step n ws vs p x h = rw (h.0, inmost left_of vs p, le-leb n (own (infix_join p.1)) h.1) refl
-
-pub left_step : (n : ℕ) (ws vs : Parts) (p : Expr × Infix) → Taken n ws vs (Some p) → outside n (reverse (map left_of ws)) ≡ outside n (reverse (map left_of vs))
-left_step n ws vs p h = rw (h.0, inmost left_of vs p, le-leb n (own (infix_join p.1)) h.1) refl
 
 part_ends : (n : ℕ) (ws : Parts) (x : E) → Low n ws → Ended ws → closed n (reverse (map left_of ws)) x ≡ x
 part_ends n ws x h empty = refl

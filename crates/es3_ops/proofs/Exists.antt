@@ -5,7 +5,7 @@ use Rattle.std.proofs.lemmas.List.Elements.{recursion_from_All}
 use Rattle.es3_grammar.specs.Levels.{E, Join, an_op, an_and, an_or, an_assign, a_comma, own, left, right, joined}
 use Rattle.es3_ops.specs.Grouped.{Front, Grouped, alone, between}
 use Rattle.es3_ops.specs.Waiting.{closed, outside, waiting_behind, waiting}
-use Rattle.es3_ops.proofs.Unique.{Item, Above, levels_rise}
+use Rattle.es3_ops.proofs.Unique.{Item, Above}
 
 abbrev pub Lefts : Type 0
 Lefts = List (Join × E)

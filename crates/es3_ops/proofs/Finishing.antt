@@ -1,5 +1,5 @@
 -- The tree of operands and operators, made with what waits.
-use Rattle.std.proofs.Common.{◌≡◌, ℕ, List, [], ◌∷◌, ◌++◌, map, reverse, length, Option, Some, option_map, Result, Ok, Err, IfOk, ap, arith}
+use Rattle.std.proofs.Common.{◌≡◌, ℕ, [], ◌∷◌, map, reverse, length, Some, option_map, Result, Ok, Err, IfOk, ap, arith}
 use Rattle.es3_tree.specs.declared.Expr.{Expr}
 use Rattle.es3_tree.specs.PlacedView.{expr}
 use Rattle.es3_grammar.specs.Levels.{E}

@@ -1,5 +1,5 @@
 -- No list of operands and operators is grouped into two trees.
-use Rattle.std.proofs.Common.{◌≡◌, ℕ, ◌+◌, ◌≤◌, ◌⊎◌, inl, inr, List, [], ◌∷◌, ◌++◌, refl, sym, ap, ◌∙◌, arith}
+use Rattle.std.proofs.Common.{◌≡◌, ℕ, ◌≤◌, ◌⊎◌, inl, inr, [], ◌∷◌, ◌++◌, refl, sym, ap, arith}
 use Rattle.es3_grammar.specs.Levels.{E, Join, an_op, an_and, an_or, an_assign, a_comma, own, left, right, joined}
 use Rattle.es3_grammar.proofs.Follow.{level_fits}
 use Rattle.es3_ops.specs.Grouped.{Front, Grouped, alone, between}

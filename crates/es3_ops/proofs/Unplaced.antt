@@ -1,5 +1,5 @@
 -- A tree without its places is the tree as it was made without them.
-use Rattle.std.proofs.Common.{◌≡◌, ℕ, List, [], ◌∷◌, map, Option, Some, None, refl, ap, ◌∙◌}
+use Rattle.std.proofs.Common.{◌≡◌, ℕ, List, [], ◌∷◌, map, Option, Some, None, refl, ap}
 use Rattle.es3_tree.specs.declared.Name.{Name}
 use Rattle.es3_tree.specs.declared.Expr.{Expr}
 use Rattle.es3_tree.specs.declared.Stmt.{Stmt}

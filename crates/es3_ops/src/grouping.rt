@@ -41,16 +41,17 @@ impl Infix {
     }
 }
 
-/// Operands with operators between them, as they are read: an operand, and then in turn an operator and the operand behind it.
+/// Operands with operators between them (ES3 11.5 to 11.11), as they are read: an operand, and then in turn an operator and the operand
+/// behind it. Each operand is a whole part, whatever it is made of. Where memory is wanting, the list is of no more use.
 #[derive(Drop)]
 pub struct Ops {
     alloc: Global,
+    // Each operand that has an operator behind it, with that operator; and the operand behind these, where it is read.
     front: Vec<(Expr, Infix)>,
     last: Option<Expr>,
+    // The operators whose right parts end with the list, the innermost last, each with how deep its left part nests.
     waiting: Vec<(u32, Infix)>,
-    ghost kept: {
-        reverse (map depth_of waiting.items) ≡ all.depths (all.waiting [] (map item_of front.items))
-    },
+    ghost kept: { reverse (map depth_of waiting.items) ≡ all.depths (all.waiting [] (map item_of front.items)) },
 }
 
 impl Ops {
@@ -62,7 +63,7 @@ impl Ops {
     ghost use Rattle.es3_ops.specs.Grouped.{Grouped};
     ghost use Rattle.es3_ops.specs.Listed.{front_of, last_of, front_with};
 
-    /// The first operand.
+    /// The first operand alone.
     pub fn new(alloc: Global, first: Expr) -> Result<Ops, Memory>
         ensures { IsOkAnd result (λ o. (front_of o ≡ []) × (last_of o ≡ Some (expr first))) }
     {
@@ -74,12 +75,11 @@ impl Ops {
         })
     }
 
-    /// An operator behind the last operand. What comes back is how deep the tree would nest that `finish` would make if one more
-    /// operand, a single node, ended the list.
+    /// One operator more, behind the last operand. What comes back is how deep the tree of `finish` would nest if an operand that is a
+    /// single node ended the list: the number of expressions, statements and functions on the longest path into it.
     pub fn add(&mut self, op: Infix) -> Result<u32, Memory>
         requires whole { IsSome (last_of self.old) }
-        requires fits {
-            (x y : E) → deep t.expr x ≡ 1 → Grouped 3 (front_with self.old op) x y → deep t.expr y < 2 ^ 32 }
+        requires fits { (x y : E) → deep t.expr x ≡ 1 → Grouped 3 (front_with self.old op) x y → deep t.expr y < 2 ^ 32 }
         ensures reads { OnOk result ((front_of self.new ≡ front_with self.old op) × (last_of self.new ≡ None)) }
         ensures nests { IfOk result (λ n.
             (x y : E) → deep t.expr x ≡ 1 → Grouped 3 (front_with self.old op) x y → n ≡ deep t.expr y) }
@@ -101,13 +101,16 @@ impl Ops {
         Ok(())
     }
 
-    /// The tree of them all, in which each operand is a whole part (ES3 11.5 to 11.11).
+    /// The tree of the list, in which what binds alike is grouped from the left (ES3 11.5 to 11.11).
     pub fn finish(self) -> Result<Expr, Memory>
         requires { IsSome (last_of self) }
         ensures { IfOk result (λ t. (x : E) → last_of self ≡ Some x → Grouped 3 (front_of self) x (expr t)) }
     {
         let Ops {
-            alloc, front, last, ..
+            alloc,
+            front,
+            last,
+            ..
         } = self;
         let mut waiting = all_waiting(alloc, front)?;
         close(alloc, &mut waiting, Infix::Or.level(), last.unwrap())

@@ -19,6 +19,10 @@ fn written(alloc: Global, tree: &Expr) -> Result<String, Fail> {
     Ok(format!(in alloc; "({left} {sign} {right})")?)
 }
 
+fn written_out(alloc: Global, tree: Expr) -> Result<String, Fail> {
+    written(alloc, &tree)
+}
+
 /// The tree of the operands 0, 1 and so on with these operators between them, and what `add` says of each operator.
 fn grouped(alloc: Global, infixes: &[Infix]) -> Result<String, Fail>
     requires { length infixes.now < 1000 }
@@ -29,7 +33,7 @@ fn grouped(alloc: Global, infixes: &[Infix]) -> Result<String, Fail>
         depths.push(ops.add(*op)?)?;
         ops.part(Expr::This(u32::try_from(depths.len())?))?;
     }
-    let tree = written(alloc, &ops.finish()?)?;
+    let tree = written_out(alloc, ops.finish()?)?;
     Ok(format!(in alloc; "{tree} {depths:?}")?)
 }
 

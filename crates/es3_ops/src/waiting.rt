@@ -27,8 +27,7 @@ fn taken<T>(waiting: &mut Vec<(T, Infix)>, level: u32) -> Option<(T, Infix)>
 fn close_depths(waiting: &mut Vec<(u32, Infix)>, level: u32, depth: u32) -> u32
     requires { all.whole_depth (reverse (map depth_of waiting.old.items)) depth < 2 ^ 32 }
     ensures depth { result ≡ all.closed_depth level (reverse (map depth_of waiting.old.items)) depth }
-    ensures rest {
-        reverse (map depth_of waiting.new.items)
+    ensures rest { reverse (map depth_of waiting.new.items)
         ≡ all.outside_depths level (reverse (map depth_of waiting.old.items)) }
     ensures room { vec_len waiting.new ≤ vec_len waiting.old }
     ensures capacity { vec_capacity waiting.new ≡ vec_capacity waiting.old }
@@ -46,8 +45,8 @@ fn whole_depth(waiting: &[(u32, Infix)]) -> u32
     ensures { result ≡ all.whole_depth (reverse (map depth_of waiting.now)) 1 }
 {
     let mut depth = 1;
-    for (left, _) in waiting.iter().rev() {
-        depth = 1 + (*left).max(depth);
+    for &(left, _) in waiting.iter().rev() {
+        depth = 1 + left.max(depth);
     }
     depth
 }
@@ -55,13 +54,10 @@ fn whole_depth(waiting: &[(u32, Infix)]) -> u32
 /// One operator more, behind an operand that nests so deep. What comes back is how deep the whole nests with a single node behind it.
 pub fn wait_behind(waiting: &mut Vec<(u32, Infix)>, depth: u32, op: Infix) -> u32
     requires room { vec_len waiting.old < vec_capacity waiting.old }
-    requires fits {
-        all.whole_depth (all.behind_depths (reverse (map depth_of waiting.old.items)) depth (own (infix_join op))) 1 < 2 ^ 32 }
-    ensures waits {
-        reverse (map depth_of waiting.new.items)
+    requires fits { all.whole_depth (all.behind_depths (reverse (map depth_of waiting.old.items)) depth (own (infix_join op))) 1 < 2 ^ 32 }
+    ensures waits { reverse (map depth_of waiting.new.items)
         ≡ all.behind_depths (reverse (map depth_of waiting.old.items)) depth (own (infix_join op)) }
-    ensures depth {
-        result
+    ensures depth { result
         ≡ all.whole_depth (all.behind_depths (reverse (map depth_of waiting.old.items)) depth (own (infix_join op))) 1 }
 {
     let left = close_depths(waiting, op.level(), depth);

@@ -8,7 +8,7 @@ use Rattle.es3_ops.proofs.waiting.close.Given as goal
 abbrev pub invariant-loop-left : goal.invariant-loop-left
 invariant-loop-left l = record {
   part : all.closed l.level (reverse (map left_of l.waiting.items)) (expr l.part) ≡ all.closed l.level (reverse (map left_of l.fn.waiting.items)) (expr l.fn.part);
-  rest : all.outside l.level (reverse (map left_of l.waiting.items)) ≡ all.outside l.level (reverse (map left_of l.fn.waiting.items))
+  rest : all.outside l.level (reverse (map left_of l.waiting.items)) ≡ all.outside l.level (reverse (map left_of l.fn.waiting.items));
 }
 
 abbrev pub decreases-loop-left : goal.decreases-loop-left

@@ -10,7 +10,7 @@ invariant-loop-left l = record {
   rest : all.outside_depths l.level (reverse (map depth_of l.waiting.items)) ≡ all.outside_depths l.level (reverse (map depth_of l.fn.waiting.items));
   fits : all.whole_depth (reverse (map depth_of l.waiting.items)) l.depth < 2 ^ 32;
   room : vec_len l.waiting ≤ vec_len l.fn.waiting;
-  capacity : vec_capacity l.waiting ≡ vec_capacity l.fn.waiting
+  capacity : vec_capacity l.waiting ≡ vec_capacity l.fn.waiting;
 }
 
 abbrev pub decreases-loop-left : goal.decreases-loop-left

@@ -1,4 +1,4 @@
-use Rattle.std.proofs.Common.{◌≡◌, ◌^◌, map, reverse, refl, sym, ap, ◌∙◌}
+use Rattle.std.proofs.Common.{◌^◌, map, reverse, refl, sym, ◌∙◌}
 use Rattle.es3_tree.specs.Tree as t
 use Rattle.es3_tree.specs.PlacedView.{expr}
 use Rattle.es3_grammar.specs.Levels.{own}
@@ -25,10 +25,10 @@ wait_behind-requires-clause-fits c =
 pub invariant_of-self-2 : goal.invariant_of-self-2
 invariant_of-self-2 c = record {
   kept =
-    adds_keep c.args.self.now c.unwrap.result c.reserve.new.self.items c.wait_behind.new.waiting.items c.in_ok-last.depth c.args.op c.push.new.self.items
-    (record { last_is = sym c.take.ensures.value ∙ c.unwrap.ensures; waiting_is = c.reserve.ensures.items; depth_is = c.in_ok-last.ensures.depth })
-    (cc (c.in_ok-push.ensures.items, c.in_ok-last.ensures.part))
-    c.wait_behind.ensures.waits
+      adds_keep c.args.self.now c.unwrap.result c.reserve.new.self.items c.wait_behind.new.waiting.items c.in_ok-last.depth c.args.op c.push.new.self.items
+      (record { last_is = sym c.take.ensures.value ∙ c.unwrap.ensures; waiting_is = c.reserve.ensures.items; depth_is = c.in_ok-last.ensures.depth })
+      (cc (c.in_ok-push.ensures.items, c.in_ok-last.ensures.part))
+      c.wait_behind.ensures.waits;
 }
 
 pub returns-clause-nests : goal.returns-clause-nests
