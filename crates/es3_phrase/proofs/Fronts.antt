@@ -1,21 +1,28 @@
 -- The longest expression of the tokens before one, and of all of them.
-use Rattle.std.proofs.Common.{◌≡◌, ℕ, ◌+◌, ◌*◌, ◌<◌, ◌≤◌, Bool, true, false, cond, List, [], ◌∷◌, ◌++◌, suc, length, map, take, drop, drop-cons, add-one, get_or, Option, Some, None, refl, ap, sym, subst, ◌∙◌, arith}
-use Rattle.std.proofs.lemmas.List.{take_more, take-append-drop, map-append, length-map, length-take-le}
-use Rattle.std.proofs.Math.ListN.{take_of_length-le}
+use Rattle.std.specs.Prelude.{Result, Ok, Err}
+use Rattle.std.specs.Option.{ok_or}
+use Rattle.std.proofs.Common.{◌≡◌, ℕ, zero, ◌+◌, ◌*◌, ◌<◌, ◌≤◌, Bool, true, false, cond, List, [], ◌∷◌, ◌++◌, suc, length, map, take, drop, drop-cons, add-one, get_or, Option, Some, None, refl, ap, sym, subst, ◌∙◌, arith}
+use Rattle.std.proofs.lemmas.List.{take_more, take-append-drop, map-append, length-map, length-take-le, take_all}
 use Rattle.es3_grammar.specs.Spots.{Spot}
 use Rattle.es3_grammar.specs.Frames.{State, want}
 use Rattle.es3_grammar.specs.Machine.{step, ending}
 use Rattle.es3_grammar.specs.Limit.{turn, counted}
 use Rattle.es3_grammar.specs.Sums.{within_by}
-use Rattle.es3_grammar.specs.Longest.{Best, ExprRefusedAt, ExprDeepAt, BeginsExprWithin, KnownExpr, known_first, known_on, is_phrase, better}
+use Rattle.es3_grammar.specs.Longest.{Best, NoExpr, ExprRefusedAt, ExprDeepAt, BeginsExprWithin, KnownExpr, known_first, known_on, is_phrase, better}
 use Rattle.es3_grammar.proofs.Known.{counted_on}
-use Rattle.es3_grammar.proofs.Longest.{best_first, best_on, best_refused, best_deep, expr_begins}
+use Rattle.es3_grammar.proofs.Longest.{best_first, best_on, best_refused, best_deep, expr_begins, expr_reached}
 use Rattle.es3_lexer.specs.declared.token.Token.{Token}
 use Rattle.es3_frames.specs.Views.{spot_of}
+use Rattle.es3_stmt.specs.declared.read.ReadError.{ReadError}
+use Rattle.es3_phrase.specs.ReadsExpr.{Refuses, Counts}
 
 -- the tokens before the i-th
 abbrev pub front : ℕ → List Token → List Spot
 front i ts = map spot_of (take i ts)
+
+-- one token more
+pub here : (i : ℕ) (ts : List Token) (x : Token) → i < length ts → x ≡ get_or ts i x → drop i ts ≡ x ∷ drop (i + 1) ts
+here i ts x below item = drop-cons ts i x below ∙ ap (λ (y : Token). y ∷ drop (suc i) ts) (sym item) ∙ ap (λ (j : ℕ). x ∷ drop j ts) (sym (add-one i))
 
 -- read up to there, with so many brackets open
 pub record LongestOn (n o i : ℕ) (ts : List Token) (best : Option ℕ) (s : State) : Type 0 where
@@ -26,18 +33,16 @@ pub record LongestOn (n o i : ℕ) (ts : List Token) (best : Option ℕ) (s : St
 pub begun : (n : ℕ) (ts : List Token) (s : State) → 1 ≤ n → s ≡ want [] → LongestOn n 0 0 ts None s
 begun n ts s h e = record { known = rw e (known_first h); longest = best_first n; brackets = refl }
 
+-- behind the next token
 module _ (n o i : ℕ) (ts : List Token) (x : Token) (best : Option ℕ) (s : State) (below : i < length ts) (item : x ≡ get_or ts i x) (h : LongestOn n o i ts best s) where
   abbrev after : List Spot
   after = map spot_of (drop (i + 1) ts)
-
-  here : drop i ts ≡ x ∷ drop (i + 1) ts
-  here = drop-cons ts i x below ∙ ap (λ (y : Token). y ∷ drop (suc i) ts) (sym item) ∙ ap (λ (j : ℕ). x ∷ drop j ts) (sym (add-one i))
 
   one_more : front (i + 1) ts ≡ front i ts ++ spot_of x ∷ []
   one_more = ap (map spot_of) (take_more ts i x below) ∙ map-append spot_of (take i ts) (get_or ts i x ∷ []) ∙ ap (λ (y : Token). front i ts ++ spot_of y ∷ []) (sym item)
 
   parts : front i ts ++ spot_of x ∷ after ≡ map spot_of ts
-  parts = ap (λ (u : List Token). front i ts ++ map spot_of u) (sym here) ∙ sym (map-append spot_of (take i ts) (drop i ts)) ∙ ap (map spot_of) (take-append-drop i ts)
+  parts = ap (λ (u : List Token). front i ts ++ map spot_of u) (sym (here i ts x below item)) ∙ sym (map-append spot_of (take i ts) (drop i ts)) ∙ ap (map spot_of) (take-append-drop i ts)
 
   counts : length (front i ts) ≡ i
   counts = length-map (take i ts) spot_of ∙ length-take-le i ts (omega arith)
@@ -64,4 +69,22 @@ module _ (n o i : ℕ) (ts : List Token) (x : Token) (best : Option ℕ) (s : St
 
 -- the tokens end
 pub ends : (n o i : ℕ) (ts : List Token) (best : Option ℕ) (s : State) → length ts ≤ i → LongestOn n o i ts best s → Best n (map spot_of ts) best × BeginsExprWithin n (map spot_of ts)
-ends n o i ts best s b h = subst (λ (u : List Token). Best n (map spot_of u) best × BeginsExprWithin n (map spot_of u)) (take_of_length-le ts b) (h.longest, expr_begins n (front i ts) s h.known)
+ends n o i ts best s b h = subst (λ (u : List Token). Best n (map spot_of u) best × BeginsExprWithin n (map spot_of u)) (take_all i ts b) (h.longest, expr_begins n (front i ts) s h.known)
+
+-- ---- the answer
+
+known_positive : (n : ℕ) (u : List Spot) (s : State) → KnownExpr n u s → 1 ≤ n
+known_positive n _ _ (known_first h) = h
+known_positive n _ _ (known_on u s r c k e w) = known_positive n u s k
+
+pub positive : (n : ℕ) → (n ≡ 0 → ⊥) → 1 ≤ n
+positive zero h = absurd (h refl)
+positive (suc n) h = omega arith
+
+-- nothing is within no nesting at all
+pub no_room : (n : ℕ) (u : List Spot) → n ≡ 0 → NoExpr n u
+no_room n u e y v w p i = let r = expr_reached n v y i in let h = known_positive n v r.0 r.1 in omega (arith, e, h)
+
+pub counted_best : (n end : ℕ) (u : List Spot) (best : Option ℕ) (e : ReadError) (r : Result ℕ ReadError) → r ≡ ok_or best e → Best n u best → (NoExpr n u → Refuses n end u e) → Counts n end u r
+counted_best n end u None e r q b f = rw q (f b)
+counted_best n end u (Some m) e r q b f = rw q b

@@ -1,3 +1,4 @@
+pub mod AllTokens
 pub mod Alone
-pub mod Finished
+pub mod Filling
 pub mod Fronts

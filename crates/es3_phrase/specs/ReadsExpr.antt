@@ -28,6 +28,11 @@ abbrev pub Counts : ℕ → ℕ → List Spot → Result ℕ ReadError → Type 
 Counts limit end u (Ok n) = (x : E) × Longest limit u x n
 Counts limit end u (Err e) = Refuses limit end u e
 
+-- the longest, and how many tokens it has
+abbrev pub ReadsFront : ℕ → ℕ → List Spot → Result (Expr × ℕ) ReadError → Type 0
+ReadsFront limit end u (Ok r) = Longest limit u (expr r.0) r.1
+ReadsFront limit end u (Err e) = Refuses limit end u e
+
 -- the longest, and the token behind it, where the first is the one after so many
 abbrev pub ReadsExpr : ℕ → ℕ → ℕ → List Spot → Result (Expr × ℕ) ReadError → Type 0
 ReadsExpr limit end at u (Ok r) = (n : ℕ) × (r.1 ≡ at + n) × Longest limit u (expr r.0) n

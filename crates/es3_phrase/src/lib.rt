@@ -1,13 +1,16 @@
 //! The longest expression of ECMAScript 3 at the front of tokens (ES3 11.14).
 #![tactic(auto)]
 
-ghost use Rattle.std.specs.Prelude.{◌≡◌, ◌<◌, ◌≤◌, ◌-◌, ◌^◌, IfOk, length, map, drop};
+ghost use Rattle.std.specs.Prelude.{◌≡◌, ◌<◌, ◌≤◌, ◌-◌, ◌^◌, if◌then◌else◌, IfOk, Some, length, map, drop};
 ghost use Rattle.es3_tree.specs.PlacedView.{expr};
 ghost use Rattle.es3_grammar.specs.Longest.{is_phrase as is_phrase_spec};
 ghost use Rattle.es3_grammar.specs.Machine.{ending, filled as filled_spec, finished as finished_spec, read_phrase};
 ghost use Rattle.es3_frames.specs.Made.{made_of};
 ghost use Rattle.es3_frames.specs.Views.{frame_of, spot_of, stack_of, state_of};
-ghost use Rattle.es3_phrase.specs.ReadsExpr.{Counts, Phrased, ReadsExpr};
+ghost use Rattle.es3_phrase.specs.ReadsExpr.{Counts, Phrased, ReadsExpr, ReadsFront};
+
+#[cfg(test)]
+mod tests;
 
 use caja_units::Memory;
 use es3_expr::is_target;
@@ -83,6 +86,13 @@ fn whole(alloc: Global, tokens: &[Token]) -> Result<Option<Expr>, Memory>
     phrase(alloc, stack, state)
 }
 
+/// The number of tokens of the longest expression so far, where so many more may be one.
+fn better(is_whole: bool, count: usize, best: Option<usize>) -> Option<usize>
+    ensures { result ≡ (if is_whole then Some count else best) }
+{
+    if is_whole { Some(count) } else { best }
+}
+
 /// How many tokens the longest expression at the front of these has.
 fn longest(alloc: Global, tokens: &[Token], end: u32, nest: u32) -> Result<usize, ReadError>
     requires { nest < 2 ^ 32 - 1 }
@@ -104,11 +114,24 @@ fn longest(alloc: Global, tokens: &[Token], end: u32, nest: u32) -> Result<usize
         if !is_within(&state, &stack, brackets, nest) {
             return best.ok_or(ReadError::TooDeep(0));
         }
-        if is_phrase(&state, &stack) {
-            best = Some(before + 1);
-        }
+        best = better(is_phrase(&state, &stack), before + 1, best);
     }
     best.ok_or(ReadError::Syntax(end))
+}
+
+/// The longest expression at the front of these tokens, and how many of them it has.
+fn read_front(
+    alloc: Global,
+    tokens: &[Token],
+    end: u32,
+    nest: u32,
+) -> Result<(Expr, usize), ReadError>
+    requires { nest < 2 ^ 32 - 1 }
+    ensures { ReadsFront nest end (map spot_of tokens.now) result }
+{
+    let count = longest(alloc, tokens, end, nest)?;
+    let tree = whole(alloc, &tokens[..count])?.unwrap();
+    Ok((tree, count))
 }
 
 /// The longest expression (ES3 11.14) that the tokens from the one at `at` on begin with, counted from 0, and the place of the token
@@ -125,8 +148,6 @@ pub fn read_expr(
     requires below { nest < 2 ^ 32 - 1 }
     ensures { ReadsExpr nest tokens.now.end at (map spot_of (drop at tokens.now.list.items)) result }
 {
-    let rest = &tokens.list[at..];
-    let count = longest(alloc, rest, tokens.end, nest)?;
-    let tree = whole(alloc, &rest[..count])?.unwrap();
+    let (tree, count) = read_front(alloc, &tokens.list[at..], tokens.end, nest)?;
     Ok((tree, at + count))
 }

@@ -1,0 +1,56 @@
+ghost use Rattle.std.specs.Prelude.{◌<◌, ◌-◌, ◌^◌};
+
+use crate::read_expr;
+use es3_lexer::tokens;
+use std::alloc::Global;
+use std::test::Fail;
+
+/// How many bytes the sources may have.
+const LONGEST: usize = 100;
+
+/// The place of the token behind the longest expression from the one at `at` on, or why there is none.
+fn next(alloc: Global, source: &str, at: usize, nest: u32) -> Result<String, Fail>
+    requires { nest < 2 ^ 32 - 1 }
+{
+    let list = match tokens(alloc, source.as_bytes(), LONGEST) {
+        Ok(list) => list,
+        Err(refusal) => return Ok(format!(in alloc; "{refusal:?}")?),
+    };
+    if at > list.list.len() {
+        return Ok(String::new(alloc));
+    }
+    match read_expr(alloc, &list, at, nest) {
+        Ok((_, next)) => Ok(format!(in alloc; "{next}")?),
+        Err(refusal) => Ok(format!(in alloc; "{refusal:?}")?),
+    }
+}
+
+#[test]
+fn the_longest_expression_ends_before_the_token_behind_it(rt: HostRuntime) -> Result<(), Fail> {
+    let alloc = rt.alloc();
+    // The source, the first token, the limit of nesting, and what comes of it.
+    let rows: [(&str, usize, u32, &str); 18] = [
+        ("a+++b", 0, 9, "4"),
+        ("a + )", 0, 9, "1"),
+        ("a + (b", 0, 9, "1"),
+        ("a, b; c", 0, 9, "3"),
+        ("a ? b", 0, 9, "1"),
+        ("x = a ? b : c d", 0, 9, "7"),
+        ("; a.b(c)[d] ;", 1, 9, "10"),
+        ("new a.b c", 0, 9, "4"),
+        ("a++ ++", 0, 9, "2"),
+        (")", 0, 9, "Syntax(0)"),
+        ("", 0, 9, "Syntax(0)"),
+        ("(a", 0, 9, "Syntax(2)"),
+        ("++(a + b)", 0, 9, "Syntax(9)"),
+        ("a + b", 0, 2, "3"),
+        ("a + b + c", 0, 2, "3"),
+        ("~ ~ a", 0, 2, "TooDeep(0)"),
+        ("((((((a", 0, 2, "TooDeep(0)"),
+        ("a", 0, 0, "TooDeep(0)"),
+    ];
+    for (source, at, nest, wanted) in rows {
+        assert_eq!(rt; next(alloc, source, at, nest)?.as_str(), wanted, "{source}");
+    }
+    Ok(())
+}
