@@ -7,10 +7,10 @@ ghost use Rattle.es3_expr.specs.Views.{join_of};
 ghost use Rattle.es3_ops.specs.Views.{depth_of, infix_join, item_of, left_of};
 ghost use Rattle.es3_ops.specs.Waiting as all;
 
-use es3_expr::Join;
 use crate::measuring::measured;
 use crate::waiting::{close, wait_behind};
 use caja_units::Memory;
+use es3_expr::Join;
 use es3_tree::{BinOp, Expr};
 use std::alloc::Global;
 
