@@ -12,6 +12,7 @@ const LONGEST: usize = 100;
 fn next(alloc: Global, source: &str, at: usize, nest: u32) -> Result<String, Fail>
     requires { nest < 2 ^ 32 - 1 }
 {
+    u32::try_from(source.len())?;
     let list = match tokens(alloc, source.as_bytes(), LONGEST) {
         Ok(list) => list,
         Err(refusal) => return Ok(format!(in alloc; "{refusal:?}")?),

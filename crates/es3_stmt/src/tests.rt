@@ -12,6 +12,7 @@ const DEEPEST: u32 = 128;
 
 /// What becomes of a source.
 fn outcome(alloc: Global, source: &str) -> Result<String, Fail> {
+    u32::try_from(source.len())?;
     match tokens(alloc, source.as_bytes(), LONGEST) {
         Ok(list) => match read_program(alloc, &list, DEEPEST) {
             Ok(_) => Ok(String::from_str(alloc, "a program")?),
