@@ -1,21 +1,17 @@
 -- The text of tokens: one after another, with a space where two would run together.
-use Rattle.std.specs.Prelude.{ℕ, ◌&&◌, ◌||◌, Bool, List, [], ◌∷◌, ◌++◌, Option, Some, None, nat_eq, nat_le, unwrap_or, slice_get, if◌then◌else◌}
+use Rattle.std.specs.Prelude.{ℕ, ◌&&◌, ◌||◌, Bool, List, [], ◌∷◌, ◌++◌, Option, Some, None, nat_eq, slice_get, if◌then◌else◌}
 use Rattle.caja_units.specs.Utf8.{utf8_of}
-use Rattle.caja_units.specs.Literal.{literal}
-use Rattle.caja_units.specs.Number.{number_text}
-use Rattle.es3_tree.specs.Token.{Token, name, word, punct, num, text, words, puncts}
+use Rattle.es3_tree.specs.Token.{Token, name, word, punct, num, text}
+use Rattle.es3_tokens.specs.Characters.{is_part}
+use Rattle.es3_tokens.specs.Back.{spelling}
 
--- 7.5 to 7.8: how a token is written; a number in decimal digits, a text in double quotes
+-- 7.5 to 7.8: how a token is written, in bytes: a name in UTF-8, a number in decimal digits, a text in double quotes
 abbrev pub token_text : Token → List ℕ
 token_text (name us) = utf8_of us
-token_text (word n) = unwrap_or (slice_get words n) []
-token_text (punct n) = unwrap_or (slice_get puncts n) []
-token_text (num n) = number_text n
-token_text (text us) = literal us
-
--- 7.6: a letter, a digit, `_` or `$`
-abbrev pub is_part : ℕ → Bool
-is_part c = (nat_le 48 c && nat_le c 57) || (nat_le 65 c && nat_le c 90) || (nat_le 97 c && nat_le c 122) || nat_eq c 95 || nat_eq c 36
+token_text (word n) = spelling (word n)
+token_text (punct n) = spelling (punct n)
+token_text (num n) = spelling (num n)
+token_text (text us) = spelling (text us)
 
 -- two characters that a space must keep apart: parts of words, `++`, `--`, `<!` and `]>`
 abbrev pub runs_together : ℕ → ℕ → Bool

@@ -1,0 +1,4 @@
+pub mod Text
+pub mod Tokens
+pub mod Safe
+pub mod Back
