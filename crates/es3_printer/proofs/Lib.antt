@@ -1,8 +1,4 @@
-pub mod Text
-pub mod Commas
-pub mod Lists
-pub mod Call
-pub mod Return
 pub mod Forms
-pub mod Quiet
-pub mod Safe
+pub mod Stacked
+pub mod Text
+pub mod Seen

@@ -1,4 +1,2 @@
-pub mod Text
-pub mod Tokens
-pub mod Symbol
-pub mod Safe
+pub mod Nodes
+pub mod Pieces

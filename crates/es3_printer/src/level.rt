@@ -1,110 +1,98 @@
-//! How tightly an expression binds (ES3 11), and how its text begins.
+//! How tightly an expression binds (ES3 11), which parts take parentheses, and how a text begins.
 
-ghost use Rattle.std.specs.Prelude.{◌≡◌, ◌≤◌, ◌||◌, nat_lt};
+ghost use Rattle.std.specs.Prelude.{◌≡◌, false};
 ghost use Rattle.es3_tree.specs.Tree as tree;
 ghost use Rattle.es3_tree.specs.View.{expr};
-ghost use Rattle.es3_printer.specs.Tokens.{level, own_level, is_number, bare, opens};
+ghost use Rattle.es3_printed.specs.Tokens.{own_level, calls, is_in, is_number, wraps, wraps_object, wraps_maker, bare, opens};
 
+use es3_expr::Join;
 use es3_tree::{BinOp, Expr};
 
-/// `,` (ES3 11.14).
-const COMMA: u8 = 0;
-
-/// `=` and its kin (ES3 11.13).
-pub const ASSIGNMENT: u8 = 1;
-
 /// `?` with `:` (ES3 11.12).
-const CONDITIONAL: u8 = 2;
-
-/// `||` and `&&` (ES3 11.11).
-const OR: u8 = 3;
-
-const AND: u8 = 4;
-
-/// `|`, `^` and `&` (ES3 11.10).
-const BIT_OR: u8 = 5;
-
-const BIT_XOR: u8 = 6;
-
-const BIT_AND: u8 = 7;
-
-/// `==` and its kin (ES3 11.9).
-const EQUALITY: u8 = 8;
-
-/// `<` and its kin, `instanceof` and `in` (ES3 11.8).
-const RELATION: u8 = 9;
-
-/// `<<`, `>>` and `>>>` (ES3 11.7).
-const SHIFT: u8 = 10;
-
-/// `+` and `-` (ES3 11.6).
-const SUM: u8 = 11;
-
-/// `*`, `/` and `%` (ES3 11.5).
-const PRODUCT: u8 = 12;
+const CONDITIONAL: u32 = 2;
 
 /// The operators that stand before an operand (ES3 11.4).
-const PREFIX: u8 = 13;
+pub const PREFIX: u32 = 13;
 
 /// `++` and `--` behind an operand (ES3 11.3).
-const POSTFIX: u8 = 14;
+const POSTFIX: u32 = 14;
 
 /// Members, calls and primary expressions (ES3 11.1, 11.2).
-pub const MEMBER: u8 = 15;
+pub const MEMBER: u32 = 15;
 
-/// The level of a binary operator (ES3 11.5 to 11.10).
-pub fn level(op: BinOp) -> u8
-    ensures is { result ≡ level op }
-    ensures bound { result ≤ 12 }
-{
-    match op {
-        BinOp::Mul | BinOp::Div | BinOp::Rem => PRODUCT,
-        BinOp::Add | BinOp::Sub => SUM,
-        BinOp::Shl | BinOp::Shr | BinOp::Ushr => SHIFT,
-        BinOp::Less | BinOp::Greater | BinOp::LessEq | BinOp::GreaterEq => RELATION,
-        BinOp::InstanceOf | BinOp::InObject => RELATION,
-        BinOp::Equal | BinOp::NotEqual | BinOp::Same | BinOp::NotSame => EQUALITY,
-        BinOp::BitAnd => BIT_AND,
-        BinOp::BitXor => BIT_XOR,
-        BinOp::BitOr => BIT_OR,
-    }
-}
-
-/// The level of an expression.
-pub fn own_level(e: &Expr) -> u8
+/// The level of an expression: 0 for the comma, 1 assignments, up to 15.
+fn own_level(e: &Expr) -> u32
     ensures { result ≡ own_level (expr e.now) }
 {
     match e {
-        Expr::Comma(_, _) => COMMA,
-        Expr::Assign(_, _, _) => ASSIGNMENT,
+        Expr::Comma(_, _) => Join::Comma.own(),
+        Expr::Assign(op, _, _) => Join::Assign(*op).own(),
         Expr::Cond(_, _, _) => CONDITIONAL,
-        Expr::Or(_, _) => OR,
-        Expr::And(_, _) => AND,
-        Expr::Binary(op, _, _) => level(*op),
+        Expr::Or(_, _) => Join::Or.own(),
+        Expr::And(_, _) => Join::And.own(),
+        Expr::Binary(op, _, _) => Join::Op(*op).own(),
         Expr::Unary(_, _, _) | Expr::Step(_, true, _) => PREFIX,
         Expr::Step(_, false, _) => POSTFIX,
         _ => MEMBER,
     }
 }
 
-/// Whether the object of a member takes parentheses (ES3 11.2.1): a point behind a number would be its decimal point.
-pub fn wraps_object(e: &Expr) -> bool
-    ensures { result ≡ (is_number (expr e.now) || nat_lt (own_level (expr e.now)) 15) }
+fn is_in(e: &Expr) -> bool
+    ensures { result ≡ is_in (expr e.now) }
 {
-    matches!(e, Expr::Num(_)) || own_level(e) < MEMBER
+    matches!(e, Expr::Binary(BinOp::InObject, _, _))
+}
+
+/// Whether an expression takes parentheses at a place that asks this level; `in_head`: in the first part of a `for` head (ES3 12.6).
+pub fn wraps(in_head: bool, level: u32, e: &Expr) -> bool
+    ensures { result ≡ wraps in_head level (expr e.now) }
+{
+    own_level(e) < level || in_head && is_in(e)
+}
+
+/// Whether the object of a member takes parentheses (ES3 11.2.1): a point behind a number would be its decimal point.
+pub fn wraps_object(in_head: bool, e: &Expr) -> bool
+    ensures { result ≡ wraps_object in_head (expr e.now) }
+{
+    matches!(e, Expr::Num(_)) || wraps(in_head, MEMBER, e)
+}
+
+/// Whether a call stands in the chain of objects and callees.
+fn calls(e: &Expr) -> bool
+    ensures { result ≡ calls (expr e.now) }
+{
+    match e {
+        Expr::Call(_, _) => true,
+        Expr::Dot(object, _) | Expr::Index(object, _) => calls(object),
+        _ => false,
+    }
+}
+
+/// Whether the operand of `new` takes parentheses (ES3 11.2.2): the arguments of a call in it would be those of `new`.
+pub fn wraps_maker(in_head: bool, e: &Expr) -> bool
+    ensures { result ≡ wraps_maker in_head (expr e.now) }
+{
+    calls(e) || wraps(in_head, MEMBER, e)
 }
 
 /// Whether the text of an expression begins like a block or a function declaration (ES3 12.4).
-#[tactic(auto, unfolding(crate::specs::Tokens::bare))]
+#[tactic(auto, unfolding(es3_printed::specs::Tokens::bare))]
 pub fn opens(e: &Expr) -> bool
-    ensures { result ≡ opens (bare tree.expr (expr e.now)) }
+    ensures { result ≡ opens (bare tree.expr false (expr e.now)) }
 {
     match e {
-        Expr::Func(_) => true,
-        Expr::Dot(object, _) => !wraps_object(object) && opens(object),
-        Expr::Call(callee, _) => own_level(callee) >= MEMBER && opens(callee),
-        Expr::Binary(op, left, _) => own_level(left) >= level(*op) && opens(left),
-        Expr::Assign(None, target, _) => own_level(target) >= MEMBER && opens(target),
+        Expr::Func(_) | Expr::Object(_) => true,
+        Expr::Dot(object, _) | Expr::Index(object, _) => {
+            !wraps_object(false, object) && opens(object)
+        }
+        Expr::Call(callee, _) => !wraps(false, MEMBER, callee) && opens(callee),
+        Expr::Step(_, false, operand) => !wraps(false, MEMBER, operand) && opens(operand),
+        Expr::Cond(test, _, _) => !wraps(false, Join::Or.own(), test) && opens(test),
+        Expr::Binary(op, left, _) => !wraps(false, Join::Op(*op).left(), left) && opens(left),
+        Expr::And(left, _) => !wraps(false, Join::And.left(), left) && opens(left),
+        Expr::Or(left, _) => !wraps(false, Join::Or.left(), left) && opens(left),
+        Expr::Assign(op, left, _) => !wraps(false, Join::Assign(*op).left(), left) && opens(left),
+        Expr::Comma(left, _) => !wraps(false, Join::Comma.left(), left) && opens(left),
         _ => false,
     }
 }

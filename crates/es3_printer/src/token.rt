@@ -4,86 +4,16 @@ ghost use Rattle.std.specs.Prelude.{◌≡◌, OnOk, IfOk, string_bytes};
 ghost use Rattle.caja_units.specs.Number.{number_text};
 ghost use Rattle.es3_tree.specs.Token as token;
 ghost use Rattle.es3_tree.specs.View.{text};
-ghost use Rattle.es3_printer.specs.Symbol.{token_of};
-ghost use Rattle.es3_printer.specs.Tokens.{sign};
-ghost use Rattle.es3_printer.specs.Text.{token_text, is_part, runs_together, gap_between, then_text};
+ghost use Rattle.es3_lexer.specs.Tables.{punct_number, word_number};
+ghost use Rattle.es3_tokens.specs.Characters.{is_part};
+ghost use Rattle.es3_printed.specs.Text.{token_text, runs_together, gap_between, then_text};
 
+use crate::spelling::{punct_spelling, word_spelling};
 use caja_num::Whole;
 use caja_units::{Memory, Units};
-use es3_tree::{BinOp, Name};
+use es3_lexer::{Punct, Word};
+use es3_tree::Name;
 use std::alloc::{AllocError, Global};
-
-/// A reserved word or a punctuator that is written (ES3 7.5.2, 7.7).
-#[derive(Clone, Copy)]
-pub enum Symbol {
-    Function,
-    Return,
-    Var,
-    OpenBrace,
-    CloseBrace,
-    OpenParen,
-    CloseParen,
-    OpenBracket,
-    CloseBracket,
-    Point,
-    Semicolon,
-    Comma,
-    Equals,
-    Operator(BinOp),
-}
-
-impl Symbol {
-    /// How the word or the punctuator is spelled.
-    fn spelling(self) -> &'static [u8]
-        ensures { result.now ≡ token_text (token_of self) }
-    {
-        match self {
-            Symbol::Function => b"function",
-            Symbol::Return => b"return",
-            Symbol::Var => b"var",
-            Symbol::OpenBrace => b"{",
-            Symbol::CloseBrace => b"}",
-            Symbol::OpenParen => b"(",
-            Symbol::CloseParen => b")",
-            Symbol::OpenBracket => b"[",
-            Symbol::CloseBracket => b"]",
-            Symbol::Point => b".",
-            Symbol::Semicolon => b";",
-            Symbol::Comma => b",",
-            Symbol::Equals => b"=",
-            Symbol::Operator(op) => operator_spelling(op),
-        }
-    }
-}
-
-/// How a binary operator is spelled (ES3 11.5 to 11.10).
-fn operator_spelling(op: BinOp) -> &'static [u8]
-    ensures { result.now ≡ token_text (sign op) }
-{
-    match op {
-        BinOp::Mul => b"*",
-        BinOp::Div => b"/",
-        BinOp::Rem => b"%",
-        BinOp::Add => b"+",
-        BinOp::Sub => b"-",
-        BinOp::Shl => b"<<",
-        BinOp::Shr => b">>",
-        BinOp::Ushr => b">>>",
-        BinOp::Less => b"<",
-        BinOp::Greater => b">",
-        BinOp::LessEq => b"<=",
-        BinOp::GreaterEq => b">=",
-        BinOp::InstanceOf => b"instanceof",
-        BinOp::InObject => b"in",
-        BinOp::Equal => b"==",
-        BinOp::NotEqual => b"!=",
-        BinOp::Same => b"===",
-        BinOp::NotSame => b"!==",
-        BinOp::BitAnd => b"&",
-        BinOp::BitXor => b"^",
-        BinOp::BitOr => b"|",
-    }
-}
 
 /// Whether a character is part of a word (ES3 7.6): a letter, a digit, `_` or `$`.
 fn is_part(c: u8) -> bool
@@ -122,11 +52,19 @@ fn write(out: &mut Vec<u8>, text: &[u8]) -> Result<(), AllocError>
     Ok(())
 }
 
-/// Appends a reserved word or a punctuator.
-pub fn write_symbol(out: &mut Vec<u8>, symbol: Symbol) -> Result<(), Memory>
-    ensures { OnOk result (out.new.items ≡ then_text out.old.items (token_text (token_of symbol))) }
+/// Appends a punctuator (ES3 7.7).
+pub fn write_punct(out: &mut Vec<u8>, sign: Punct) -> Result<(), Memory>
+    ensures { OnOk result (out.new.items ≡ then_text out.old.items (token_text (token.punct (punct_number sign)))) }
 {
-    write(out, symbol.spelling())?;
+    write(out, punct_spelling(sign))?;
+    Ok(())
+}
+
+/// Appends a reserved word (ES3 7.5).
+pub fn write_word(out: &mut Vec<u8>, word: Word) -> Result<(), Memory>
+    ensures { OnOk result (out.new.items ≡ then_text out.old.items (token_text (token.word (word_number word)))) }
+{
+    write(out, word_spelling(word))?;
     Ok(())
 }
 
