@@ -1,3 +1,4 @@
 pub mod Shown
 pub mod ShownStatements
 pub mod ShownExpressions
+pub mod ShownTrees
