@@ -1,14 +1,14 @@
 -- Parts of statements (ES3 12 and 13): lists, what a variable begins as, the heads of loops, the clauses of a `switch`, functions; and programs (14).
-use Rattle.std.proofs.Common.{◌≡◌, ℕ, List, [], ◌∷◌, ◌++◌, Bool, true, false, Option, Some, None, refl, ap, ◌∙◌, sym}
+use Rattle.std.proofs.Common.{◌≡◌, ℕ, List, [], ◌∷◌, ◌++◌, Bool, true, false, Option, Some, None, refl, ap, ◌∙◌}
 use Rattle.es3_tree.specs.Tree as t
 use Rattle.es3_tree.specs.Placed as tree
 use Rattle.es3_tree.specs.Token.{Token, name}
 use Rattle.es3_grammar.specs.Spots.{Spot, function_word, case_word, default_word, var_word, colon, comma, equals, open_paren, close_paren, open_brace, close_brace}
 use Rattle.es3_grammar.specs.Levels.{is_target}
 use Rattle.es3_grammar.specs.Grammar.{Bars, free, no_in, placed_word, Spells, s_one_item, s_more_items, s_no_value, s_value, s_no_first, s_first_var, s_first_expr, s_no_expr, s_some_expr, s_loop_var, s_loop_expr, s_no_cases, s_case, s_default, s_no_stmts, s_more_stmts, s_declaration, s_script, s_func}
-use Rattle.es3_grammar.specs.Plain.{plain, plain_name}
+use Rattle.es3_grammar.specs.Plain.{plain}
 use Rattle.es3_printed.specs.Tokens.{named, listed}
-use Rattle.es3_printed.proofs.Shown.{kinds, Found, Shown, none, token, tokens, last, alone, closed, maybe_name, names, FoundFunction, function_at, both, all_three}
+use Rattle.es3_printed.proofs.Shown.{Found, Shown, none, token, tokens, last, alone, closed, maybe_name, names, FoundFunction, function_at, both, all_three}
 
 -- 12.1 and 14: lists of statements, functions among them
 
