@@ -1,4 +1,5 @@
 pub mod Shown
-pub mod ShownStatements
 pub mod ShownExpressions
+pub mod ShownParts
+pub mod ShownStatements
 pub mod ShownTrees
