@@ -13,7 +13,8 @@ use Rattle.es3_grammar.proofs.Tables.{same_is, looked_up, infix_found}
 use Rattle.es3_grammar.proofs.Follow.{level_fits}
 use Rattle.es3_printed.specs.Tokens.{own_level, is_in, calls, is_number, wraps, wraps_object, wraps_maker, wrapped, join_sign, between, bare}
 use Rattle.es3_printed.proofs.Shown.{Shown}
-use Rattle.es3_printed.proofs.ShownExpressions.{shown_wrapped, shown_array, shown_object, shown_dot, shown_index, shown_call, shown_new_call, may_be_set, shown_postfix, shown_prefix_step, shown_prefix, made, may_stand_left, shown_join, shown_choice}
+use Rattle.es3_printed.proofs.ShownParts.{plain_is_target}
+use Rattle.es3_printed.proofs.ShownExpressions.{shown_wrapped, shown_array, shown_object, shown_dot, shown_index, shown_call, shown_new_call, shown_postfix, shown_prefix_step, shown_prefix, made, may_stand_left, shown_join, shown_choice}
 
 -- ---- where an expression may stand without parentheses
 
@@ -125,17 +126,17 @@ unfolding bare
 of_new x xs p q f b l h g = shown_new_call b l x xs _ _ h (shown_head f no_call (wraps_maker f x) x (λ e. let r = or_parts (calls x) (wraps f 15 x) e in ((unwrapped f 15 x r.1).0, r.0)) p) (q f)
 
 -- what may be assigned to
-set_fits : (x : t.Tree t.expr) → may_be_set x ≡ true → (15 ≤ own_level x) × (is_in x ≡ false)
+set_fits : (x : t.Tree t.expr) → plain_is_target x ≡ true → (15 ≤ own_level x) × (is_in x ≡ false)
 set_fits (t.name us) h = (omega arith, refl)
 set_fits (t.dot x us) h = (omega arith, refl)
 set_fits (t.index x y) h = (omega arith, refl)
 set_fits _ h = absurd cc
 
-pub of_postfix : (up : Bool) (x : t.Tree t.expr) → may_be_set x ≡ true → Prints x → Prints (t.step up false x)
+pub of_postfix : (up : Bool) (x : t.Tree t.expr) → plain_is_target x ≡ true → Prints x → Prints (t.step up false x)
 unfolding bare
 of_postfix up x s p f b l h g = shown_postfix b l up x _ h s (shown_part f b 15 x (omega arith) (flagged f b (t.step up false x) (omega arith) g) p)
 
-pub of_prefix_step : (up : Bool) (x : t.Tree t.expr) → may_be_set x ≡ true → Prints x → Prints (t.step up true x)
+pub of_prefix_step : (up : Bool) (x : t.Tree t.expr) → plain_is_target x ≡ true → Prints x → Prints (t.step up true x)
 unfolding bare
 of_prefix_step up x s p f b l h g =
     let k = set_fits x s in
