@@ -33,21 +33,25 @@ shown_text b l us le = last (text us) _ (λ a. record { tree = tree.text us; sam
 pub shown_name : (b : Bars) (l : ℕ) (us : List ℕ) → l ≤ 16 → Shown t.expr b l (t.name us) (name us ∷ [])
 shown_name b l us le = last (name us) _ (λ a. record { tree = tree.name (placed_word us a); same = refl; spelled = s_name b l (placed_word us a) le })
 
-pub shown_paren : (b : Bars) (l : ℕ) (x : t.Tree t.expr) (u : List Token) → l ≤ 16 → Shown t.expr free 0 x u → Shown t.expr b l x (open_paren ∷ (u ++ close_paren ∷ []))
+pub shown_paren : (b : Bars) (l : ℕ) (x : t.Tree t.expr) (u : List Token) → l ≤ 16 → Shown t.expr free 0 x u
+    → Shown t.expr b l x (open_paren ∷ (u ++ close_paren ∷ []))
 shown_paren b l x u le p = token open_paren _ _ (λ a. tokens u _ _ (λ k of_k. last close_paren _ (λ d.
     let f = p k of_k in
     record { tree = f.tree; same = f.same; spelled = s_paren b l a d f.tree k le f.spelled })))
 
-pub shown_wrapped : (b : Bars) (l : ℕ) (w : Bool) (x : t.Tree t.expr) (u : List Token) → l ≤ 16 → Shown t.expr free 0 x u → (w ≡ false → Shown t.expr b l x u) → Shown t.expr b l x (wrapped w u)
+pub shown_wrapped : (b : Bars) (l : ℕ) (w : Bool) (x : t.Tree t.expr) (u : List Token) → l ≤ 16 → Shown t.expr free 0 x u → (w ≡ false → Shown t.expr b l x u)
+    → Shown t.expr b l x (wrapped w u)
 shown_wrapped b l true x u le p q = shown_paren b l x u le p
 shown_wrapped b l false x u le p q = q refl
 
-pub shown_array : (b : Bars) (l : ℕ) (xs : t.Tree t.exprs) (u : List Token) → l ≤ 16 → Shown t.exprs free 0 xs u → Shown t.expr b l (t.array xs) (open_bracket ∷ (u ++ close_bracket ∷ []))
+pub shown_array : (b : Bars) (l : ℕ) (xs : t.Tree t.exprs) (u : List Token) → l ≤ 16 → Shown t.exprs free 0 xs u
+    → Shown t.expr b l (t.array xs) (open_bracket ∷ (u ++ close_bracket ∷ []))
 shown_array b l xs u le p = token open_bracket _ _ (λ a. tokens u _ _ (λ k of_k. last close_bracket _ (λ d.
     let f = p k of_k in
     record { tree = tree.array f.tree; same = ap t.array f.same; spelled = s_array b l a d f.tree k le f.spelled })))
 
-pub shown_object : (b : Bars) (l : ℕ) (fs : t.Tree t.fields) (u : List Token) → l ≤ 16 → Shown t.fields free 0 fs u → Shown t.expr b l (t.object fs) (open_brace ∷ (u ++ close_brace ∷ []))
+pub shown_object : (b : Bars) (l : ℕ) (fs : t.Tree t.fields) (u : List Token) → l ≤ 16 → Shown t.fields free 0 fs u
+    → Shown t.expr b l (t.object fs) (open_brace ∷ (u ++ close_brace ∷ []))
 shown_object b l fs u le p = token open_brace _ _ (λ a. tokens u _ _ (λ k of_k. last close_brace _ (λ d.
     let f = p k of_k in
     record { tree = tree.object f.tree; same = ap t.object f.same; spelled = s_object b l a d f.tree k le f.spelled })))
@@ -59,7 +63,8 @@ shown_function b l q u le p = token function_word _ _ (λ a k of_k.
 
 -- ---- 11.2
 
-pub shown_dot : (b : Bars) (l : ℕ) (x : t.Tree t.expr) (us : List ℕ) (u : List Token) → l ≤ 16 → Shown t.expr b 16 x u → Shown t.expr b l (t.dot x us) (u ++ point ∷ name us ∷ [])
+pub shown_dot : (b : Bars) (l : ℕ) (x : t.Tree t.expr) (us : List ℕ) (u : List Token) → l ≤ 16 → Shown t.expr b 16 x u
+    → Shown t.expr b l (t.dot x us) (u ++ point ∷ name us ∷ [])
 shown_dot b l x us u le p = tokens u _ _ (λ k of_k. token point _ _ (λ a. last (name us) _ (λ d.
     let f = p k of_k in
     record { tree = tree.dot f.tree (placed_word us d); same = ap (λ z. t.dot z us) f.same; spelled = s_dot b l a f.tree (placed_word us d) k le f.spelled })))
@@ -71,14 +76,16 @@ shown_index b l x y u w le p q = tokens u _ _ (λ k of_k. token open_bracket _ _
     let g = q v of_v in
     record { tree = tree.index f.tree g.tree; same = both t.index f.same g.same; spelled = s_index b l a d f.tree g.tree k v le f.spelled g.spelled }))))
 
-pub shown_call : (b : Bars) (l : ℕ) (x : t.Tree t.expr) (xs : t.Tree t.exprs) (u w : List Token) → l ≤ 16 → bars_call b ≡ false → Shown t.expr b 16 x u → Shown t.exprs free 0 xs w
+pub shown_call : (b : Bars) (l : ℕ) (x : t.Tree t.expr) (xs : t.Tree t.exprs) (u w : List Token) → l ≤ 16 → bars_call b ≡ false → Shown t.expr b 16 x u
+    → Shown t.exprs free 0 xs w
     → Shown t.expr b l (t.call x xs) (u ++ open_paren ∷ (w ++ close_paren ∷ []))
 shown_call b l x xs u w le may p q = tokens u _ _ (λ k of_k. token open_paren _ _ (λ a. tokens w _ _ (λ v of_v. last close_paren _ (λ d.
     let f = p k of_k in
     let g = q v of_v in
     record { tree = tree.call f.tree g.tree; same = both t.call f.same g.same; spelled = s_call b l a d f.tree g.tree k v le may f.spelled g.spelled }))))
 
-pub shown_new_call : (b : Bars) (l : ℕ) (x : t.Tree t.expr) (xs : t.Tree t.exprs) (u w : List Token) → l ≤ 16 → Shown t.expr no_call 16 x u → Shown t.exprs free 0 xs w
+pub shown_new_call : (b : Bars) (l : ℕ) (x : t.Tree t.expr) (xs : t.Tree t.exprs) (u w : List Token) → l ≤ 16 → Shown t.expr no_call 16 x u
+    → Shown t.exprs free 0 xs w
     → Shown t.expr b l (t.new x xs) (new_word ∷ (u ++ open_paren ∷ (w ++ close_paren ∷ [])))
 shown_new_call b l x xs u w le p q = token new_word _ _ (λ a. tokens u _ _ (λ k of_k. token open_paren _ _ (λ d. tokens w _ _ (λ v of_v. last close_paren _ (λ e.
     let f = p k of_k in
@@ -88,20 +95,23 @@ shown_new_call b l x xs u w le p q = token new_word _ _ (λ a. tokens u _ _ (λ 
 -- ---- 11.3 to 11.14
 
 -- 8.7, 11.13: whether an expression may be assigned to does not depend on places
-pub target_found : (x : E) (q : t.Tree t.expr) → plain t.expr x ≡ q → plain_is_target q ≡ true → is_target x ≡ true
+target_found : (x : E) (q : t.Tree t.expr) → plain t.expr x ≡ q → plain_is_target q ≡ true → is_target x ≡ true
 target_found x q e h = same_target x ∙ ap plain_is_target e ∙ h
 
-pub shown_postfix : (b : Bars) (l : ℕ) (up : Bool) (x : t.Tree t.expr) (u : List Token) → l ≤ 14 → plain_is_target x ≡ true → Shown t.expr b 15 x u → Shown t.expr b l (t.step up false x) (u ++ step_sign up ∷ [])
+pub shown_postfix : (b : Bars) (l : ℕ) (up : Bool) (x : t.Tree t.expr) (u : List Token) → l ≤ 14 → plain_is_target x ≡ true → Shown t.expr b 15 x u
+    → Shown t.expr b l (t.step up false x) (u ++ step_sign up ∷ [])
 shown_postfix b l up x u le h p = tokens u _ _ (λ k of_k. last (step_sign up) _ (λ a.
     let f = p k of_k in
     record { tree = tree.step up false f.tree; same = ap (t.step up false) f.same; spelled = s_postfix b l a up f.tree k le (target_found f.tree x f.same h) f.spelled }))
 
-pub shown_prefix_step : (b : Bars) (l : ℕ) (up : Bool) (x : t.Tree t.expr) (u : List Token) → l ≤ 13 → plain_is_target x ≡ true → Shown t.expr b 15 x u → Shown t.expr b l (t.step up true x) (step_sign up ∷ u)
+pub shown_prefix_step : (b : Bars) (l : ℕ) (up : Bool) (x : t.Tree t.expr) (u : List Token) → l ≤ 13 → plain_is_target x ≡ true → Shown t.expr b 15 x u
+    → Shown t.expr b l (t.step up true x) (step_sign up ∷ u)
 shown_prefix_step b l up x u le h p = token (step_sign up) _ _ (λ a k of_k.
     let f = p k of_k in
     record { tree = tree.step up true f.tree; same = ap (t.step up true) f.same; spelled = s_prefix_step b l a up f.tree k le (target_found f.tree x f.same h) f.spelled })
 
-pub shown_prefix : (b : Bars) (l : ℕ) (op : UnOp) (x : t.Tree t.expr) (u : List Token) → l ≤ 13 → Shown t.expr b 13 x u → Shown t.expr b l (t.unary op x) (unary_sign op ∷ u)
+pub shown_prefix : (b : Bars) (l : ℕ) (op : UnOp) (x : t.Tree t.expr) (u : List Token) → l ≤ 13 → Shown t.expr b 13 x u
+    → Shown t.expr b l (t.unary op x) (unary_sign op ∷ u)
 shown_prefix b l op x u le p = token (unary_sign op) _ _ (λ a k of_k.
     let f = p k of_k in
     record { tree = tree.unary op f.tree a; same = ap (t.unary op) f.same; spelled = s_prefix b l a op f.tree k le f.spelled })
@@ -126,7 +136,7 @@ abbrev pub may_stand_left : Join → t.Tree t.expr → Bool
 may_stand_left (an_assign op) x = plain_is_target x
 may_stand_left j x = true
 
-pub left_found : (j : Join) (x : E) (q : t.Tree t.expr) → plain t.expr x ≡ q → may_stand_left j q ≡ true → takes_left j x ≡ true
+left_found : (j : Join) (x : E) (q : t.Tree t.expr) → plain t.expr x ≡ q → may_stand_left j q ≡ true → takes_left j x ≡ true
 left_found (an_assign op) x q e h = target_found x q e h
 left_found _ x q e h = refl
 
@@ -134,7 +144,8 @@ pub left_kept : (j : Join) (x : E) → takes_left j x ≡ true → may_stand_lef
 left_kept (an_assign op) x h = sym (same_target x) ∙ h
 left_kept _ x h = refl
 
-pub shown_join : (b : Bars) (l : ℕ) (j : Join) (c : Token) (x y : t.Tree t.expr) (u w : List Token) → l ≤ own j → infix_of (bars_in b) c ≡ Some (joins j) → may_stand_left j x ≡ true
+pub shown_join : (b : Bars) (l : ℕ) (j : Join) (c : Token) (x y : t.Tree t.expr) (u w : List Token) → l ≤ own j → infix_of (bars_in b) c ≡ Some (joins j)
+    → may_stand_left j x ≡ true
     → Shown t.expr b (left j) x u → Shown t.expr b (right j) y w → Shown t.expr b l (made j x y) (u ++ c ∷ w)
 shown_join b l j c x y u w le is h p q = tokens u _ _ (λ k of_k. token c _ _ (λ a v of_v.
     let f = p k of_k in
@@ -168,7 +179,8 @@ shown_one_expr x u p = alone u _ (λ v of_v.
     let f = p v of_v in
     record { tree = tree.more_exprs f.tree tree.no_exprs; same = ap (λ z. t.more_exprs z t.no_exprs) f.same; spelled = s_one_expr f.tree v f.spelled })
 
-pub shown_more_exprs : (x : t.Tree t.expr) (xs : t.Tree t.exprs) (u w : List Token) → Shown t.expr free 1 x u → Shown t.exprs free 1 xs w → Shown t.exprs free 1 (t.more_exprs x xs) (u ++ comma ∷ w)
+pub shown_more_exprs : (x : t.Tree t.expr) (xs : t.Tree t.exprs) (u w : List Token) → Shown t.expr free 1 x u → Shown t.exprs free 1 xs w
+    → Shown t.exprs free 1 (t.more_exprs x xs) (u ++ comma ∷ w)
 shown_more_exprs x xs u w p q = tokens u _ _ (λ k of_k. token comma _ _ (λ a v of_v.
     let f = p k of_k in
     let g = q v of_v in
@@ -183,7 +195,8 @@ shown_some_fields fs u p v of_v =
     record { tree = f.tree; same = f.same; spelled = s_some_fields f.tree v f.spelled }
 
 -- 11.1.5: a key is printed as a text
-pub shown_one_field : (us : List ℕ) (x : t.Tree t.expr) (u : List Token) → Shown t.expr free 1 x u → Shown t.fields free 1 (t.more_fields us x t.no_fields) (text us ∷ colon ∷ (u ++ []))
+pub shown_one_field : (us : List ℕ) (x : t.Tree t.expr) (u : List Token) → Shown t.expr free 1 x u
+    → Shown t.fields free 1 (t.more_fields us x t.no_fields) (text us ∷ colon ∷ (u ++ []))
 shown_one_field us x u p = token (text us) _ _ (λ d. token colon _ _ (λ a. alone u _ (λ v of_v.
     let f = p v of_v in
     let n = placed_word us d in

@@ -44,7 +44,7 @@ BarsFit f no_call q = (15 ≤ own_level q) × (calls q ≡ false)
 abbrev pub Prints : t.Tree t.expr → Type 0
 Prints q = (f : Bool) (b : Bars) (l : ℕ) → l ≤ stands (own_level q) → BarsFit f b q → Shown t.expr b l q (bare t.expr f q)
 
-pub anywhere : (q : t.Tree t.expr) → Prints q → (f : Bool) → Shown t.expr free 0 q (bare t.expr f q)
+anywhere : (q : t.Tree t.expr) → Prints q → (f : Bool) → Shown t.expr free 0 q (bare t.expr f q)
 anywhere q p f = p f free 0 (omega arith) tt
 
 -- ---- parts of what has a level below 15
@@ -70,10 +70,13 @@ in_unwrapped true i e h = e
 in_unwrapped false i e h = absurd cc
 
 unwrapped : (f : Bool) (l : ℕ) (q : t.Tree t.expr) → wraps f l q ≡ false → (l ≤ own_level q) × (f ≡ true → is_in q ≡ false)
-unwrapped f l q e = let r = or_parts (nat_lt (own_level q) l) (f && is_in q) e in (ltb-false (own_level q) l r.0, in_unwrapped f (is_in q) r.1)
+unwrapped f l q e =
+    let r = or_parts (nat_lt (own_level q) l) (f && is_in q) e in
+    (ltb-false (own_level q) l r.0, in_unwrapped f (is_in q) r.1)
 
-pub shown_part : (f : Bool) (b : Bars) (l : ℕ) (q : t.Tree t.expr) → l ≤ 16 → Flagged f b → Prints q → Shown t.expr b l q (wrapped (wraps f l q) (bare t.expr f q))
-shown_part f b l q le h p = shown_wrapped b l (wraps f l q) q (bare t.expr f q) le (anywhere q p f) (λ e. let u = unwrapped f l q e in p f b l (above l (own_level q) u.0) (flag_fits f b q h u.1))
+shown_part : (f : Bool) (b : Bars) (l : ℕ) (q : t.Tree t.expr) → l ≤ 16 → Flagged f b → Prints q → Shown t.expr b l q (wrapped (wraps f l q) (bare t.expr f q))
+shown_part f b l q le h p = shown_wrapped b l (wraps f l q) q (bare t.expr f q) le (anywhere q p f) (λ e.
+    let u = unwrapped f l q e in p f b l (above l (own_level q) u.0) (flag_fits f b q h u.1))
 
 -- ---- objects, callees and what stands behind `new`
 
@@ -91,42 +94,47 @@ head_of f free q r c h = tt
 head_of f no_in q r c h = tt
 head_of f no_call q r c h = c h.1
 
-shown_head : (f : Bool) (b : Bars) (w : Bool) (q : t.Tree t.expr) → (w ≡ false → (15 ≤ own_level q) × HeadFits b q) → Prints q → Shown t.expr b 16 q (wrapped w (bare t.expr f q))
-shown_head f b w q h p = shown_wrapped b 16 w q (bare t.expr f q) (omega arith) (anywhere q p f) (λ e. let k = h e in p f b 16 (high (own_level q) k.0) (head_fits f b q k.0 k.1))
+shown_head : (f : Bool) (b : Bars) (w : Bool) (q : t.Tree t.expr) → (w ≡ false → (15 ≤ own_level q) × HeadFits b q) → Prints q
+    → Shown t.expr b 16 q (wrapped w (bare t.expr f q))
+shown_head f b w q h p = shown_wrapped b 16 w q (bare t.expr f q) (omega arith) (anywhere q p f) (λ e.
+    let k = h e in p f b 16 (high (own_level q) k.0) (head_fits f b q k.0 k.1))
 
 -- ---- a claim for each form
 
-pub of_array : (xs : t.Tree t.exprs) → ((f : Bool) → Shown t.exprs free 0 xs (bare t.exprs f xs)) → Prints (t.array xs)
+of_array : (xs : t.Tree t.exprs) → ((f : Bool) → Shown t.exprs free 0 xs (bare t.exprs f xs)) → Prints (t.array xs)
 unfolding bare
 of_array xs p f b l h g = shown_array b l xs _ h (p f)
 
-pub of_object : (fs : t.Tree t.fields) → ((f : Bool) → Shown t.fields free 0 fs (bare t.fields f fs)) → Prints (t.object fs)
+of_object : (fs : t.Tree t.fields) → ((f : Bool) → Shown t.fields free 0 fs (bare t.fields f fs)) → Prints (t.object fs)
 unfolding bare
 of_object fs p f b l h g = shown_object b l fs _ h (p f)
 
 object_high : (f : Bool) (q : t.Tree t.expr) → wraps_object f q ≡ false → 15 ≤ own_level q
 object_high f q e = (unwrapped f 15 q (or_parts (is_number q) (wraps f 15 q) e).1).0
 
-pub of_dot : (x : t.Tree t.expr) (us : List ℕ) → Prints x → Prints (t.dot x us)
+of_dot : (x : t.Tree t.expr) (us : List ℕ) → Prints x → Prints (t.dot x us)
 unfolding bare
 of_dot x us p f b l h g = shown_dot b l x us _ h (shown_head f b (wraps_object f x) x (λ e. (object_high f x e, head_of f b x (t.dot x us) (λ n. n) g)) p)
 
-pub of_index : (x y : t.Tree t.expr) → Prints x → Prints y → Prints (t.index x y)
+of_index : (x y : t.Tree t.expr) → Prints x → Prints y → Prints (t.index x y)
 unfolding bare
-of_index x y p q f b l h g = shown_index b l x y _ _ h (shown_head f b (wraps_object f x) x (λ e. (object_high f x e, head_of f b x (t.index x y) (λ n. n) g)) p) (shown_part f free 0 y (omega arith) tt q)
+of_index x y p q f b l h g = shown_index b l x y _ _ h (shown_head f b (wraps_object f x) x (λ e. (object_high f x e, head_of f b x (t.index x y) (λ n. n) g)) p)
+    (shown_part f free 0 y (omega arith) tt q)
 
 may_call : (f : Bool) (b : Bars) (x : t.Tree t.expr) (xs : t.Tree t.exprs) → BarsFit f b (t.call x xs) → bars_call b ≡ false
 may_call f free x xs g = refl
 may_call f no_in x xs g = refl
 may_call f no_call x xs g = absurd (true≢false g.1)
 
-pub of_call : (x : t.Tree t.expr) (xs : t.Tree t.exprs) → Prints x → ((f : Bool) → Shown t.exprs free 0 xs (bare t.exprs f xs)) → Prints (t.call x xs)
+of_call : (x : t.Tree t.expr) (xs : t.Tree t.exprs) → Prints x → ((f : Bool) → Shown t.exprs free 0 xs (bare t.exprs f xs)) → Prints (t.call x xs)
 unfolding bare
-of_call x xs p q f b l h g = shown_call b l x xs _ _ h (may_call f b x xs g) (shown_head f b (wraps f 15 x) x (λ e. ((unwrapped f 15 x e).0, head_of f b x (t.call x xs) (λ n. absurd (true≢false n)) g)) p) (q f)
+of_call x xs p q f b l h g = shown_call b l x xs _ _ h (may_call f b x xs g)
+    (shown_head f b (wraps f 15 x) x (λ e. ((unwrapped f 15 x e).0, head_of f b x (t.call x xs) (λ n. absurd (true≢false n)) g)) p) (q f)
 
-pub of_new : (x : t.Tree t.expr) (xs : t.Tree t.exprs) → Prints x → ((f : Bool) → Shown t.exprs free 0 xs (bare t.exprs f xs)) → Prints (t.new x xs)
+of_new : (x : t.Tree t.expr) (xs : t.Tree t.exprs) → Prints x → ((f : Bool) → Shown t.exprs free 0 xs (bare t.exprs f xs)) → Prints (t.new x xs)
 unfolding bare
-of_new x xs p q f b l h g = shown_new_call b l x xs _ _ h (shown_head f no_call (wraps_maker f x) x (λ e. let r = or_parts (calls x) (wraps f 15 x) e in ((unwrapped f 15 x r.1).0, r.0)) p) (q f)
+of_new x xs p q f b l h g = shown_new_call b l x xs _ _ h
+    (shown_head f no_call (wraps_maker f x) x (λ e. let r = or_parts (calls x) (wraps f 15 x) e in ((unwrapped f 15 x r.1).0, r.0)) p) (q f)
 
 -- what may be assigned to
 set_fits : (x : t.Tree t.expr) → plain_is_target x ≡ true → (15 ≤ own_level x) × (is_in x ≡ false)
@@ -135,26 +143,27 @@ set_fits (t.dot x us) h = (omega arith, refl)
 set_fits (t.index x y) h = (omega arith, refl)
 set_fits _ h = absurd cc
 
-pub of_postfix : (up : Bool) (x : t.Tree t.expr) → plain_is_target x ≡ true → Prints x → Prints (t.step up false x)
+of_postfix : (up : Bool) (x : t.Tree t.expr) → plain_is_target x ≡ true → Prints x → Prints (t.step up false x)
 unfolding bare
 of_postfix up x s p f b l h g = shown_postfix b l up x _ h s (shown_part f b 15 x (omega arith) (flagged f b (t.step up false x) (omega arith) g) p)
 
-pub of_prefix_step : (up : Bool) (x : t.Tree t.expr) → plain_is_target x ≡ true → Prints x → Prints (t.step up true x)
+of_prefix_step : (up : Bool) (x : t.Tree t.expr) → plain_is_target x ≡ true → Prints x → Prints (t.step up true x)
 unfolding bare
 of_prefix_step up x s p f b l h g =
     let k = set_fits x s in
     shown_prefix_step b l up x _ h s (shown_wrapped b 15 (wraps f 13 x) x _ (omega arith) (anywhere x p f) (λ e.
     p f b 15 (above 15 (own_level x) k.0) (flag_fits f b x (flagged f b (t.step up true x) (omega arith) g) (λ e. k.1))))
 
-pub of_prefix : (op : UnOp) (x : t.Tree t.expr) → Prints x → Prints (t.unary op x)
+of_prefix : (op : UnOp) (x : t.Tree t.expr) → Prints x → Prints (t.unary op x)
 unfolding bare
 of_prefix op x p f b l h g = shown_prefix b l op x _ h (shown_part f b 13 x (omega arith) (flagged f b (t.unary op x) (omega arith) g) p)
 
-pub of_choice : (x y z : t.Tree t.expr) → Prints x → Prints y → Prints z → Prints (t.choice x y z)
+of_choice : (x y z : t.Tree t.expr) → Prints x → Prints y → Prints z → Prints (t.choice x y z)
 unfolding bare
 of_choice x y z p q r f b l h g =
     let k = flagged f b (t.choice x y z) (omega arith) g in
-    shown_choice b l x y z _ _ _ h (shown_part f b 3 x (omega arith) k p) (shown_part f free 1 y (omega arith) tt q) (shown_part f b 1 z (omega arith) k r)
+    shown_choice b l x y z _ _ _ h (shown_part f b 3 x (omega arith) k p)
+    (shown_part f free 1 y (omega arith) tt q) (shown_part f b 1 z (omega arith) k r)
 
 -- ---- two parts with an operator between them
 
@@ -197,7 +206,7 @@ not_barred f free j x y g = and_right _ false refl
 not_barred f no_call j x y g = and_right _ false refl
 not_barred f no_in j x y g = and_left _ true (sym (in_sign j x y) ∙ elim g [ inl k ↦ k.1 | inr k ↦ absurd (omega (arith, level_made j x y, own_low j)) ])
 
-pub of_join : (j : Join) (x y : t.Tree t.expr) → look_up infixes (join_sign j) ≡ Some (joins j) → may_stand_left j x ≡ true → Prints x → Prints y → Prints (made j x y)
+of_join : (j : Join) (x y : t.Tree t.expr) → look_up infixes (join_sign j) ≡ Some (joins j) → may_stand_left j x ≡ true → Prints x → Prints y → Prints (made j x y)
 of_join j x y is s p q f b l h g =
     let m = own_low j in
     let k = flagged f b (made j x y) (rw (level_made j x y) (omega arith)) g in
@@ -209,7 +218,7 @@ abbrev signs : Token → Infix → Bool
 signs t (joins j) = same_token (join_sign j) t
 signs t i = true
 
-pub sign_of : (i : Bool) (c : Token) (j : Join) → infix_of i c ≡ Some (joins j) → look_up infixes (join_sign j) ≡ Some (joins j)
+sign_of : (i : Bool) (c : Token) (j : Join) → infix_of i c ≡ Some (joins j) → look_up infixes (join_sign j) ≡ Some (joins j)
 unfolding look_up
 sign_of i c j e = let f = infix_found i c (joins j) e in subst (λ z. look_up infixes z ≡ Some (joins j)) (same_is (join_sign j) c (looked_up signs infixes c (joins j) refl f)) f
 
@@ -294,7 +303,8 @@ expression_prints x p =
     shown_expression x _ (shown_wrapped free 0 (opens u) x u (omega arith) (anywhere x p false) (λ e. anywhere x p false)) (plain_start (opens u) u refl)
 
 -- 12.6: what a loop writes to may be assigned to
-loop_target_prints : (x : t.Tree t.expr) → plain_is_target x ≡ true → Prints x → Shown t.loop_target no_in 0 (t.loop_expr x) (bare t.loop_target false (t.loop_expr x))
+loop_target_prints : (x : t.Tree t.expr) → plain_is_target x ≡ true → Prints x
+    → Shown t.loop_target no_in 0 (t.loop_expr x) (bare t.loop_target false (t.loop_expr x))
 unfolding bare
 loop_target_prints x s p = let k = (set_fits x s).0 in shown_loop_expr x _ s (p false no_in 15 (above 15 (own_level x) k) (inr k))
 
@@ -363,7 +373,8 @@ prints _ _ _ _ _ (s_else a d e f x s r u v w p q o i) =
 prints _ _ _ _ _ (s_do a d e f c s x u v p q h) = shown_do (plain _ s) (plain _ x) _ _ (prints _ _ _ _ _ p) (anywhere (plain _ x) (prints _ _ _ _ _ q) false)
 prints _ _ _ _ _ (s_while a d e x s u v p q) = shown_while (plain _ x) (plain _ s) _ _ (anywhere (plain _ x) (prints _ _ _ _ _ p) false) (prints _ _ _ _ _ q)
 prints _ _ _ _ _ (s_for a d e f g r m n s u v w q h1 h2 h3 h4) =
-    shown_for (plain _ r) (plain _ m) (plain _ n) (plain _ s) _ _ _ _ (prints _ _ _ _ _ h1) (maybe_prints (plain _ m) (prints _ _ _ _ _ h2)) (maybe_prints (plain _ n) (prints _ _ _ _ _ h3)) (prints _ _ _ _ _ h4)
+    shown_for (plain _ r) (plain _ m) (plain _ n) (plain _ s) _ _ _ _ (prints _ _ _ _ _ h1)
+    (maybe_prints (plain _ m) (prints _ _ _ _ _ h2)) (maybe_prints (plain _ n) (prints _ _ _ _ _ h3)) (prints _ _ _ _ _ h4)
 prints _ _ _ _ _ (s_for_in a d e f r x s u v w h1 h2 h3) =
     shown_for_in (plain _ r) (plain _ x) (plain _ s) _ _ _ (prints _ _ _ _ _ h1) (anywhere (plain _ x) (prints _ _ _ _ _ h2) false) (prints _ _ _ _ _ h3)
 prints _ _ _ _ _ s_no_first = shown_no_first
@@ -396,5 +407,6 @@ prints _ _ _ _ _ (s_declaration a n ps body ss u v p q) =
 prints _ _ _ _ _ (s_script ss u p) = shown_script (plain _ ss) _ (prints _ _ _ _ _ p)
 
 -- the printed tokens of what some tokens spell, at any places, spell it apart from its places
-pub shown : (p : Placed t.program) (u : List Spot) → Spells t.program free 0 p u → Shown t.program free 0 (plain t.program p) (bare t.program false (plain t.program p))
+pub shown : (p : Placed t.program) (u : List Spot) → Spells t.program free 0 p u
+    → Shown t.program free 0 (plain t.program p) (bare t.program false (plain t.program p))
 shown p u d = prints t.program free 0 p u d
