@@ -153,7 +153,7 @@ shown_join b l j c x y u w le is h p q = tokens u _ _ (λ k of_k. token c _ _ (�
     record {
       tree = joined j f.tree g.tree;
       same = rw (made_of j f.tree g.tree) (both (made j) f.same g.same);
-      spelled = s_join b l a j c f.tree g.tree k v le is (left_found j f.tree x f.same h) f.spelled g.spelled
+      spelled = s_join b l a j c f.tree g.tree k v le is (left_found j f.tree x f.same h) f.spelled g.spelled;
     }))
 
 pub shown_choice : (b : Bars) (l : ℕ) (x y z : t.Tree t.expr) (u w r : List Token) → l ≤ 2 → Shown t.expr b 3 x u → Shown t.expr free 1 y w → Shown t.expr b 1 z r
