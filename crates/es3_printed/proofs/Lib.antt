@@ -1,3 +1,4 @@
 pub mod Shown
 pub mod ShownStatements
 pub mod ShownParts
+pub mod Written
