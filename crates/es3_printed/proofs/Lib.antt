@@ -3,3 +3,4 @@ pub mod ShownExpressions
 pub mod ShownParts
 pub mod ShownStatements
 pub mod ShownTrees
+pub mod Written

@@ -73,7 +73,8 @@ maybe_name (Some x) w P f = token (name x) w P (λ a. f (Some (placed_word x a))
 abbrev texts : List Word → List (List ℕ)
 texts ns = map (λ w. w.text) ns
 
-more : (n : Word) (a : ℕ) (y : List ℕ) (ys : List (List ℕ)) (ns : List Word) (u : List Spot) → Names ns u → texts ns ≡ y ∷ ys → Names (n ∷ ns) (spot_named n ∷ (comma, a) ∷ u)
+more : (n : Word) (a : ℕ) (y : List ℕ) (ys : List (List ℕ)) (ns : List Word) (u : List Spot) → Names ns u → texts ns ≡ y ∷ ys
+    → Names (n ∷ ns) (spot_named n ∷ (comma, a) ∷ u)
 more n a y ys [] u p e = cc
 more n a y ys (m ∷ ns) u p e = more_names a n m ns u p
 

@@ -8,7 +8,7 @@ use Rattle.es3_grammar.specs.Levels.{is_target}
 use Rattle.es3_grammar.specs.Grammar.{Bars, free, no_in, placed_word, Spells, s_one_item, s_more_items, s_no_value, s_value, s_no_first, s_first_var, s_first_expr, s_no_expr, s_some_expr, s_loop_var, s_loop_expr, s_no_cases, s_case, s_default, s_no_stmts, s_more_stmts, s_declaration, s_script, s_func}
 use Rattle.es3_grammar.specs.Plain.{plain}
 use Rattle.es3_printed.specs.Tokens.{named, listed}
-use Rattle.es3_printed.proofs.Shown.{Found, Shown, none, token, tokens, last, alone, closed, maybe_name, names, FoundFunction, function_at, both, all_three}
+use Rattle.es3_printed.proofs.Shown.{Found, Shown, none, token, tokens, last, alone, closed, maybe_name, names, function_at, both, all_three}
 
 -- 12.1 and 14: lists of statements, functions among them
 
@@ -22,20 +22,21 @@ shown_more_stmts l s ss u w p q = tokens u w _ (λ k of_k v of_v.
     let g = q v of_v in
     record { tree = tree.more_stmts f.tree g.tree; same = both t.more_stmts f.same g.same; spelled = s_more_stmts l f.tree g.tree k v f.spelled g.spelled })
 
-pub shown_declaration : (x : List ℕ) (ps : List (List ℕ)) (body ss : t.Tree t.stmts) (u w : List Token) → Shown t.func free 0 (t.fun (Some x) ps body) u → Shown t.stmts free 1 ss w
+pub shown_declaration : (x : List ℕ) (ps : List (List ℕ)) (body ss : t.Tree t.stmts) (u w : List Token)
+    → Shown t.func free 0 (t.fun (Some x) ps body) u → Shown t.stmts free 1 ss w
     → Shown t.stmts free 1 (t.more_stmts (t.declare (t.fun (Some x) ps body)) ss) (function_word ∷ (u ++ w))
-shown_declaration x ps body ss u w p q = token function_word _ _ (λ a. tokens u w _ (λ k of_k v of_v. go a k (function_at a _ k (p k of_k)) v (q v of_v)))
+shown_declaration x ps body ss u w p q = token function_word _ _ (λ a. tokens u w _ (λ k of_k v of_v.
+    let f = function_at a _ k (p k of_k) in
+    declared a k f.name f.parameters f.body f.same f.spelled v (q v of_v)))
   where
-    declared : (a : ℕ) (k : List Spot) (n : Option tree.Word) (ns : List tree.Word) (b : tree.Placed t.stmts) → plain t.func (tree.fun n ns b a) ≡ t.fun (Some x) ps body → Spells t.func free 0 (tree.fun n ns b a) k
+    declared : (a : ℕ) (k : List Spot) (n : Option tree.Word) (ns : List tree.Word) (b : tree.Placed t.stmts)
+        → plain t.func (tree.fun n ns b a) ≡ t.fun (Some x) ps body → Spells t.func free 0 (tree.fun n ns b a) k
         → (v : List Spot) → Found t.stmts free 1 ss v → Found t.stmts free 1 (t.more_stmts (t.declare (t.fun (Some x) ps body)) ss) ((function_word, a) ∷ (k ++ v))
     declared a k None ns b e s v g = absurd cc
     declared a k (Some n) ns b e s v g = record {
         tree = tree.more_stmts (tree.declare (tree.fun (Some n) ns b a)) g.tree;
         same = both t.more_stmts (ap t.declare e) g.same;
         spelled = s_declaration a n ns b g.tree k v s g.spelled }
-    go : (a : ℕ) (k : List Spot) → FoundFunction a (t.fun (Some x) ps body) k
-        → (v : List Spot) → Found t.stmts free 1 ss v → Found t.stmts free 1 (t.more_stmts (t.declare (t.fun (Some x) ps body)) ss) ((function_word, a) ∷ (k ++ v))
-    go a k f v g = declared a k f.name f.parameters f.body f.same f.spelled v g
 
 pub shown_func : (x : Option (List ℕ)) (ps : List (List ℕ)) (ss : t.Tree t.stmts) (w : List Token) → Shown t.stmts free 1 ss w
     → Shown t.func free 0 (t.fun x ps ss) (named x ++ open_paren ∷ (listed ps ++ close_paren ∷ open_brace ∷ (w ++ close_brace ∷ [])))
@@ -59,13 +60,15 @@ shown_one_item b x m u p = token (name x) _ _ (λ a. alone u _ (λ k of_k.
     let f = p k of_k in
     record { tree = tree.more_items n f.tree tree.no_items; same = ap (λ z. t.more_items x z t.no_items) f.same; spelled = s_one_item b n f.tree k f.spelled }))
 
-pub shown_more_items : (b : Bars) (x : List ℕ) (m : t.Tree t.maybe_expr) (is : t.Tree t.items) (u w : List Token) → Shown t.maybe_expr b 1 m u → Shown t.items b 0 is w
+pub shown_more_items : (b : Bars) (x : List ℕ) (m : t.Tree t.maybe_expr) (is : t.Tree t.items) (u w : List Token) → Shown t.maybe_expr b 1 m u
+    → Shown t.items b 0 is w
     → Shown t.items b 0 (t.more_items x m is) (name x ∷ (u ++ comma ∷ w))
 shown_more_items b x m is u w p q = token (name x) _ _ (λ a. tokens u _ _ (λ k of_k. token comma w _ (λ d v of_v.
     let n = placed_word x a in
     let f = p k of_k in
     let g = q v of_v in
-    record { tree = tree.more_items n f.tree g.tree; same = both (t.more_items x) f.same g.same; spelled = s_more_items b d n f.tree g.tree k v f.spelled g.spelled })))
+    record { tree = tree.more_items n f.tree g.tree;
+        same = both (t.more_items x) f.same g.same; spelled = s_more_items b d n f.tree g.tree k v f.spelled g.spelled })))
 
 pub shown_no_value : (b : Bars) → Shown t.maybe_expr b 1 t.no_expr []
 shown_no_value b = none _ record { tree = tree.no_expr; same = refl; spelled = s_no_value b }
@@ -135,14 +138,16 @@ same_target (tree.comma x y) = refl
 pub shown_loop_expr : (x : t.Tree t.expr) (u : List Token) → plain_is_target x ≡ true → Shown t.expr no_in 15 x u → Shown t.loop_target no_in 0 (t.loop_expr x) u
 shown_loop_expr x u h p k of_k =
     let f = p k of_k in
-    record { tree = tree.loop_expr f.tree; same = ap t.loop_expr f.same; spelled = s_loop_expr f.tree k (same_target f.tree ∙ ap plain_is_target f.same ∙ h) f.spelled }
+    record { tree = tree.loop_expr f.tree;
+        same = ap t.loop_expr f.same; spelled = s_loop_expr f.tree k (same_target f.tree ∙ ap plain_is_target f.same ∙ h) f.spelled }
 
 -- 12.11
 
 pub shown_no_cases : Shown t.cases free 0 t.no_cases []
 shown_no_cases = none _ record { tree = tree.no_cases; same = refl; spelled = s_no_cases }
 
-pub shown_case : (x : t.Tree t.expr) (ss : t.Tree t.stmts) (cs : t.Tree t.cases) (u v w : List Token) → Shown t.expr free 0 x u → Shown t.stmts free 0 ss v → Shown t.cases free 0 cs w
+pub shown_case : (x : t.Tree t.expr) (ss : t.Tree t.stmts) (cs : t.Tree t.cases) (u v w : List Token) → Shown t.expr free 0 x u
+    → Shown t.stmts free 0 ss v → Shown t.cases free 0 cs w
     → Shown t.cases free 0 (t.more_cases (t.some_expr x) ss cs) (case_word ∷ ((u ++ colon ∷ []) ++ (v ++ w)))
 shown_case x ss cs u v w p q r = token case_word _ _ (λ a. closed u colon _ _ (λ i of_i d. tokens v w _ (λ j of_j k of_k.
     let f = p i of_i in
@@ -157,4 +162,5 @@ pub shown_default : (ss : t.Tree t.stmts) (cs : t.Tree t.cases) (v w : List Toke
 shown_default ss cs v w p q = token default_word _ _ (λ a. token colon _ _ (λ d. tokens v w _ (λ j of_j k of_k.
     let f = p j of_j in
     let g = q k of_k in
-    record { tree = tree.more_cases tree.no_expr f.tree g.tree; same = both (t.more_cases t.no_expr) f.same g.same; spelled = s_default a d f.tree g.tree j k f.spelled g.spelled })))
+    record { tree = tree.more_cases tree.no_expr f.tree g.tree;
+        same = both (t.more_cases t.no_expr) f.same g.same; spelled = s_default a d f.tree g.tree j k f.spelled g.spelled })))

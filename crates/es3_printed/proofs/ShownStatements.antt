@@ -46,7 +46,8 @@ pub shown_if : (x : t.Tree t.expr) (s : t.Tree t.stmt) (u v : List Token) → Sh
 shown_if x s u v p q = token if_word _ _ (λ a. token open_paren _ _ (λ d. tokens u _ _ (λ k of_k. token close_paren _ _ (λ e. alone v _ (λ j of_j.
     let f = p k of_k in
     let g = q j of_j in
-    record { tree = tree.branch f.tree g.tree tree.no_stmt; same = both (λ y z. t.branch y z t.no_stmt) f.same g.same; spelled = s_if a d e f.tree g.tree k j f.spelled g.spelled })))))
+    record { tree = tree.branch f.tree g.tree tree.no_stmt;
+        same = both (λ y z. t.branch y z t.no_stmt) f.same g.same; spelled = s_if a d e f.tree g.tree k j f.spelled g.spelled })))))
 
 -- the statement ends in an `if` without `else`
 abbrev pub plain_is_open : t.Tree t.stmt → Bool
@@ -80,9 +81,11 @@ same_open (tree.throw x) = refl
 same_open (tree.try ss h l) = refl
 same_open (tree.declare f) = refl
 
-pub shown_else : (x : t.Tree t.expr) (s r : t.Tree t.stmt) (u v w : List Token) → Shown t.expr free 0 x u → Shown t.stmt free 0 s v → plain_is_open s ≡ false → Shown t.stmt free 0 r w
+pub shown_else : (x : t.Tree t.expr) (s r : t.Tree t.stmt) (u v w : List Token) → Shown t.expr free 0 x u → Shown t.stmt free 0 s v
+    → plain_is_open s ≡ false → Shown t.stmt free 0 r w
     → Shown t.stmt free 0 (t.branch x s (t.some_stmt r)) (if_word ∷ open_paren ∷ (u ++ close_paren ∷ (v ++ else_word ∷ w)))
-shown_else x s r u v w p q o i = token if_word _ _ (λ a. token open_paren _ _ (λ d. tokens u _ _ (λ k of_k. token close_paren _ _ (λ e. tokens v _ _ (λ j of_j. token else_word w _ (λ b l of_l.
+shown_else x s r u v w p q o i =
+    token if_word _ _ (λ a. token open_paren _ _ (λ d. tokens u _ _ (λ k of_k. token close_paren _ _ (λ e. tokens v _ _ (λ j of_j. token else_word w _ (λ b l of_l.
     let f = p k of_k in
     let g = q j of_j in
     let h = i l of_l in
@@ -95,10 +98,12 @@ shown_else x s r u v w p q o i = token if_word _ _ (λ a. token open_paren _ _ (
 pub shown_do : (s : t.Tree t.stmt) (x : t.Tree t.expr) (u v : List Token) → Shown t.stmt free 0 s u → Shown t.expr free 0 x v
     → Shown t.stmt free 0 (t.do_loop s x) (do_word ∷ (u ++ while_word ∷ open_paren ∷ (v ++ close_paren ∷ semicolon ∷ [])))
 shown_do s x u v p q =
-    token do_word _ _ (λ a. tokens u _ _ (λ k of_k. token while_word _ _ (λ d. token open_paren _ _ (λ e. tokens v _ _ (λ j of_j. token close_paren _ _ (λ b. last semicolon _ (λ c.
+    token do_word _ _ (λ a. tokens u _ _ (λ k of_k. token while_word _ _ (λ d. token open_paren _ _ (λ e. tokens v _ _ (λ j of_j.
+    token close_paren _ _ (λ b. last semicolon _ (λ c.
     let f = p k of_k in
     let g = q j of_j in
-    record { tree = tree.do_loop f.tree g.tree; same = both t.do_loop f.same g.same; spelled = s_do a d e b (semicolon, c) f.tree g.tree k j f.spelled g.spelled refl })))))))
+    record { tree = tree.do_loop f.tree g.tree;
+        same = both t.do_loop f.same g.same; spelled = s_do a d e b (semicolon, c) f.tree g.tree k j f.spelled g.spelled refl })))))))
 
 pub shown_while : (x : t.Tree t.expr) (s : t.Tree t.stmt) (u w : List Token) → Shown t.expr free 0 x u → Shown t.stmt free 0 s w
     → Shown t.stmt free 0 (t.while_loop x s) (while_word ∷ open_paren ∷ (u ++ close_paren ∷ w))
@@ -122,7 +127,8 @@ shown_for r m n s u v w z of_r of_m of_n of_s =
         same = all_four t.for_loop f.same g.same h.same y.same;
         spelled = s_for a d e b c f.tree g.tree h.tree y.tree i j k l f.spelled g.spelled h.spelled y.spelled }))))))))
 
-pub shown_for_in : (r : t.Tree t.loop_target) (x : t.Tree t.expr) (s : t.Tree t.stmt) (u v w : List Token) → Shown t.loop_target no_in 0 r u → Shown t.expr free 0 x v → Shown t.stmt free 0 s w
+pub shown_for_in : (r : t.Tree t.loop_target) (x : t.Tree t.expr) (s : t.Tree t.stmt) (u v w : List Token) → Shown t.loop_target no_in 0 r u
+    → Shown t.expr free 0 x v → Shown t.stmt free 0 s w
     → Shown t.stmt free 0 (t.for_in r x s) (for_word ∷ open_paren ∷ (u ++ in_word ∷ (v ++ close_paren ∷ w)))
 shown_for_in r x s u v w of_r of_x of_s =
     token for_word _ _ (λ a. token open_paren _ _ (λ d. tokens u _ _ (λ i of_i. token in_word _ _ (λ e. tokens v _ _ (λ j of_j. token close_paren w _ (λ c k of_k.
@@ -143,7 +149,8 @@ pub shown_break : (x : Option (List ℕ)) → Shown t.stmt free 0 (t.break x) (b
 shown_break x = token break_word _ _ (λ a. maybe_name x _ _ (λ n of_n. last semicolon _ (λ c.
     record { tree = tree.break n a; same = ap t.break of_n; spelled = s_break a (semicolon, c) n refl })))
 
-pub shown_return : (m : t.Tree t.maybe_expr) (u : List Token) → Shown t.maybe_expr free 0 m u → Shown t.stmt free 0 (t.return m) (return_word ∷ (u ++ semicolon ∷ []))
+pub shown_return : (m : t.Tree t.maybe_expr) (u : List Token) → Shown t.maybe_expr free 0 m u
+    → Shown t.stmt free 0 (t.return m) (return_word ∷ (u ++ semicolon ∷ []))
 shown_return m u p = token return_word _ _ (λ a. tokens u _ _ (λ k of_k. last semicolon _ (λ c.
     let f = p k of_k in
     record { tree = tree.return f.tree a; same = ap t.return f.same; spelled = s_return a (semicolon, c) f.tree k f.spelled refl })))
@@ -180,7 +187,8 @@ same_default (tree.more_cases (tree.some_expr x) ss cs) = same_default cs
 pub shown_switch : (x : t.Tree t.expr) (cs : t.Tree t.cases) (u v : List Token) → Shown t.expr free 0 x u → Shown t.cases free 0 cs v → plain_one_default cs ≡ true
     → Shown t.stmt free 0 (t.switch x cs) (switch_word ∷ open_paren ∷ (u ++ close_paren ∷ open_brace ∷ (v ++ close_brace ∷ [])))
 shown_switch x cs u v p q o =
-    token switch_word _ _ (λ a. token open_paren _ _ (λ d. tokens u _ _ (λ k of_k. token close_paren _ _ (λ e. token open_brace _ _ (λ b. tokens v _ _ (λ j of_j. last close_brace _ (λ c.
+    token switch_word _ _ (λ a. token open_paren _ _ (λ d. tokens u _ _ (λ k of_k. token close_paren _ _ (λ e. token open_brace _ _ (λ b.
+    tokens v _ _ (λ j of_j. last close_brace _ (λ c.
     let f = p k of_k in
     let g = q j of_j in
     record { tree = tree.switch f.tree g.tree;
@@ -227,7 +235,8 @@ shown_finally ss ls u v p q =
         same = both (λ m o. t.try m t.no_handler (t.some_block o)) f.same g.same;
         spelled = s_finally a d e b c h f.tree g.tree k j f.spelled g.spelled }))))))))
 
-pub shown_catch_finally : (ss : t.Tree t.stmts) (x : List ℕ) (hs ls : t.Tree t.stmts) (u v w : List Token) → Shown t.stmts free 0 ss u → Shown t.stmts free 0 hs v → Shown t.stmts free 0 ls w
+pub shown_catch_finally : (ss : t.Tree t.stmts) (x : List ℕ) (hs ls : t.Tree t.stmts) (u v w : List Token) → Shown t.stmts free 0 ss u
+    → Shown t.stmts free 0 hs v → Shown t.stmts free 0 ls w
     → Shown t.stmt free 0 (t.try ss (t.some_handler x hs) (t.some_block ls))
       (try_word ∷ open_brace ∷ (u ++ close_brace ∷ catch_word ∷ open_paren ∷ name x ∷ close_paren ∷ open_brace
       ∷ ((v ++ close_brace ∷ []) ++ finally_word ∷ open_brace ∷ (w ++ close_brace ∷ []))))
