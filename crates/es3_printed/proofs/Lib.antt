@@ -1,2 +1,4 @@
 pub mod Shown
 pub mod ShownStatements
+pub mod Sides
+pub mod SidesOfTrees
