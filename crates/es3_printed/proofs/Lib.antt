@@ -5,3 +5,4 @@ pub mod SidesOfTrees
 pub mod Quiet
 pub mod TokenTexts
 pub mod SafeText
+pub mod Marks
