@@ -1,17 +1,15 @@
 -- The text of tokens is cut into them: a space stands where it is asked, and each token stays before what follows it.
-use Rattle.std.proofs.Common.{◌≡◌, ℕ, ℤ, ◌<◌, ◌≤◌, Bool, true, false, cond, List, [], ◌∷◌, ◌++◌, Ok, Err, map, length, refl, sym, ap, subst, ◌∙◌, arith, nat_lt, nat_eq}
+use Rattle.std.proofs.Common.{◌≡◌, ℕ, ℤ, ◌<◌, ◌≤◌, Bool, true, false, List, [], ◌∷◌, ◌++◌, Ok, Err, map, length, refl, sym, ap, subst, ◌∙◌, append-nil, append_assoc, arith, nat_lt, nat_eq}
 use Rattle.std.specs.Prelude.{not, ◌&&◌, ◌||◌, Option, Some, None, slice_get, if◌then◌else◌}
 use Rattle.std.specs.List.{All, list_all}
-use Rattle.std.proofs.Common.{append-nil, append_assoc}
 use Rattle.std.proofs.lemmas.List.Elements.{All-nil, All-cons, All-head, All-tail}
-use Rattle.std.proofs.lemmas.Bool.{and_parts, and_from, and_right, or_parts, or_from, or_cases, cond_both, agree_below, agree_below_at, ltb-true, lt-ltb, not-true}
+use Rattle.std.proofs.lemmas.Bool.{and_parts, and_from, and_right, or_parts, or_from, agree_below, agree_below_at, ltb-true, lt-ltb, not-true}
 use Rattle.std.proofs.lemmas.Bool.Decides.{nat_tests}
 use Rattle.caja_units.specs.Number.{number_text}
 use Rattle.es3_tree.specs.Token.{Token, name, word, punct, num, text, words, puncts}
 use Rattle.es3_tokens.specs.Characters.{is_part, is_letter, is_digit, begins}
 use Rattle.es3_tokens.specs.Tokens as tokens
 use Rattle.es3_tokens.specs.Tokens.{entry, is_name, wants_operand}
-use Rattle.es3_tokens.specs.Refusals.{goes_on}
 use Rattle.es3_tokens.specs.Steps.{is_sign}
 use Rattle.es3_tokens.specs.Back.{spelling, IsToken, is_apart, stays, spaced, spelled, AllStay, tokens_in}
 use Rattle.es3_tokens.specs.Cut as cut
@@ -19,9 +17,9 @@ use Rattle.es3_tokens.proofs.BackTokens.{back_tokens}
 use Rattle.es3_tokens.proofs.BackSources.{cut_ascii}
 use Rattle.es3_printed.specs.Text.{runs_together, last_of, gap_between, token_text, then_text, onto}
 use Rattle.es3_printed.specs.Safe.{is_markup, is_safe, is_word, IsWord, AreWords}
-use Rattle.es3_printed.proofs.Sides.{Behind, an_operator, a_point, a_number, an_end, after, may, may_punct, only_joins, is_settled, sides}
+use Rattle.es3_printed.proofs.Sides.{Behind, an_operator, a_point, a_number, an_end, after, may, may_punct, only_joins, sides}
 use Rattle.es3_printed.proofs.Quiet.{is_tame, is_filled, is_such, IsParts, all_such, first_such, last_such, decimal_parts}
-use Rattle.es3_printed.proofs.TokenTexts.{IsText, text_of, name_text, word_parts, table_word, implies, implied}
+use Rattle.es3_printed.proofs.TokenTexts.{text_of, name_text, word_parts, table_word, implies, implied}
 use Rattle.es3_printed.proofs.SafeText.{last_of-then, safe_text}
 
 -- whether a space is asked between two characters
@@ -62,7 +60,9 @@ abbrev row : ℕ → Bool
 row n = agree_below (stays_here n) (λ _. true) 128
 
 stays_before : (n d : ℕ) → n < 48 → d < 128 → clear n d ≡ true → both_stay n (d ∷ []) ≡ true
-stays_before n d lt low h = implied (clear n d) (both_stay n (d ∷ [])) (agree_below_at (stays_here n) (λ _. true) 128 d (agree_below_at row (λ _. true) 48 n refl lt) low) h
+stays_before n d lt low h =
+    implied (clear n d) (both_stay n (d ∷ []))
+    (agree_below_at (stays_here n) (λ _. true) 128 d (agree_below_at row (λ _. true) 48 n refl lt) low) h
 
 stays_last : (n : ℕ) → n < 48 → both_stay n [] ≡ true
 stays_last n lt = agree_below_at (λ n. both_stay n []) (λ _. true) 48 n refl lt
@@ -75,13 +75,14 @@ one_stays a n r m h =
     let q = and_parts (is_sign false (w ++ r)) (implies (not (only_joins n)) (is_sign true (w ++ r))) p.1 in
     and_from (is_apart w r) (is_sign (wants a) (w ++ r)) p.0 (signs a m q.0 q.1)
   where
-    signs : (a : Behind) → may_punct a n ≡ true → is_sign false (entry puncts n ++ r) ≡ true → implies (not (only_joins n)) (is_sign true (entry puncts n ++ r)) ≡ true → is_sign (wants a) (entry puncts n ++ r) ≡ true
+    signs : (a : Behind) → may_punct a n ≡ true → is_sign false (entry puncts n ++ r) ≡ true
+        → implies (not (only_joins n)) (is_sign true (entry puncts n ++ r)) ≡ true → is_sign (wants a) (entry puncts n ++ r) ≡ true
     signs an_operator m p q = implied (not (only_joins n)) (is_sign true (entry puncts n ++ r)) q m
     signs a_point m p q = absurd cc
     signs a_number m p q = p
     signs an_end m p q = p
 
--- what stands behind a token: no character where no space is asked and it may not stand there
+-- what follows begins with a character that may stand there, and before which no space is asked
 record IsNext (l : Option ℕ) (b : Behind) (r : List ℕ) : Type 0 where
   first : ℕ
   rest : List ℕ
@@ -137,13 +138,19 @@ number_parts n h = subst (λ z. IsParts (number_text z)) (sym h.1) (decimal_part
 stays_there : (a : Behind) (t : Token) (r : List ℕ) → IsToken t → may a t ≡ true → IsNext (last_of (token_text t)) (after t) r → stays (wants a) t r ≡ true
 stays_there a t r h m x = subst (λ r. stays (wants a) t r ≡ true) (sym x.is) (before t h m x.apart x.near)
   where
-    before : (t : Token) → IsToken t → may a t ≡ true → asked (last_of (token_text t)) (Some x.first) ≡ false → near (after t) x.first ≡ true → stays (wants a) t (x.first ∷ x.rest) ≡ true
-    before (name us) h m p q = ap not (no_part us x.first (word_parts us (word_of (name us) h)) (ap (λ s. asked (last_of s) (Some x.first)) (sym (written (name us) h)) ∙ p))
+    before : (t : Token) → IsToken t → may a t ≡ true → asked (last_of (token_text t)) (Some x.first) ≡ false
+        → near (after t) x.first ≡ true → stays (wants a) t (x.first ∷ x.rest) ≡ true
+    before (name us) h m p q =
+        ap not (no_part us x.first (word_parts us (word_of (name us) h))
+        (ap (λ s. asked (last_of s) (Some x.first)) (sym (written (name us) h)) ∙ p))
     before (word n) h m p q = ap not (no_part (entry words n) x.first (table_word n (lt-ltb n 59 h)) p)
     before (punct n) h m p q =
         ap (λ b. is_apart (entry puncts n) (x.first ∷ []) && b) (sign_front (wants a) (entry puncts n) x.rest x.first (text_of (punct n) a m tt).filled)
-        ∙ one_stays a n (x.first ∷ []) (and_parts (nat_lt n 48) (may_punct a n) m).1 (stays_before n x.first h x.ascii (and_from (near (after (punct n)) x.first) _ q (ap not p)))
-    before (num n) h m p q = ap not (or_from (nat_eq x.first 46) (is_part x.first) (not-true (nat_eq x.first 46) q) (no_part (number_text n) x.first (number_parts n h) p))
+        ∙ one_stays a n (x.first ∷ []) (and_parts (nat_lt n 48) (may_punct a n) m).1
+        (stays_before n x.first h x.ascii (and_from (near (after (punct n)) x.first) _ q (ap not p)))
+    before (num n) h m p q =
+        ap not (or_from (nat_eq x.first 46) (is_part x.first) (not-true (nat_eq x.first 46) q)
+        (no_part (number_text n) x.first (number_parts n h) p))
     before (text us) h m p q = refl
 
 stays_at_end : (a : Behind) (t : Token) → IsToken t → may a t ≡ true → stays (wants a) t [] ≡ true
@@ -170,7 +177,9 @@ only_point n = implies (not (nat_eq n 6)) (begins no_point (entry puncts n))
 behind_number : (u : Token) → IsToken u → may a_number u ≡ true → begins no_point (spelling u) ≡ true
 behind_number (name us) h m = parts_no_point us (word_parts us (word_of (name us) h))
 behind_number (word n) h m = parts_no_point (entry words n) (table_word n (lt-ltb n 59 h))
-behind_number (punct n) h m = implied (not (nat_eq n 6)) (begins no_point (entry puncts n)) (agree_below_at only_point (λ _. true) 48 n refl h) (and_parts (nat_lt n 48) (not (nat_eq n 6)) m).1
+behind_number (punct n) h m =
+    implied (not (nat_eq n 6)) (begins no_point (entry puncts n))
+    (agree_below_at only_point (λ _. true) 48 n refl h) (and_parts (nat_lt n 48) (not (nat_eq n 6)) m).1
 behind_number (num n) h m = parts_no_point (number_text n) (number_parts n h)
 behind_number (text us) h m = refl
 
@@ -179,6 +188,7 @@ behind_point (name us) h m = letter us h.0
   where
     no_digit : (c : ℕ) → is_letter c ≡ true → not (is_digit c) ≡ true
     no_digit c h = grind (arith, nat_tests)
+
     letter : (us : List ℕ) → is_name us ≡ true → begins (near a_point) us ≡ true
     letter [] h = absurd cc
     letter (c ∷ s) h = no_digit c (and_parts (is_letter c) (list_all is_part s) h).0
@@ -203,8 +213,10 @@ asked_space (Some a) = no_space (is_part a) (nat_eq a 43) (nat_eq a 45) (nat_eq 
   where
     no_space : (p q r s u : Bool) → (p && false || q && false || r && false || s && false || u && false) ≡ false
     no_space p q r s u =
-        or_from (p && false || q && false || r && false || s && false) (u && false) (or_from (p && false || q && false || r && false) (s && false)
-        (or_from (p && false || q && false) (r && false) (or_from (p && false) (q && false) (and_right p false refl) (and_right q false refl)) (and_right r false refl)) (and_right s false refl)) (and_right u false refl)
+        or_from (p && false || q && false || r && false || s && false) (u && false)
+        (or_from (p && false || q && false || r && false) (s && false)
+        (or_from (p && false || q && false) (r && false)
+        (or_from (p && false) (q && false) (and_right p false refl) (and_right q false refl)) (and_right r false refl)) (and_right s false refl)) (and_right u false refl)
 
 near_space : (b : Behind) → near b 32 ≡ true
 near_space an_operator = refl
@@ -216,14 +228,16 @@ first_ascii : (d : ℕ) (w : List ℕ) → is_safe (d ∷ w) ≡ true → d < 12
 first_ascii d [] a = ltb-true d 128 a
 first_ascii d (e ∷ w) a = ltb-true d 128 (and_parts (nat_lt d 128) _ (and_parts (nat_lt d 128 && _) (is_safe (e ∷ w)) a).0).0
 
-next_of : (l : Option ℕ) (b : Behind) (m : Bool) (w s : List ℕ) → is_safe w ≡ true → is_filled w ≡ true → begins (near b) w ≡ true → asked l (slice_get w 0) ≡ m → IsNext l b (spaced m (w ++ s))
+next_of : (l : Option ℕ) (b : Behind) (m : Bool) (w s : List ℕ) → is_safe w ≡ true → is_filled w ≡ true → begins (near b) w ≡ true
+    → asked l (slice_get w 0) ≡ m → IsNext l b (spaced m (w ++ s))
 next_of l b m [] s a f n e = absurd cc
 next_of l b true (d ∷ w) s a f n e = record { first = 32; rest = d ∷ (w ++ s); is = refl; ascii = omega arith; near = near_space b; apart = asked_space l }
 next_of l b false (d ∷ w) s a f n e = record { first = d; rest = w ++ s; is = refl; ascii = first_ascii d w a; near = n; apart = e }
 
 -- each token stays before what follows it
 
-stays_then : (a : Behind) (t : Token) (ts : List Token) → sides a (t ∷ ts) ≡ true → All IsToken (t ∷ ts) → stays (wants a) t (spelled (marked (last_of (token_text t)) ts)) ≡ true
+stays_then : (a : Behind) (t : Token) (ts : List Token) → sides a (t ∷ ts) ≡ true → All IsToken (t ∷ ts)
+    → stays (wants a) t (spelled (marked (last_of (token_text t)) ts)) ≡ true
 stays_then a t [] s h = stays_at_end a t (All-head IsToken t [] h) (and_parts (may a t) true s).0
 stays_then a t (u ∷ us) s h =
     let l = last_of (token_text t) in
@@ -247,9 +261,11 @@ all_stay : (ts : List Token) (a : Behind) (l : Option ℕ) → sides a ts ≡ tr
 all_stay [] a l s h = tt
 all_stay (t ∷ ts) a l s h =
     let i = All-head IsToken t ts h in
-    let k = last_of (token_text t) in
-    (i, stays_then a t ts s h,
-    subst (λ o. AllStay o (marked k ts)) (wants_after t i) (all_stay ts (after t) k (and_parts (may a t) (sides (after t) ts) s).1 (All-tail IsToken t ts h)))
+    let k = last_of (token_text t) in (
+      i,
+      stays_then a t ts s h,
+      subst (λ o. AllStay o (marked k ts)) (wants_after t i) (all_stay ts (after t) k (and_parts (may a t) (sides (after t) ts) s).1 (All-tail IsToken t ts h)),
+    )
 
 -- the text is what is spelled with these marks
 
@@ -288,7 +304,9 @@ all_words (t ∷ ts) h = All-cons IsWord t ts (word_of t (All-head IsToken t ts 
 safe_ascii : (s : List ℕ) → is_safe s ≡ true → All (λ b. b < 128) s
 safe_ascii [] h = All-nil (λ b. b < 128)
 safe_ascii (c ∷ []) h = All-cons (λ b. b < 128) c [] (first_ascii c [] h) (All-nil (λ b. b < 128))
-safe_ascii (c ∷ d ∷ s) h = All-cons (λ b. b < 128) c (d ∷ s) (first_ascii c (d ∷ s) h) (safe_ascii (d ∷ s) (and_parts (nat_lt c 128 && not (is_markup c d)) (is_safe (d ∷ s)) h).1)
+safe_ascii (c ∷ d ∷ s) h =
+    All-cons (λ b. b < 128) c (d ∷ s) (first_ascii c (d ∷ s) h)
+    (safe_ascii (d ∷ s) (and_parts (nat_lt c 128 && not (is_markup c d)) (is_safe (d ∷ s)) h).1)
 
 -- the tokens that a text is cut into, at their places, within any limit that it doesn't pass
 pub record IsCutBack (ts : List Token) : Type 0 where
@@ -303,6 +321,7 @@ cut_back ts s h = go (cut.cut_from 0 0 false true (onto [] ts)) refl told
     told =
         ap (λ r. tokens_in (cut.cut_from 0 0 false true r)) (onto_spelled ts [] an_operator s h)
         ∙ back_tokens 0 false true (marked None ts) (all_stay ts an_operator None s h) ∙ ap (λ us. Some us) (unmarked ts None)
+
     go : (a : cut.Answer) → cut.cut_from 0 0 false true (onto [] ts) ≡ a → tokens_in a ≡ Some ts → IsCutBack ts
     go (Ok us) e f = record {
       by = us;

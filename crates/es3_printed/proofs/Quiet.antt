@@ -1,12 +1,12 @@
 -- Texts whose characters neither begin nor end markup: words, numbers and literals.
-use Rattle.std.proofs.Common.{◌≡◌, ℕ, zero, suc, ◌+◌, ◌<◌, ◌%◌, ◌/◌, ℤ, pos, negsuc, Bool, true, false, List, [], ◌∷◌, ◌++◌, refl, ap, ◌∙◌, arith, nat_lt, nat_le, nat_eq}
+use Rattle.std.proofs.Common.{◌≡◌, ℕ, zero, suc, ◌+◌, ◌<◌, ◌%◌, ◌/◌, ℤ, pos, negsuc, Bool, true, false, List, [], ◌∷◌, refl, arith, nat_lt, nat_eq}
 use Rattle.std.specs.Prelude.{not, ◌&&◌, ◌||◌, Option, Some, None}
-use Rattle.std.specs.List.{All, list_all, flat_map}
+use Rattle.std.specs.List.{All, list_all}
 use Rattle.std.specs.Fmt.{digits, digits_onto, digit_glyph}
 use Rattle.std.proofs.lemmas.List.Elements.{All-head, All-tail}
-use Rattle.std.proofs.lemmas.Bool.{and_parts, and_from, or_from, and_left, and_right, not-true, cond_both}
+use Rattle.std.proofs.lemmas.Bool.{and_parts, and_from, cond_both}
 use Rattle.std.proofs.lemmas.Bool.Decides.{nat_tests}
-use Rattle.caja_units.specs.Literal.{literal, unit_text, IsLiteralByte}
+use Rattle.caja_units.specs.Literal.{literal, IsLiteralByte}
 use Rattle.caja_units.specs.Number.{number_text}
 use Rattle.caja_units.proofs.Literals.{literal-bytes}
 use Rattle.es3_tokens.specs.Characters.{is_part, begins}
@@ -17,7 +17,7 @@ use Rattle.es3_printed.specs.Safe.{is_markup, is_safe}
 abbrev pub is_quiet : ℕ → Bool
 is_quiet c = nat_lt c 128 && not (nat_eq c 60 || nat_eq c 62)
 
--- one that ends no punctuator, and goes on from none but `+` and `-`
+-- one with which no punctuator goes on but `++` and `--`, no comment begins behind a `/`, and no markup behind a `<` but `<!`
 abbrev pub is_tame : ℕ → Bool
 is_tame c = not (nat_eq c 47 || nat_eq c 42 || nat_eq c 60 || nat_eq c 62 || nat_eq c 61 || nat_eq c 38 || nat_eq c 124)
 

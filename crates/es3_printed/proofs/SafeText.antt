@@ -34,20 +34,24 @@ apart : (a b : ℕ) → (nat_eq a 60 && nat_eq b 47) ≡ false → runs_together
 apart a b slash r =
     let h = or_parts (is_part a && is_part b || nat_eq a 43 && nat_eq b 43 || nat_eq a 45 && nat_eq b 45 || nat_eq a 60 && nat_eq b 33) (nat_eq a 93 && nat_eq b 62) r in
     let g = or_parts (is_part a && is_part b || nat_eq a 43 && nat_eq b 43 || nat_eq a 45 && nat_eq b 45) (nat_eq a 60 && nat_eq b 33) h.0 in
-    or_from (nat_eq a 60 && nat_eq b 47 || nat_eq a 60 && nat_eq b 33) (nat_eq a 93 && nat_eq b 62) (or_from (nat_eq a 60 && nat_eq b 47) (nat_eq a 60 && nat_eq b 33) slash g.1) h.1
+    or_from (nat_eq a 60 && nat_eq b 47 || nat_eq a 60 && nat_eq b 33) (nat_eq a 93 && nat_eq b 62)
+    (or_from (nat_eq a 60 && nat_eq b 47) (nat_eq a 60 && nat_eq b 33) slash g.1) h.1
 
 spaced_apart : (a : ℕ) → is_markup a 32 ≡ false
 spaced_apart a =
     or_from (nat_eq a 60 && false || nat_eq a 60 && false) (nat_eq a 93 && false)
-    (or_from (nat_eq a 60 && false) (nat_eq a 60 && false) (and_right (nat_eq a 60) false refl) (and_right (nat_eq a 60) false refl)) (and_right (nat_eq a 93) false refl)
+    (or_from (nat_eq a 60 && false) (nat_eq a 60 && false) (and_right (nat_eq a 60) false refl) (and_right (nat_eq a 60) false refl))
+    (and_right (nat_eq a 93) false refl)
 
-behind : (out : List ℕ) (a b : ℕ) (s : List ℕ) → last_of out ≡ Some a → is_safe out ≡ true → is_safe (b ∷ s) ≡ true → (nat_eq a 60 && nat_eq b 47) ≡ false → is_safe (out ++ (gap_between (Some a) (Some b) ++ b ∷ s)) ≡ true
+behind : (out : List ℕ) (a b : ℕ) (s : List ℕ) → last_of out ≡ Some a → is_safe out ≡ true → is_safe (b ∷ s) ≡ true
+    → (nat_eq a 60 && nat_eq b 47) ≡ false → is_safe (out ++ (gap_between (Some a) (Some b) ++ b ∷ s)) ≡ true
 behind out a b s l p q slash =
     cond_both (runs_together a b) (32 ∷ []) [] (λ g. is_safe (out ++ (g ++ b ∷ s)) ≡ true)
     (λ r. joined out (32 ∷ b ∷ s) p q (ap (λ o. meets o (Some 32)) l ∙ spaced_apart a))
     (λ r. joined out (b ∷ s) p q (ap (λ o. meets o (Some b)) l ∙ apart a b slash r))
 
-then_safe : (out w : List ℕ) → is_safe out ≡ true → is_safe w ≡ true → is_filled w ≡ true → (is_such is_less (last_of out) ≡ true → begins is_tame w ≡ true) → is_safe (then_text out w) ≡ true
+then_safe : (out w : List ℕ) → is_safe out ≡ true → is_safe w ≡ true → is_filled w ≡ true
+    → (is_such is_less (last_of out) ≡ true → begins is_tame w ≡ true) → is_safe (then_text out w) ≡ true
 then_safe out [] p q f h = absurd cc
 then_safe out (b ∷ s) p q f h = go (last_of out) refl
   where
@@ -57,6 +61,7 @@ then_safe out (b ∷ s) p q f h = go (last_of out) refl
         by_test : (less : Bool) (b : ℕ) → (less ≡ true → is_tame b ≡ true) → (less && nat_eq b 47) ≡ false
         by_test true b h = let g = h refl in grind (arith, nat_tests)
         by_test false b h = refl
+
     go : (o : Option ℕ) → last_of out ≡ o → is_safe (out ++ (gap_between o (Some b) ++ b ∷ s)) ≡ true
     go None l = joined out (b ∷ s) p q (ap (λ o. meets o (Some b)) l)
     go (Some a) l = behind out a b s l p q (no_slash a b (λ g. h (ap (is_such is_less) l ∙ g)))
@@ -84,7 +89,8 @@ first_tame a_point c x m h = absurd cc
 first_tame a_number c x m h = absurd cc
 first_tame an_end c x m h = absurd cc
 
-onto_safe : (cs : List Token) (out : List ℕ) (a : Behind) → AreWords cs → sides a cs ≡ true → is_safe out ≡ true → (is_such is_less (last_of out) ≡ true → is_operator a ≡ true) → is_safe (onto out cs) ≡ true
+onto_safe : (cs : List Token) (out : List ℕ) (a : Behind) → AreWords cs → sides a cs ≡ true → is_safe out ≡ true
+    → (is_such is_less (last_of out) ≡ true → is_operator a ≡ true) → is_safe (onto out cs) ≡ true
 onto_safe [] out a w h p l = p
 onto_safe (c ∷ cs) out a w h p l =
     let s = and_parts (may a c) (sides (after c) cs) h in

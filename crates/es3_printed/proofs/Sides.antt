@@ -1,8 +1,8 @@
 -- Neighbours in printed tokens: what stands right behind what, in the tokens of any tree.
-use Rattle.std.proofs.Common.{◌≡◌, ℕ, Bool, true, false, List, [], ◌∷◌, ◌++◌, refl, sym, ap, subst, ◌∙◌, nat_lt, nat_eq}
-use Rattle.std.specs.Prelude.{not, ◌&&◌, ◌||◌, Option, Some, None, if◌then◌else◌}
+use Rattle.std.proofs.Common.{◌≡◌, ℕ, Bool, true, false, List, [], ◌∷◌, ◌++◌, refl, ap, ◌∙◌, nat_lt, nat_eq}
+use Rattle.std.specs.Prelude.{not, ◌&&◌, if◌then◌else◌}
 use Rattle.std.specs.List.{list_any}
-use Rattle.std.proofs.lemmas.Bool.{and_parts, and_from, or_parts, or_right, not-true}
+use Rattle.std.proofs.lemmas.Bool.{and_parts, and_from, or_parts, not-true}
 use Rattle.es3_tree.specs.Token.{Token, name, word, punct, num, text}
 
 -- what stands before a token: where an operand is wanted, a point, a number, or another end of an operand
@@ -29,7 +29,8 @@ after (text us) = an_end
 -- the punctuators that stand only behind an operand: the point, and each operator between two parts that is no prefix too
 abbrev pub only_joins : ℕ → Bool
 only_joins n =
-    is_among (6 ∷ 9 ∷ 10 ∷ 11 ∷ 12 ∷ 13 ∷ 14 ∷ 15 ∷ 16 ∷ 19 ∷ 20 ∷ 23 ∷ 24 ∷ 25 ∷ 26 ∷ 27 ∷ 28 ∷ 31 ∷ 32 ∷ 35 ∷ 36 ∷ 37 ∷ 38 ∷ 39 ∷ 40 ∷ 41 ∷ 42 ∷ 43 ∷ 44 ∷ 45 ∷ 46 ∷ 47 ∷ []) n
+    is_among (6 ∷ 9 ∷ 10 ∷ 11 ∷ 12 ∷ 13 ∷ 14 ∷ 15 ∷ 16 ∷ 19 ∷ 20 ∷ 23 ∷ 24 ∷ 25 ∷ 26 ∷ 27 ∷ 28 ∷ 31 ∷ 32
+    ∷ 35 ∷ 36 ∷ 37 ∷ 38 ∷ 39 ∷ 40 ∷ 41 ∷ 42 ∷ 43 ∷ 44 ∷ 45 ∷ 46 ∷ 47 ∷ []) n
 
 abbrev pub is_settled : Behind → Bool
 is_settled an_operator = true
@@ -62,7 +63,9 @@ end_of a (t ∷ ts) = end_of (after t) ts
 
 pub sides-append : (u v : List Token) (a : Behind) → sides a u ≡ true → sides (end_of a u) v ≡ true → sides a (u ++ v) ≡ true
 sides-append [] v a h g = g
-sides-append (t ∷ u) v a h g = let p = and_parts (may a t) (sides (after t) u) h in and_from (may a t) (sides (after t) (u ++ v)) p.0 (sides-append u v (after t) p.1 g)
+sides-append (t ∷ u) v a h g =
+    let p = and_parts (may a t) (sides (after t) u) h in
+    and_from (may a t) (sides (after t) (u ++ v)) p.0 (sides-append u v (after t) p.1 g)
 
 pub end_of-append : (u v : List Token) (a : Behind) → end_of a (u ++ v) ≡ end_of (end_of a u) v
 end_of-append [] v a = refl

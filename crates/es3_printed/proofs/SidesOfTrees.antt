@@ -1,13 +1,13 @@
 -- The neighbours in the tokens of each form of a tree (ES3 11 to 14).
-use Rattle.std.proofs.Common.{◌≡◌, ℕ, Bool, true, false, List, [], ◌∷◌, ◌++◌, refl, sym, ap, subst, ◌∙◌, nat_lt}
-use Rattle.std.specs.Prelude.{◌&&◌, ◌||◌, Option, Some, None}
+use Rattle.std.proofs.Common.{◌≡◌, ℕ, Bool, true, false, List, [], ◌∷◌, ◌++◌, refl, ap, subst, ◌∙◌, nat_lt}
+use Rattle.std.specs.Prelude.{◌&&◌, Option, Some, None}
 use Rattle.std.proofs.lemmas.Bool.{and_from, or_parts}
-use Rattle.es3_tree.specs.Token.{Token, name, word, punct, num, text}
+use Rattle.es3_tree.specs.Token.{Token, name, num, text}
 use Rattle.es3_tree.specs.Tree as t
 use Rattle.es3_tree.specs.declared.UnOp.{UnOp}
-use Rattle.es3_tree.specs.declared.UnOp.TheVariants.{Delete, Void, Typeof, Plus, Minus, BitNot, Not}
+use Rattle.es3_tree.specs.declared.UnOp.TheVariants.{Delete}
 use Rattle.es3_tree.specs.declared.BinOp.{BinOp}
-use Rattle.es3_tree.specs.declared.BinOp.TheVariants.{Mul, Div, Rem, Add, Sub, Shl, Shr, Ushr, Less, Greater, LessEq, GreaterEq, InstanceOf, InObject, Equal, NotEqual, Same, NotSame, BitAnd, BitXor, BitOr}
+use Rattle.es3_tree.specs.declared.BinOp.TheVariants.{Mul, Add, InstanceOf}
 use Rattle.es3_grammar.specs.Spots.{break_word, case_word, catch_word, continue_word, default_word, do_word, else_word, finally_word, for_word, function_word, if_word, in_word, new_word, return_word, switch_word, this_word, throw_word, try_word, var_word, while_word, with_word, null_word, open_brace, close_brace, open_paren, close_paren, open_bracket, close_bracket, point, semicolon, comma, query, colon, equals}
 use Rattle.es3_grammar.specs.Levels.{Join, an_op, an_and, an_or, an_assign, a_comma, left, right, level, unary_sign, step_sign}
 use Rattle.es3_printed.specs.Tokens.{op_sign, assign_sign, join_sign, wrapped, wraps, wraps_object, wraps_maker, is_in, opens, between, step_tokens, truth, behind_comma, behind_field, behind_item, initialiser, clause_head, listed, named, bare}
@@ -25,7 +25,6 @@ is_op op = record { behind_number = refl; behind_end = refl; settled = refl }
 
 is_assign : (op : Option BinOp) → IsJoin (assign_sign op)
 is_assign None = record { behind_number = refl; behind_end = refl; settled = refl }
-
 is_assign (Some Add) = record { behind_number = refl; behind_end = refl; settled = refl }
 is_assign (Some op) = record { behind_number = refl; behind_end = refl; settled = refl }
 
@@ -221,13 +220,15 @@ said _ b (t.and x y) = two_parts b an_and x y (said t.expr b x) (said t.expr b y
 said _ b (t.or x y) = two_parts b an_or x y (said t.expr b x) (said t.expr b y)
 said _ b (t.choice x y z) =
     chain_end (calm_within (wraps b 3 x) (calm (said t.expr b x)))
-    (put_end query refl refl (chain_end (calm_within (wraps b 1 y) (calm (said t.expr b y))) (put_end colon refl refl (within (wraps b 1 z) (any_end (said t.expr b z))))))
+    (put_end query refl refl (chain_end (calm_within (wraps b 1 y) (calm (said t.expr b y)))
+    (put_end colon refl refl (within (wraps b 1 z) (any_end (said t.expr b z))))))
 said _ b (t.assign op x y) = two_parts b (an_assign op) x y (said t.expr b x) (said t.expr b y)
 said _ b (t.comma x y) = two_parts b a_comma x y (said t.expr b x) (said t.expr b y)
 said _ b t.no_exprs = nothing
 said _ b (t.more_exprs e es) = chain (calm_within (wraps b 1 e) (calm (said t.expr b e))) (more_exprs es (said t.exprs b es))
 said _ b t.no_fields = nothing
-said _ b (t.more_fields k e fs) = put (text k) refl refl (put colon refl refl (chain (calm_within (wraps b 1 e) (calm (said t.expr b e))) (more_fields fs (said t.fields b fs))))
+said _ b (t.more_fields k e fs) =
+    put (text k) refl refl (put colon refl refl (chain (calm_within (wraps b 1 e) (calm (said t.expr b e))) (more_fields fs (said t.fields b fs))))
 said _ b t.no_expr = nothing
 said _ b (t.some_expr e) = calm (said t.expr b e)
 said _ b (t.block ss) = calm (braces (said t.stmts false ss))
@@ -236,12 +237,14 @@ said _ b t.empty = only semicolon refl refl
 said _ b (t.expression e) = ended (calm_within (opens (bare t.expr false e)) (calm (said t.expr false e)))
 said _ b (t.branch e s r) = put if_word refl refl (parens_then (calm (said t.expr false e)) (chain (said t.stmt false s) (said t.maybe_stmt false r)))
 said _ b (t.while_loop e s) = put while_word refl refl (parens_then (calm (said t.expr false e)) (said t.stmt false s))
-said _ b (t.do_loop s e) = put do_word refl refl (chain (said t.stmt false s) (put while_word refl refl (parens_then (calm (said t.expr false e)) (only semicolon refl refl))))
+said _ b (t.do_loop s e) =
+    put do_word refl refl (chain (said t.stmt false s) (put while_word refl refl (parens_then (calm (said t.expr false e)) (only semicolon refl refl))))
 said _ b (t.for_loop f m n s) =
     put for_word refl refl (put open_paren refl refl (chain (said t.first true f) (put semicolon refl refl (chain (said t.maybe_expr false m)
     (put semicolon refl refl (chain (said t.maybe_expr false n) (put close_paren refl refl (said t.stmt false s))))))))
 said _ b (t.for_in l e s) =
-    put for_word refl refl (put open_paren refl refl (chain (said t.loop_target false l) (put in_word refl refl (chain (calm (said t.expr false e)) (put close_paren refl refl (said t.stmt false s))))))
+    put for_word refl refl (put open_paren refl refl (chain (said t.loop_target false l)
+    (put in_word refl refl (chain (calm (said t.expr false e)) (put close_paren refl refl (said t.stmt false s))))))
 said _ b (t.continue x) = put continue_word refl refl (ended (maybe_name x))
 said _ b (t.break x) = put break_word refl refl (ended (maybe_name x))
 said _ b (t.return m) = put return_word refl refl (ended (said t.maybe_expr false m))
@@ -267,9 +270,11 @@ said _ b (t.loop_expr e) = calm (said t.expr false e)
 said _ b t.no_cases = nothing
 said _ b (t.more_cases m ss cs) = chain (a_clause m (said t.maybe_expr false m)) (chain (said t.stmts false ss) (said t.cases false cs))
 said _ b t.no_handler = nothing
-said _ b (t.some_handler x ss) = put catch_word refl refl (put open_paren refl refl (put (name x) refl refl (put close_paren refl refl (calm (braces (said t.stmts false ss))))))
+said _ b (t.some_handler x ss) =
+    put catch_word refl refl (put open_paren refl refl (put (name x) refl refl (put close_paren refl refl (calm (braces (said t.stmts false ss))))))
 said _ b (t.fun x ps body) =
-    put_end function_word refl refl (chain_end (maybe_name x) (put_end open_paren refl refl (chain_end (name_list ps) (put_end close_paren refl refl (braces (said t.stmts false body))))))
+    put_end function_word refl refl (chain_end (maybe_name x) (put_end open_paren refl refl (chain_end (name_list ps)
+    (put_end close_paren refl refl (braces (said t.stmts false body))))))
 said _ b (t.script body) = said t.stmts false body
 
 pub sides_of : (p : t.Tree t.program) → sides an_operator (bare t.program false p) ≡ true

@@ -1,6 +1,6 @@
 -- The text of a token: its characters, its first one and its last one.
-use Rattle.std.proofs.Common.{◌≡◌, ℕ, ◌<◌, Bool, true, false, List, [], ◌∷◌, refl, sym, ap, subst, ◌∙◌, arith, nat_lt, nat_eq}
-use Rattle.std.specs.Prelude.{not, ◌&&◌, ◌||◌, Option, Some, None}
+use Rattle.std.proofs.Common.{◌≡◌, ℕ, ◌<◌, Bool, true, false, List, [], ◌∷◌, refl, sym, subst, arith, nat_lt, nat_eq}
+use Rattle.std.specs.Prelude.{not, ◌&&◌, Option, Some, None}
 use Rattle.std.specs.List.{All, list_all}
 use Rattle.std.proofs.lemmas.List.Elements.{All-nil, All-cons}
 use Rattle.std.proofs.lemmas.Bool.{and_parts, agree_below_at, ltb-true}
@@ -13,7 +13,7 @@ use Rattle.es3_tokens.specs.Tokens.{entry}
 use Rattle.es3_printed.specs.Text.{last_of, token_text}
 use Rattle.es3_printed.specs.Safe.{is_safe, is_word, IsWord}
 use Rattle.es3_printed.proofs.Sides.{Behind, an_operator, a_point, a_number, an_end, after, may, may_punct, only_joins, is_settled}
-use Rattle.es3_printed.proofs.Quiet.{is_quiet, is_tame, is_filled, is_such, all_such, last_such, part_quiet, quiet_safe, IsParts, IsTame, parts_tame, literal_tame, number_tame}
+use Rattle.es3_printed.proofs.Quiet.{is_quiet, is_tame, is_filled, is_such, last_such, quiet_safe, IsParts, IsTame, parts_tame, literal_tame, number_tame}
 
 abbrev pub is_less : ℕ → Bool
 is_less c = nat_eq c 60
