@@ -4,3 +4,9 @@ pub mod ShownParts
 pub mod ShownStatements
 pub mod ShownTrees
 pub mod Written
+pub mod Sides
+pub mod SidesOfTrees
+pub mod Quiet
+pub mod TokenTexts
+pub mod SafeText
+pub mod Marks
