@@ -1,3 +1,4 @@
+pub mod PrintedBrackets
 pub mod Shown
 pub mod ShownStatements
 pub mod SourceTokens

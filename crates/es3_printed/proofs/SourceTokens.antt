@@ -85,7 +85,8 @@ hex_digits (c ∷ w) h = let p = and_parts (is_hex c) (list_all is_hex w) h in (
 small_digits : (n : ℕ) (s : List ℕ) → 16 ^ n ≤ 65536 → AreSmall (by_digits n s)
 small_digits n s le = by_test n s le (nat_le n (length s) && list_all is_hex (take n s)) refl
   where
-    by_test : (n : ℕ) (s : List ℕ) → 16 ^ n ≤ 65536 → (b : Bool) → (nat_le n (length s) && list_all is_hex (take n s)) ≡ b → AreSmall (if b then closed (digits_value 16 (take n s) ∷ []) (n + 1) else broken)
+    by_test : (n : ℕ) (s : List ℕ) → 16 ^ n ≤ 65536 → (b : Bool)
+        → (nat_le n (length s) && list_all is_hex (take n s)) ≡ b → AreSmall (if b then closed (digits_value 16 (take n s) ∷ []) (n + 1) else broken)
     by_test n s le false e = tt
     by_test n s le true e =
         let p = and_parts (nat_le n (length s)) (list_all is_hex (take n s)) e in
@@ -147,7 +148,9 @@ name_token w (Some n) h e lt = lt
 
 text_small : (w : List ℕ) → AreCharacters w → IfSome AreUnits (text_units w)
 text_small [] h = tt
-text_small (q ∷ s) h = by_quote (is_quote q) (units_of (length s) (body q 0 s)) (by_size (length s) (body q 0 s) (small_body q 0 s (All-tail (λ c. c < 1114112) q s h)))
+text_small (q ∷ s) h =
+    by_quote (is_quote q) (units_of (length s) (body q 0 s))
+    (by_size (length s) (body q 0 s) (small_body q 0 s (All-tail (λ c. c < 1114112) q s h)))
   where
     by_quote : (b : Bool) (o : Option (List ℕ)) → IfSome AreUnits o → IfSome AreUnits (if b then o else None)
     by_quote true o h = h
@@ -204,7 +207,8 @@ number_is : (r : Option (ℕ × ℕ)) (s : List ℕ) → Accepts (number_step r 
 number_is None s = tt
 number_is (Some r) s = by_form _ (nat_lt r.0 (2 ^ 53)) r refl
   where
-    by_form : (a b : Bool) (r : ℕ × ℕ) → nat_lt r.0 (2 ^ 53) ≡ b → Accepts (refusal_step (if a then Some number_form else (if b then None else Some number_too_large)) (accept (num (pos r.0)) r.1))
+    by_form : (a b : Bool) (r : ℕ × ℕ) → nat_lt r.0 (2 ^ 53) ≡ b
+        → Accepts (refusal_step (if a then Some number_form else (if b then None else Some number_too_large)) (accept (num (pos r.0)) r.1))
     by_form true b r e = tt
     by_form false false r e = tt
     by_form false true r e = (r.0, refl, below r.0 (2 ^ 53) e)
@@ -239,7 +243,8 @@ front_is : (t : Placed) (a : Answer) → IsToken t.token → AreIn a → AreIn (
 front_is t (Ok ts) h g = All-cons (λ t. IsToken t.token) t ts h g
 front_is t (Err e) h g = tt
 
-goes_is : (f : ℕ → Bool → Bool → Answer) (p : ℕ) (l o : Bool) (s : List ℕ) (x : Step) → Accepts x → ((n : ℕ) (m q : Bool) → AreIn (f n m q)) → AreIn (goes f p l o s x)
+goes_is : (f : ℕ → Bool → Bool → Answer) (p : ℕ) (l o : Bool) (s : List ℕ) (x : Step)
+    → Accepts x → ((n : ℕ) (m q : Bool) → AreIn (f n m q)) → AreIn (goes f p l o s x)
 goes_is f p l o s (skip m n) h g = g _ _ _
 goes_is f p l o s (accept t n) h g = front_is _ _ h (g _ _ _)
 goes_is f p l o s (refuse r) h g = tt
@@ -248,7 +253,9 @@ from_is : (n p : ℕ) (l o : Bool) (s : List ℕ) → AreCharacters s → AreIn 
 unfolding cut_from
 from_is n p l o [] h = All-nil (λ t. IsToken t.token)
 from_is (suc n) p l o (c ∷ s) h = from_is n _ l o s (All-tail (λ c. c < 1114112) c s h)
-from_is zero p l o (c ∷ s) h = goes_is (λ n m q. cut_from n (p + len_utf8 c) m q s) p l o (c ∷ s) (point o (c ∷ s)) (point_is o c s h) (λ n m q. from_is n (p + len_utf8 c) m q s (All-tail (λ c. c < 1114112) c s h))
+from_is zero p l o (c ∷ s) h =
+    goes_is (λ n m q. cut_from n (p + len_utf8 c) m q s) p l o (c ∷ s) (point o (c ∷ s)) (point_is o c s h)
+    (λ n m q. from_is n (p + len_utf8 c) m q s (All-tail (λ c. c < 1114112) c s h))
 
 are_characters : (s : List ℕ) → scalars s ≡ true → AreCharacters s
 are_characters [] h = All-nil (λ c. c < 1114112)
@@ -272,7 +279,8 @@ cut_is limit source = by_limit (nat_lt limit (length source)) source
     by_utf8 true source e = of_characters (chars source) (are_characters (chars source) (scalars-chars source (IsUtf8-from_is_utf8 source e)))
     by_utf8 false source e = tt
 
-    by_limit : (b : Bool) (source : List ℕ) → AreIn (if b then Err (too_long, 0) else (if is_utf8 source then cut_chars (chars source) else Err (not_utf8, utf8_valid_len source)))
+    by_limit : (b : Bool) (source : List ℕ)
+        → AreIn (if b then Err (too_long, 0) else (if is_utf8 source then cut_chars (chars source) else Err (not_utf8, utf8_valid_len source)))
     by_limit true source = tt
     by_limit false source = by_utf8 (is_utf8 source) source refl
 
