@@ -7,9 +7,9 @@ use Rattle.es3_printed.proofs.what_is_read_is_spelled.Goals as goal
 
 pub returns : goal.returns
 returns c = λ limit source ts p e h. record {
-    tree = p;
-    by = spots ts;
-    same = refl;
-    spelled = h;
-    tokens = All-map (λ c. IsToken c.0) (λ t. (t.token, t.start)) ts (cut_tokens limit source ts e);
+  tree = p;
+  by = spots ts;
+  same = refl;
+  spelled = h;
+  tokens = All-map (λ c. IsToken c.0) (λ t. (t.token, t.start)) ts (cut_tokens limit source ts e);
 }
