@@ -1,3 +1,4 @@
+pub mod PrintedBrackets
 pub mod Shown
 pub mod ShownExpressions
 pub mod ShownParts
@@ -10,3 +11,4 @@ pub mod Quiet
 pub mod TokenTexts
 pub mod SafeText
 pub mod Marks
+pub mod SourceTokens
