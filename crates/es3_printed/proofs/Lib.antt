@@ -12,3 +12,4 @@ pub mod TokenTexts
 pub mod SafeText
 pub mod Marks
 pub mod SourceTokens
+pub mod ReadBack
