@@ -1,2 +1,15 @@
+pub mod PrintedBrackets
 pub mod Shown
+pub mod ShownExpressions
+pub mod ShownParts
 pub mod ShownStatements
+pub mod ShownTrees
+pub mod Written
+pub mod Sides
+pub mod SidesOfTrees
+pub mod Quiet
+pub mod TokenTexts
+pub mod SafeText
+pub mod Marks
+pub mod SourceTokens
+pub mod ReadBack

@@ -1,11 +1,13 @@
 -- Tokens without places that spell a tree without places: at any places, the tokens spell a tree that differs in places alone.
-use Rattle.std.proofs.Common.{◌≡◌, ℕ, List, [], ◌∷◌, ◌++◌, map, refl, ap, subst, ◌∙◌}
-use Rattle.es3_tree.specs.Token.{Token}
+use Rattle.std.proofs.Common.{◌≡◌, ℕ, List, [], ◌∷◌, ◌++◌, map, Option, Some, None, refl, ap, subst, ◌∙◌, append_assoc}
+use Rattle.std.proofs.lemmas.List.{append-nil}
+use Rattle.es3_tree.specs.Token.{Token, name}
 use Rattle.es3_tree.specs.Tree as t
-use Rattle.es3_tree.specs.Placed.{Placed}
-use Rattle.es3_grammar.specs.Spots.{Spot}
-use Rattle.es3_grammar.specs.Grammar.{Bars, Spells}
-use Rattle.es3_grammar.specs.Plain.{plain}
+use Rattle.es3_tree.specs.Placed.{Placed, Word, fun}
+use Rattle.es3_grammar.specs.Spots.{Spot, comma}
+use Rattle.es3_grammar.specs.Grammar.{Bars, free, placed_word, naming, named as spot_named, Names, no_name, one_name, more_names, Spells, s_func}
+use Rattle.es3_grammar.specs.Plain.{plain, plain_name}
+use Rattle.es3_printed.specs.Tokens.{named, listed}
 
 abbrev pub kinds : List Spot → List Token
 kinds v = map (λ c. c.0) v
@@ -47,3 +49,54 @@ all_three f {a} {d} {b} {e} {c} {g} p q r = ap (λ z. f z b c) p ∙ both (f d) 
 
 pub all_four : {A B C D E : Type 0} (f : A → B → C → D → E) {a e : A} {b g : B} {c h : C} {d i : D} → a ≡ e → b ≡ g → c ≡ h → d ≡ i → f a b c d ≡ f e g h i
 all_four f {a} {e} {b} {g} {c} {h} {d} {i} p q r s = ap (λ z. f z b c d) p ∙ all_three (f e) q r s
+
+-- the last token; tokens with nothing behind them; tokens that a token ends, and tokens behind these
+
+pub last : (c : Token) (P : List Spot → Type 0) → ((a : ℕ) → P ((c, a) ∷ [])) → Everywhere P (c ∷ [])
+last c P f = token c [] P (λ a. none (λ v. P ((c, a) ∷ v)) (f a))
+
+pub alone : (u : List Token) (P : List Spot → Type 0) → Everywhere P u → Everywhere P (u ++ [])
+alone u P f v h = f v (h ∙ append-nil u)
+
+pub closed : (u : List Token) (c : Token) (w : List Token) (P : List Spot → Type 0)
+    → ((k : List Spot) → kinds k ≡ u → (a : ℕ) → Everywhere (λ v. P (k ++ (c, a) ∷ v)) w) → Everywhere P ((u ++ c ∷ []) ++ w)
+closed u c w P f v h = tokens u (c ∷ w) P (λ k e. token c w (λ v. P (k ++ v)) (λ a. f k e a)) v (h ∙ append_assoc u (c ∷ []) w)
+
+-- a name that may be absent, and tokens behind it
+pub maybe_name : (x : Option (List ℕ)) (w : List Token) (P : List Spot → Type 0)
+    → ((n : Option Word) → plain_name n ≡ x → Everywhere (λ v. P (naming n ++ v)) w) → Everywhere P (named x ++ w)
+maybe_name None w P f = f None refl
+maybe_name (Some x) w P f = token (name x) w P (λ a. f (Some (placed_word x a)) refl)
+
+-- parameters, and tokens behind them
+
+abbrev texts : List Word → List (List ℕ)
+texts ns = map (λ w. w.text) ns
+
+more : (n : Word) (a : ℕ) (y : List ℕ) (ys : List (List ℕ)) (ns : List Word) (u : List Spot) → Names ns u → texts ns ≡ y ∷ ys
+    → Names (n ∷ ns) (spot_named n ∷ (comma, a) ∷ u)
+more n a y ys [] u p e = cc
+more n a y ys (m ∷ ns) u p e = more_names a n m ns u p
+
+pub names : (ps : List (List ℕ)) (w : List Token) (P : List Spot → Type 0)
+    → ((ns : List Word) (k : List Spot) → Names ns k → texts ns ≡ ps → Everywhere (λ v. P (k ++ v)) w) → Everywhere P (listed ps ++ w)
+names [] w P f = f [] [] no_name refl
+names (x ∷ []) w P f = token (name x) w P (λ a. let n = placed_word x a in f (n ∷ []) (spot_named n ∷ []) (one_name n) refl)
+names (x ∷ y ∷ ys) w P f = token (name x) (comma ∷ (listed (y ∷ ys) ++ w)) P (λ a. let n = placed_word x a in
+    token comma (listed (y ∷ ys) ++ w) (λ v. P (spot_named n ∷ v)) (λ d. names (y ∷ ys) w (λ v. P (spot_named n ∷ (comma, d) ∷ v)) (λ ns k p e.
+    f (n ∷ ns) (spot_named n ∷ (comma, d) ∷ k) (more n d y ys ns k p e) (ap (λ z. x ∷ z) e))))
+
+-- a function, the word `function` before it standing at a
+
+pub record FoundFunction (a : ℕ) (q : t.Tree t.func) (v : List Spot) : Type 0 where
+  pub name : Option Word
+  pub parameters : List Word
+  pub body : Placed t.stmts
+  pub same : plain t.func (fun name parameters body a) ≡ q
+  pub spelled : Spells t.func free 0 (fun name parameters body a) v
+
+pub function_at : (a : ℕ) (q : t.Tree t.func) (v : List Spot) → Found t.func free 0 q v → FoundFunction a q v
+function_at a q v f = go f.tree v f.same f.spelled
+  where
+    go : (x : Placed t.func) (v : List Spot) → plain t.func x ≡ q → Spells t.func free 0 x v → FoundFunction a q v
+    go _ _ e (s_func _ d f g h n ps ss u v p r) = record { name = n; parameters = ps; body = ss; same = e; spelled = s_func a d f g h n ps ss u v p r }

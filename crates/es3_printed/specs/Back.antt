@@ -1,5 +1,5 @@
 -- Reading back: the printed text of a tree is cut into tokens that spell the tree.
-use Rattle.std.specs.Prelude.{ℕ, ◌≡◌, ◌≤◌, ◌*◌, List, length, Ok}
+use Rattle.std.specs.Prelude.{ℕ, ◌≡◌, ◌≤◌, List, length, Ok}
 use Rattle.std.specs.List.{All}
 use Rattle.es3_tree.specs.Tree as t
 use Rattle.es3_tree.specs.Placed.{Placed}
@@ -7,10 +7,9 @@ use Rattle.es3_tree.specs.Measure.{nest}
 use Rattle.es3_tokens.specs.Tokens as tokens
 use Rattle.es3_tokens.specs.Back.{IsToken}
 use Rattle.es3_tokens.specs.Cut as cut
-use Rattle.es3_grammar.specs.Spots.{Spot, spots}
+use Rattle.es3_grammar.specs.Spots.{Spot}
 use Rattle.es3_grammar.specs.Grammar.{Spells, free, spells}
 use Rattle.es3_grammar.specs.Plain.{plain}
-use Rattle.es3_grammar.specs.Limit.{most}
 use Rattle.es3_grammar.specs.Answers.{answer, read}
 use Rattle.es3_printed.specs.Tokens.{printed}
 
@@ -25,11 +24,12 @@ pub record IsSpelled (p : t.Tree t.program) : Type 0 where
   pub spelled : Spells t.program free 0 tree by
   pub tokens : AreTokens by
 
--- where no limit is passed, the printed text is cut into some tokens, which spell the tree apart from its places and are read as it
+-- the printed text is cut into tokens, where its length is allowed; these spell the tree apart from its places, and are read as it where its nesting is
+-- allowed: the parentheses that are printed never need more
 pub record IsReadBack (p : t.Tree t.program) : Type 0 where
   pub by : List tokens.Placed
   pub tree : Placed t.program
   pub cut : (limit : ℕ) → length (printed p) ≤ limit → cut.cut limit (printed p) ≡ Ok by
   pub same : plain t.program tree ≡ p
   pub spelled : spells tree by
-  pub read : (limit end : ℕ) → nest t.program p ≤ limit → most 0 (spots by) ≤ 2 * limit → answer limit end by ≡ read tree
+  pub read : (limit end : ℕ) → nest t.program p ≤ limit → answer limit end by ≡ read tree

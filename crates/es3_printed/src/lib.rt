@@ -5,7 +5,7 @@
 //! body: each one's contract is a law.
 #![tactic(auto)]
 
-ghost use Rattle.std.specs.Prelude.{◌≡◌, ℕ, List, Ok, IsTrue};
+ghost use Rattle.std.specs.Prelude.{◌≡◌, ℕ, List, Ok, IsTrue, false};
 ghost use Rattle.es3_tree.specs.Tree as t;
 ghost use Rattle.es3_tree.specs.Placed.{Placed};
 ghost use Rattle.es3_tokens.specs.Tokens as tokens;
