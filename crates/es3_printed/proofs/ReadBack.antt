@@ -43,5 +43,5 @@ read_back p h =
       cut = back.cut;
       same = found.same;
       spelled = found.spelled;
-      read = λ limit end le. ap (answer_of end) (within_complete limit found.tree (spots back.by) (within p back.by found is limit le))
+      read = λ limit end le. ap (answer_of end) (within_complete limit found.tree (spots back.by) (within p back.by found is limit le));
     }

@@ -34,9 +34,10 @@ shown_declaration x ps body ss u w p q = token function_word _ _ (λ a. tokens u
         → (v : List Spot) → Found t.stmts free 1 ss v → Found t.stmts free 1 (t.more_stmts (t.declare (t.fun (Some x) ps body)) ss) ((function_word, a) ∷ (k ++ v))
     declared a k None ns b e s v g = absurd cc
     declared a k (Some n) ns b e s v g = record {
-        tree = tree.more_stmts (tree.declare (tree.fun (Some n) ns b a)) g.tree;
-        same = both t.more_stmts (ap t.declare e) g.same;
-        spelled = s_declaration a n ns b g.tree k v s g.spelled }
+      tree = tree.more_stmts (tree.declare (tree.fun (Some n) ns b a)) g.tree;
+      same = both t.more_stmts (ap t.declare e) g.same;
+      spelled = s_declaration a n ns b g.tree k v s g.spelled;
+    }
 
 pub shown_func : (x : Option (List ℕ)) (ps : List (List ℕ)) (ss : t.Tree t.stmts) (w : List Token) → Shown t.stmts free 1 ss w
     → Shown t.func free 0 (t.fun x ps ss) (named x ++ open_paren ∷ (listed ps ++ close_paren ∷ open_brace ∷ (w ++ close_brace ∷ [])))
@@ -67,8 +68,11 @@ shown_more_items b x m is u w p q = token (name x) _ _ (λ a. tokens u _ _ (λ k
     let n = placed_word x a in
     let f = p k of_k in
     let g = q v of_v in
-    record { tree = tree.more_items n f.tree g.tree;
-        same = both (t.more_items x) f.same g.same; spelled = s_more_items b d n f.tree g.tree k v f.spelled g.spelled })))
+    record {
+      tree = tree.more_items n f.tree g.tree;
+      same = both (t.more_items x) f.same g.same;
+      spelled = s_more_items b d n f.tree g.tree k v f.spelled g.spelled;
+    })))
 
 pub shown_no_value : (b : Bars) → Shown t.maybe_expr b 1 t.no_expr []
 shown_no_value b = none _ record { tree = tree.no_expr; same = refl; spelled = s_no_value b }
@@ -138,8 +142,11 @@ same_target (tree.comma x y) = refl
 pub shown_loop_expr : (x : t.Tree t.expr) (u : List Token) → plain_is_target x ≡ true → Shown t.expr no_in 15 x u → Shown t.loop_target no_in 0 (t.loop_expr x) u
 shown_loop_expr x u h p k of_k =
     let f = p k of_k in
-    record { tree = tree.loop_expr f.tree;
-        same = ap t.loop_expr f.same; spelled = s_loop_expr f.tree k (same_target f.tree ∙ ap plain_is_target f.same ∙ h) f.spelled }
+    record {
+      tree = tree.loop_expr f.tree;
+      same = ap t.loop_expr f.same;
+      spelled = s_loop_expr f.tree k (same_target f.tree ∙ ap plain_is_target f.same ∙ h) f.spelled;
+    }
 
 -- 12.11
 
@@ -153,14 +160,19 @@ shown_case x ss cs u v w p q r = token case_word _ _ (λ a. closed u colon _ _ (
     let f = p i of_i in
     let g = q j of_j in
     let h = r k of_k in
-    record { tree = tree.more_cases (tree.some_expr f.tree) g.tree h.tree;
-        same = all_three t.more_cases (ap t.some_expr f.same) g.same h.same;
-        spelled = s_case a d f.tree g.tree h.tree i j k f.spelled g.spelled h.spelled })))
+    record {
+      tree = tree.more_cases (tree.some_expr f.tree) g.tree h.tree;
+      same = all_three t.more_cases (ap t.some_expr f.same) g.same h.same;
+      spelled = s_case a d f.tree g.tree h.tree i j k f.spelled g.spelled h.spelled;
+    })))
 
 pub shown_default : (ss : t.Tree t.stmts) (cs : t.Tree t.cases) (v w : List Token) → Shown t.stmts free 0 ss v → Shown t.cases free 0 cs w
     → Shown t.cases free 0 (t.more_cases t.no_expr ss cs) (default_word ∷ colon ∷ (v ++ w))
 shown_default ss cs v w p q = token default_word _ _ (λ a. token colon _ _ (λ d. tokens v w _ (λ j of_j k of_k.
     let f = p j of_j in
     let g = q k of_k in
-    record { tree = tree.more_cases tree.no_expr f.tree g.tree;
-        same = both (t.more_cases t.no_expr) f.same g.same; spelled = s_default a d f.tree g.tree j k f.spelled g.spelled })))
+    record {
+      tree = tree.more_cases tree.no_expr f.tree g.tree;
+      same = both (t.more_cases t.no_expr) f.same g.same;
+      spelled = s_default a d f.tree g.tree j k f.spelled g.spelled;
+    })))

@@ -36,8 +36,11 @@ begins_plain (d ∷ u) (c ∷ k) e s h = ap (λ z. not (same_token open_brace z 
 pub shown_expression : (x : t.Tree t.expr) (u : List Token) → Shown t.expr free 0 x u → opens u ≡ false → Shown t.stmt free 0 (t.expression x) (u ++ semicolon ∷ [])
 shown_expression x u p h = tokens u _ _ (λ k of_k. last semicolon _ (λ d.
     let f = p k of_k in
-    record { tree = tree.expression f.tree; same = ap t.expression f.same;
-        spelled = s_expression (semicolon, d) f.tree k f.spelled (begins_plain u k of_k (first t.expr free 0 f.tree k f.spelled) h) refl }))
+    record {
+      tree = tree.expression f.tree;
+      same = ap t.expression f.same;
+      spelled = s_expression (semicolon, d) f.tree k f.spelled (begins_plain u k of_k (first t.expr free 0 f.tree k f.spelled) h) refl;
+    }))
 
 -- 12.5
 
@@ -46,8 +49,11 @@ pub shown_if : (x : t.Tree t.expr) (s : t.Tree t.stmt) (u v : List Token) → Sh
 shown_if x s u v p q = token if_word _ _ (λ a. token open_paren _ _ (λ d. tokens u _ _ (λ k of_k. token close_paren _ _ (λ e. alone v _ (λ j of_j.
     let f = p k of_k in
     let g = q j of_j in
-    record { tree = tree.branch f.tree g.tree tree.no_stmt;
-        same = both (λ y z. t.branch y z t.no_stmt) f.same g.same; spelled = s_if a d e f.tree g.tree k j f.spelled g.spelled })))))
+    record {
+      tree = tree.branch f.tree g.tree tree.no_stmt;
+      same = both (λ y z. t.branch y z t.no_stmt) f.same g.same;
+      spelled = s_if a d e f.tree g.tree k j f.spelled g.spelled;
+    })))))
 
 -- the statement ends in an `if` without `else`
 abbrev pub plain_is_open : t.Tree t.stmt → Bool
@@ -89,9 +95,11 @@ shown_else x s r u v w p q o i =
     let f = p k of_k in
     let g = q j of_j in
     let h = i l of_l in
-    record { tree = tree.branch f.tree g.tree (tree.some_stmt h.tree);
-        same = all_three t.branch f.same g.same (ap t.some_stmt h.same);
-        spelled = s_else a d e b f.tree g.tree h.tree k j l f.spelled g.spelled (same_open g.tree ∙ ap plain_is_open g.same ∙ o) h.spelled }))))))
+    record {
+      tree = tree.branch f.tree g.tree (tree.some_stmt h.tree);
+      same = all_three t.branch f.same g.same (ap t.some_stmt h.same);
+      spelled = s_else a d e b f.tree g.tree h.tree k j l f.spelled g.spelled (same_open g.tree ∙ ap plain_is_open g.same ∙ o) h.spelled;
+    }))))))
 
 -- 12.6
 
@@ -102,8 +110,11 @@ shown_do s x u v p q =
     token close_paren _ _ (λ b. last semicolon _ (λ c.
     let f = p k of_k in
     let g = q j of_j in
-    record { tree = tree.do_loop f.tree g.tree;
-        same = both t.do_loop f.same g.same; spelled = s_do a d e b (semicolon, c) f.tree g.tree k j f.spelled g.spelled refl })))))))
+    record {
+      tree = tree.do_loop f.tree g.tree;
+      same = both t.do_loop f.same g.same;
+      spelled = s_do a d e b (semicolon, c) f.tree g.tree k j f.spelled g.spelled refl;
+    })))))))
 
 pub shown_while : (x : t.Tree t.expr) (s : t.Tree t.stmt) (u w : List Token) → Shown t.expr free 0 x u → Shown t.stmt free 0 s w
     → Shown t.stmt free 0 (t.while_loop x s) (while_word ∷ open_paren ∷ (u ++ close_paren ∷ w))
@@ -123,9 +134,11 @@ shown_for r m n s u v w z of_r of_m of_n of_s =
     let g = of_m j of_j in
     let h = of_n k of_k in
     let y = of_s l of_l in
-    record { tree = tree.for_loop f.tree g.tree h.tree y.tree;
-        same = all_four t.for_loop f.same g.same h.same y.same;
-        spelled = s_for a d e b c f.tree g.tree h.tree y.tree i j k l f.spelled g.spelled h.spelled y.spelled }))))))))
+    record {
+      tree = tree.for_loop f.tree g.tree h.tree y.tree;
+      same = all_four t.for_loop f.same g.same h.same y.same;
+      spelled = s_for a d e b c f.tree g.tree h.tree y.tree i j k l f.spelled g.spelled h.spelled y.spelled;
+    }))))))))
 
 pub shown_for_in : (r : t.Tree t.loop_target) (x : t.Tree t.expr) (s : t.Tree t.stmt) (u v w : List Token) → Shown t.loop_target no_in 0 r u
     → Shown t.expr free 0 x v → Shown t.stmt free 0 s w
@@ -135,9 +148,11 @@ shown_for_in r x s u v w of_r of_x of_s =
     let f = of_r i of_i in
     let g = of_x j of_j in
     let h = of_s k of_k in
-    record { tree = tree.for_in f.tree g.tree h.tree;
-        same = all_three t.for_in f.same g.same h.same;
-        spelled = s_for_in a d e c f.tree g.tree h.tree i j k f.spelled g.spelled h.spelled }))))))
+    record {
+      tree = tree.for_in f.tree g.tree h.tree;
+      same = all_three t.for_in f.same g.same h.same;
+      spelled = s_for_in a d e c f.tree g.tree h.tree i j k f.spelled g.spelled h.spelled;
+    }))))))
 
 -- 12.7 to 12.10
 
@@ -191,9 +206,11 @@ shown_switch x cs u v p q o =
     tokens v _ _ (λ j of_j. last close_brace _ (λ c.
     let f = p k of_k in
     let g = q j of_j in
-    record { tree = tree.switch f.tree g.tree;
-        same = both t.switch f.same g.same;
-        spelled = s_switch a d e b c f.tree g.tree k j f.spelled g.spelled (same_default g.tree ∙ ap plain_one_default g.same ∙ o) })))))))
+    record {
+      tree = tree.switch f.tree g.tree;
+      same = both t.switch f.same g.same;
+      spelled = s_switch a d e b c f.tree g.tree k j f.spelled g.spelled (same_default g.tree ∙ ap plain_one_default g.same ∙ o);
+    })))))))
 
 -- 12.12, 12.13
 
@@ -212,34 +229,38 @@ shown_throw x u p = token throw_word _ _ (λ a. tokens u _ _ (λ k of_k. last se
 
 pub shown_catch : (ss : t.Tree t.stmts) (x : List ℕ) (hs : t.Tree t.stmts) (u v : List Token) → Shown t.stmts free 0 ss u → Shown t.stmts free 0 hs v
     → Shown t.stmt free 0 (t.try ss (t.some_handler x hs) t.no_block)
-      (try_word ∷ open_brace ∷ (u ++ close_brace ∷ catch_word ∷ open_paren ∷ name x ∷ close_paren ∷ open_brace ∷ ((v ++ close_brace ∷ []) ++ [])))
+    (try_word ∷ open_brace ∷ (u ++ close_brace ∷ catch_word ∷ open_paren ∷ name x ∷ close_paren ∷ open_brace ∷ ((v ++ close_brace ∷ []) ++ [])))
 shown_catch ss x hs u v p q =
     token try_word _ _ (λ a. token open_brace _ _ (λ d. tokens u _ _ (λ k of_k. token close_brace _ _ (λ e. token catch_word _ _ (λ b. token open_paren _ _ (λ c.
     token (name x) _ _ (λ y. token close_paren _ _ (λ h. token open_brace _ _ (λ i. closed v close_brace _ _ (λ j of_j l. none _ (
     let n = placed_word x y in
     let f = p k of_k in
     let g = q j of_j in
-    record { tree = tree.try f.tree (tree.some_handler n g.tree) tree.no_block;
-        same = both (λ m o. t.try m (t.some_handler x o) t.no_block) f.same g.same;
-        spelled = s_catch a d e b c h i l f.tree n g.tree k j f.spelled g.spelled })))))))))))
+    record {
+      tree = tree.try f.tree (tree.some_handler n g.tree) tree.no_block;
+      same = both (λ m o. t.try m (t.some_handler x o) t.no_block) f.same g.same;
+      spelled = s_catch a d e b c h i l f.tree n g.tree k j f.spelled g.spelled;
+    })))))))))))
 
 pub shown_finally : (ss ls : t.Tree t.stmts) (u v : List Token) → Shown t.stmts free 0 ss u → Shown t.stmts free 0 ls v
     → Shown t.stmt free 0 (t.try ss t.no_handler (t.some_block ls))
-      (try_word ∷ open_brace ∷ (u ++ close_brace ∷ finally_word ∷ open_brace ∷ (v ++ close_brace ∷ [])))
+    (try_word ∷ open_brace ∷ (u ++ close_brace ∷ finally_word ∷ open_brace ∷ (v ++ close_brace ∷ [])))
 shown_finally ss ls u v p q =
     token try_word _ _ (λ a. token open_brace _ _ (λ d. tokens u _ _ (λ k of_k. token close_brace _ _ (λ e. token finally_word _ _ (λ b. token open_brace _ _ (λ c.
     tokens v _ _ (λ j of_j. last close_brace _ (λ h.
     let f = p k of_k in
     let g = q j of_j in
-    record { tree = tree.try f.tree tree.no_handler (tree.some_block g.tree);
-        same = both (λ m o. t.try m t.no_handler (t.some_block o)) f.same g.same;
-        spelled = s_finally a d e b c h f.tree g.tree k j f.spelled g.spelled }))))))))
+    record {
+      tree = tree.try f.tree tree.no_handler (tree.some_block g.tree);
+      same = both (λ m o. t.try m t.no_handler (t.some_block o)) f.same g.same;
+      spelled = s_finally a d e b c h f.tree g.tree k j f.spelled g.spelled;
+    }))))))))
 
 pub shown_catch_finally : (ss : t.Tree t.stmts) (x : List ℕ) (hs ls : t.Tree t.stmts) (u v w : List Token) → Shown t.stmts free 0 ss u
     → Shown t.stmts free 0 hs v → Shown t.stmts free 0 ls w
     → Shown t.stmt free 0 (t.try ss (t.some_handler x hs) (t.some_block ls))
-      (try_word ∷ open_brace ∷ (u ++ close_brace ∷ catch_word ∷ open_paren ∷ name x ∷ close_paren ∷ open_brace
-      ∷ ((v ++ close_brace ∷ []) ++ finally_word ∷ open_brace ∷ (w ++ close_brace ∷ []))))
+    (try_word ∷ open_brace ∷ (u ++ close_brace ∷ catch_word ∷ open_paren ∷ name x ∷ close_paren ∷ open_brace
+    ∷ ((v ++ close_brace ∷ []) ++ finally_word ∷ open_brace ∷ (w ++ close_brace ∷ []))))
 shown_catch_finally ss x hs ls u v w p q r =
     token try_word _ _ (λ a. token open_brace _ _ (λ d. tokens u _ _ (λ k of_k. token close_brace _ _ (λ e. token catch_word _ _ (λ b. token open_paren _ _ (λ c.
     token (name x) _ _ (λ y. token close_paren _ _ (λ z. token open_brace _ _ (λ i. closed v close_brace _ _ (λ j of_j l.
@@ -247,6 +268,8 @@ shown_catch_finally ss x hs ls u v w p q r =
     let f = p k of_k in
     let g = q j of_j in
     let h = r n of_n in
-    record { tree = tree.try f.tree (tree.some_handler (placed_word x y) g.tree) (tree.some_block h.tree);
-        same = all_three t.try f.same (ap (t.some_handler x) g.same) (ap t.some_block h.same);
-        spelled = s_catch_finally a d e b c z i l m o s f.tree (placed_word x y) g.tree h.tree k j n f.spelled g.spelled h.spelled }))))))))))))))
+    record {
+      tree = tree.try f.tree (tree.some_handler (placed_word x y) g.tree) (tree.some_block h.tree);
+      same = all_three t.try f.same (ap (t.some_handler x) g.same) (ap t.some_block h.same);
+      spelled = s_catch_finally a d e b c z i l m o s f.tree (placed_word x y) g.tree h.tree k j n f.spelled g.spelled h.spelled;
+    }))))))))))))))
