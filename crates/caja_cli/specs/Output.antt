@@ -1,13 +1,17 @@
 -- What the program writes for its words and its input, and the status that it ends with.
-use Rattle.std.specs.Prelude.{ℕ, ◌++◌, Bool, false, List, [], ◌∷◌, length, nat_lt, codes, if◌then◌else◌}
+use Rattle.std.specs.Prelude.{ℕ, ◌++◌, Bool, true, false, List, [], ◌∷◌, Option, Some, None, length, nat_lt, codes, if◌then◌else◌}
 use Rattle.std.specs.Str.{bytes_eq}
 use Rattle.caja_units.specs.Index.{number_units}
 use Rattle.es3_tree.specs.Tree as t
-use Rattle.es3_printer.specs.Tokens.{printed}
+use Rattle.es3_printed.specs.Tokens.{printed}
 use Rattle.page_cajole.specs.Cajoled.{Outcome, uncut, unread, broken, cajoled, outcome}
+use Rattle.page_cajole.specs.Formatted.{Formatted, text, formatted}
+use Rattle.page_cajole.specs.Formatted as f
 use Rattle.page_runner.specs.declared.End.{End}
 use Rattle.page_runner.specs.declared.End.TheVariants as the_end
 use Rattle.page_runner.specs.Log.{main_name, line_end, page_log, page_end}
+use Rattle.caja_cli.specs.declared.command.Command.{Command}
+use Rattle.caja_cli.specs.declared.command.Command.TheVariants.{Solo, Format}
 use Rattle.caja_cli.specs.declared.status.Status.{Status}
 use Rattle.caja_cli.specs.declared.status.Status.TheVariants as status
 
@@ -19,10 +23,18 @@ longest_input = 4194304
 abbrev pub page_steps : ℕ
 page_steps = 64000000
 
+-- the command that the words are
+abbrev pub command_of : List (List ℕ) → Option Command
+command_of (w ∷ []) = if bytes_eq w (codes "solo") then Some Solo else if bytes_eq w (codes "format") then Some Format else None
+command_of words = None
+
+abbrev pub is_some : Option Command → Bool
+is_some None = false
+is_some (Some c) = true
+
 -- the words are a command
 abbrev pub is_command : List (List ℕ) → Bool
-is_command (w ∷ []) = bytes_eq w (codes "solo")
-is_command words = false
+is_command words = is_some (command_of words)
 
 -- `refused main STAGE NUMBER PLACE`
 abbrev pub refusal : List ℕ → ℕ → ℕ → List ℕ
@@ -59,9 +71,21 @@ source_output (unread number place) = (refusal (codes "read") number place, stat
 source_output (broken number place) = (refusal (codes "rule") number place, status.Refused)
 source_output (cajoled p) = (solo_parts p, end_status (page_end p page_steps))
 
-abbrev pub solo_output : List ℕ → List ℕ × Status
-solo_output input = if nat_lt longest_input (length input) then (refusal (codes "input") 1 0, status.Refused) else source_output (outcome input)
+-- the printed text of the program that the source spells, and a line end
+abbrev pub format_output : Formatted → List ℕ × Status
+format_output (f.uncut number place) = (refusal (codes "lex") number place, status.Refused)
+format_output (f.unread number place) = (refusal (codes "read") number place, status.Refused)
+format_output (text w) = (w ++ line_end, status.Done)
+
+-- what a command makes of an input that isn't too long
+abbrev pub command_output : Command → List ℕ → List ℕ × Status
+command_output Solo input = source_output (outcome input)
+command_output Format input = format_output (formatted input)
+
+abbrev pub input_output : Option Command → List ℕ → List ℕ × Status
+input_output None input = (codes "usage" ++ line_end, status.Usage)
+input_output (Some c) input = if nat_lt longest_input (length input) then (refusal (codes "input") 1 0, status.Refused) else command_output c input
 
 -- what is written, and the status
 abbrev pub output : List (List ℕ) → List ℕ → List ℕ × Status
-output words input = if is_command words then solo_output input else (codes "usage" ++ line_end, status.Usage)
+output words input = input_output (command_of words) input

@@ -1,16 +1,20 @@
 //! The top call of Caja: words, an input, an output and a status.
 #![tactic(auto)]
 
-ghost use Rattle.std.specs.Prelude.{◌≡◌, ◌≢◌, ◌+◌, ◌≤◌, map, string_bytes, false, IsTrue, ℕ, List};
+ghost use Rattle.std.specs.Prelude.{◌≡◌, ◌≢◌, ◌+◌, ◌≤◌, map, string_bytes, false, IfOk, IsTrue, ℕ, List};
 ghost use Rattle.caja_io.specs.Count.{Rose};
 ghost use Rattle.caja_io.specs.Source.{TakesUpTo};
 ghost use Rattle.caja_io.specs.Sink.{Appends, AppendsPart};
-ghost use Rattle.caja_cli.specs.Output.{is_command, longest_input};
+ghost use Rattle.caja_cli.specs.Output.{is_command, command_output, longest_input};
+ghost use Rattle.page_cajole.specs.Formatted.{IsFormatted};
 ghost use Rattle.page_meaning.specs.Meant.{IsMeant};
 ghost use Rattle.caja_cli.specs.Answered.{IsAnswer, Wrote, WrotePart};
 
+mod command;
+mod formatting;
 #[cfg(test)]
 mod page_tests;
+mod refusal;
 mod solo;
 mod status;
 #[cfg(test)]
@@ -18,19 +22,21 @@ mod table_tests;
 #[cfg(test)]
 mod tests;
 
+use command::{Command, command_of};
 use caja_io::{InputFault, OutputFault, Sink, Source, read_all, write_all};
+use caja_units::Memory;
 pub use status::Status;
 use std::alloc::Global;
 
 /// The longest input, in bytes: 4 MiB.
 const LONGEST_INPUT: usize = 4_194_304;
 
-/// Reads the words and then the whole input, cajoles and runs it, and gives all that is written to the sink at once.
+/// Reads the words and then the whole input, does what the words say, and gives all that is written to the sink at once.
 ///
-/// The words are those behind the program's name. The one command is `solo`: the input is the source of a module, and
-/// the output is its cajoled text and the log of its load. Where the words are no command, nothing is read, and the
-/// line `usage` is written.
-#[tactic(auto, using(page_meaning::proofs::Meant::meant))]
+/// The words are those behind the program's name. With `solo` the input is the source of a module, and the output is its cajoled
+/// text and the log of its load. With `format` the input is a source of ECMAScript 3, and the output its printed text and a line
+/// end. Where the words are no command, nothing is read, and the line `usage` is written.
+#[tactic(auto, using(page_meaning::proofs::Meant::meant, page_cajole::proofs::Formats::is_formatted))]
 pub fn caja<S: Source, K: Sink>(
     words: &[String],
     source: &mut S,
@@ -43,6 +49,9 @@ pub fn caja<S: Source, K: Sink>(
 
     // The log of an input that is an accepted source is what that source means.
     ensures meant { (input : List ℕ) → IsMeant input }
+
+    // What is formatted is the one program that the input spells, and the text is read as it again.
+    ensures formatted { (input : List ℕ) → IsFormatted input }
 
     // Each of the other four, and its cause.
     ensures read_fault { result ≡ Status.ReadFault
@@ -59,27 +68,33 @@ pub fn caja<S: Source, K: Sink>(
     ensures unread { is_command (map string_bytes words.now) ≡ false → source.new ≡ source.old }
     ensures faults_never_fall { S.faults source.old ≤ S.faults source.new }
 {
-    if !is_solo(words) {
+    let Some(command) = command_of(words) else {
         return finish(sink, b"usage\n", Status::Usage);
-    }
+    };
     match read_all(alloc, source, LONGEST_INPUT) {
         Err(InputFault::Failed) => Status::ReadFault,
         Err(InputFault::Memory) => Status::Memory,
         Err(InputFault::TooLong) => finish(sink, b"refused main input 1 0\n", Status::Refused),
-        Ok(input) => match solo::solo(alloc, &input) {
+        Ok(input) => match perform(alloc, command, &input) {
             Err(_memory) => Status::Memory,
             Ok((text, status)) => finish(sink, &text, status),
         },
     }
 }
 
-/// Whether the words are the one command.
-fn is_solo(words: &[String]) -> bool
-    ensures { result ≡ is_command (map string_bytes words.now) }
+/// What a command makes of an input that isn't too long, and the status.
+fn perform(
+    alloc: Global,
+    command: Command,
+    input: &[u8],
+) -> Result<(Vec<u8>, Status), Memory>
+    ensures text { IfOk result (λ r. r.0.items ≡ (command_output command input.now).0) }
+    ensures status { IfOk result (λ r. r.1 ≡ (command_output command input.now).1) }
+    ensures answer { IfOk result (λ r. IsAnswer r.1) }
 {
-    match words {
-        [word] => word.as_str() == "solo",
-        _ => false,
+    match command {
+        Command::Solo => solo::solo(alloc, input),
+        Command::Format => formatting::format_source(alloc, input),
     }
 }
 

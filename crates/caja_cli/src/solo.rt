@@ -3,10 +3,11 @@
 ghost use Rattle.std.specs.Prelude.{◌≡◌, IfOk};
 ghost use Rattle.page_cajole.specs.Cajoled.{outcome};
 ghost use Rattle.es3_tree.specs.View.{program};
-ghost use Rattle.es3_printer.specs.Tokens.{printed};
-ghost use Rattle.caja_cli.specs.Output.{source_output, solo_parts, end_line as end_line_of, end_status as end_status_of, module_part, refusal, page_steps};
+ghost use Rattle.es3_printed.specs.Tokens.{printed};
+ghost use Rattle.caja_cli.specs.Output.{source_output, solo_parts, end_line as end_line_of, end_status as end_status_of, module_part, page_steps};
 ghost use Rattle.page_runner.specs.Log.{page_log, page_end};
 
+use crate::refusal::refused;
 use crate::status::Status;
 use caja_units::Memory;
 use page_cajole::{Answer, CajoledModule, cajole};
@@ -27,23 +28,6 @@ pub fn solo(alloc: Global, input: &[u8]) -> Result<(Vec<u8>, Status), Memory>
         Answer::Broken(number, place) => refused(alloc, "rule", number, place),
         Answer::Module(main) => run(alloc, main),
     }
-}
-
-/// What is written for an input that a stage refuses: the stage, the number of the refusal there, and its byte.
-fn refused(alloc: Global, stage: &str, number: u8, place: u32) -> Result<(Vec<u8>, Status), Memory>
-    ensures text { IfOk result (λ r. r.0.items ≡ refusal stage.now number place) }
-    ensures status { IfOk result (λ r. r.1 ≡ Status.Refused) }
-{
-    let mut line = Vec::from_slice(alloc, b"refused main ")?;
-    line.extend_from_slice(stage.as_bytes())?;
-    line.push(b' ')?;
-    let number = number.to_string(alloc)?;
-    line.extend_from_slice(number.as_bytes())?;
-    line.push(b' ')?;
-    let place = place.to_string(alloc)?;
-    line.extend_from_slice(place.as_bytes())?;
-    line.push(b'\n')?;
-    Ok((line, Status::Refused))
 }
 
 /// The parts that are written for a module: its text, the log of its load, and how that ended.

@@ -297,7 +297,7 @@ unmarked : (ts : List Token) (l : Option ℕ) → map (λ x. x.1) (marked l ts) 
 unmarked [] l = refl
 unmarked (t ∷ ts) l = ap (λ us. t ∷ us) (unmarked ts (last_of (token_text t)))
 
-all_words : (ts : List Token) → All IsToken ts → AreWords ts
+pub all_words : (ts : List Token) → All IsToken ts → AreWords ts
 all_words [] h = All-nil IsWord
 all_words (t ∷ ts) h = All-cons IsWord t ts (word_of t (All-head IsToken t ts h)) (all_words ts (All-tail IsToken t ts h))
 

@@ -8,6 +8,9 @@
 ghost use Rattle.std.specs.Prelude.{◌≡◌, ℕ, List, Ok, IsTrue, false};
 ghost use Rattle.es3_tree.specs.Tree as t;
 ghost use Rattle.es3_tree.specs.Placed.{Placed};
+ghost use Rattle.es3_tree.specs.PlacedView as with_places;
+ghost use Rattle.es3_tree.specs.View.{program};
+ghost use Rattle.es3_tree.specs.declared.Program.{Program};
 ghost use Rattle.es3_tokens.specs.Tokens as tokens;
 ghost use Rattle.es3_tokens.specs.Cut as cut;
 ghost use Rattle.es3_grammar.specs.Grammar.{spells};
@@ -17,9 +20,10 @@ ghost use Rattle.es3_printed.specs.Safe.{AreWords, is_safe};
 ghost use Rattle.es3_printed.specs.Back.{IsSpelled, IsReadBack};
 
 /// That the text of a program may stand in a script element of a page, and in a CDATA section: where each name is of letters
-/// of ASCII, digits, `_` and `$` (ES3 7.6), the text is ASCII, and has no `</`, no `<!` and no `]]>`.
+/// of ASCII, digits, `_` and `$` (ES3 7.6), the text is ASCII, and has no `</`, no `<!` and no `]]>`. So it is where tokens spell the tree.
 pub fn printed_is_safe()
-    ensures { (p : t.Tree t.program) → AreWords (bare t.program false p) → IsTrue (is_safe (printed p)) }
+    ensures words { (p : t.Tree t.program) → AreWords (bare t.program false p) → IsTrue (is_safe (printed p)) }
+    ensures spelled { (p : t.Tree t.program) → IsSpelled p → IsTrue (is_safe (printed p)) }
 {}
 
 /// Reading back: the text of a tree that tokens spell is cut into tokens, and these are read as that tree, apart from its places.
@@ -31,4 +35,9 @@ pub fn printed_is_read_back()
 pub fn what_is_read_is_spelled()
     ensures { (limit : ℕ) (source : List ℕ) (ts : List tokens.Placed) (p : Placed t.program)
         → cut.cut limit source ≡ Ok ts → spells p ts → IsSpelled (plain t.program p) }
+{}
+
+/// The tree of a program without its places is its plain tree.
+pub fn places_are_all_that_is_left_out()
+    ensures { (x : Program) → plain t.program (with_places.program x) ≡ program x }
 {}

@@ -1,3 +1,4 @@
 pub mod Source
 pub mod Cajoled
 pub mod Answers
+pub mod Formatted

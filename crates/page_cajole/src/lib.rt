@@ -1,15 +1,17 @@
-//! From a source to the cajoled program that stands for it, and its text, or to the stage that refuses it.
+//! From a source to the cajoled program that stands for it, and its text, or to its own printed text, or to the stage that refuses it.
 #![tactic(auto)]
 
-ghost use Rattle.std.specs.Prelude.{◌≡◌, IfOk};
+ghost use Rattle.std.specs.Prelude.{◌≡◌, ℕ, List, IfOk};
 ghost use Rattle.es3_tree.specs.View.{program as program_view};
 ghost use Rattle.es3_tree.specs.PlacedView.{of_stmts};
 ghost use Rattle.cajita_tree.specs.View.{module_view};
 ghost use Rattle.cajita_rewrite.specs.Rewrite.{program_of};
-ghost use Rattle.es3_printer.specs.Tokens.{printed};
+ghost use Rattle.es3_printed.specs.Tokens.{printed};
 ghost use Rattle.page_cajole.specs.Cajoled.{outcome, outcome_of_body};
 ghost use Rattle.page_cajole.specs.Answers.{Answers};
+ghost use Rattle.page_cajole.specs.Formatted.{IsFormatted};
 
+mod formatting;
 mod source;
 #[cfg(test)]
 mod tests;
@@ -19,6 +21,7 @@ use cajita_rewrite::rewrite;
 use cajita_tree::Module;
 use es3_printer::print_program;
 use es3_tree::Program;
+pub use formatting::{Format, format};
 use scope_rules::{RuleError, check, is_first};
 use source::{SourceRead, read_source};
 use std::alloc::Global;
@@ -83,3 +86,9 @@ pub fn cajole(alloc: Global, source: &[u8]) -> Result<Answer, Memory>
         SourceRead::Unread(number, at) => Ok(Answer::Unread(number, at)),
     }
 }
+
+/// What `format` promises of each source: its text is that of the one program that the source spells, that text is read as the same
+/// program again, apart from places, and it may stand in a page.
+pub fn formatting_keeps_the_program()
+    ensures { (source : List ℕ) → IsFormatted source }
+{}

@@ -1,23 +1,16 @@
 -- An accepted source is meant by its log.
-use Rattle.std.proofs.Common.{◌≡◌, ℕ, true, false, List, length, Option, Some, None, cond, refl, ap, ◌∙◌}
-use Rattle.std.specs.Prelude.{Ok, Err}
+use Rattle.std.proofs.Common.{◌≡◌, ℕ, true, false, List, Option, Some, None, cond, refl, ap, ◌∙◌}
 use Rattle.es3_tree.specs.Tree as t
 use Rattle.es3_tree.specs.Placed.{Placed}
 use Rattle.cajita_tree.specs.Tree as c
 use Rattle.es3_tree.specs.Placed as placed
-use Rattle.es3_tokens.specs.Cut as cut
-use Rattle.es3_grammar.specs.Spots.{Spot, spots}
-use Rattle.es3_grammar.specs.Limit.{Within}
-use Rattle.es3_grammar.specs.Within as within
-use Rattle.es3_grammar.specs.Within.{Reading, read_within}
-use Rattle.es3_grammar.specs.Answers.{answer_of}
-use Rattle.es3_grammar.proofs.Limits.{within_sound}
 use Rattle.scope_rules.specs.Language.{is_first}
 use Rattle.scope_rules.specs.Faults.{Fault, faults, first}
 use Rattle.scope_rules.specs.Resolve.{module_of}
 use Rattle.cajita_rewrite.specs.Rewrite.{program_of}
-use Rattle.page_cajole.specs.Source.{Source, uncut, unread, spelled, Spells, source_of, of_cut, of_tokens, longest_source, deepest}
+use Rattle.page_cajole.specs.Source.{Source, uncut, unread, spelled, source_of}
 use Rattle.page_cajole.specs.Cajoled.{outside, cajoled, judged, outcome_of_body, outcome_of}
+use Rattle.page_cajole.proofs.Spelled.{spelled_where_read}
 use Rattle.page_meaning.proofs.Theorem.{guests_mean}
 use Rattle.page_meaning.proofs.Accepted.{guest_of}
 use Rattle.page_meaning.specs.Meant.{Meant, IsMeant}
@@ -35,17 +28,6 @@ accepted_tree body p e =
       | false ↦ λ h. absurd cc
     ] in cases e
 
--- what is read within the limit is spelled within it
-read_is_spelled : (end : ℕ) (u : List Spot) (r : Reading) (x : Placed t.program) → read_within deepest u ≡ r → of_tokens (answer_of end r) ≡ spelled x → Within deepest x u
-read_is_spelled end u (within.program y) x is e = within_sound deepest x u (is ∙ ap within.program cc)
-read_is_spelled end u within.broken x is e = absurd cc
-read_is_spelled end u (within.refused v) x is e = absurd cc
-read_is_spelled end u (within.too_deep v) x is e = absurd cc
-
-cut_is_spelled : (input : List ℕ) (a : cut.Answer) (x : Placed t.program) → cut.cut longest_source input ≡ a → of_cut (length input) a ≡ spelled x → Spells input x
-cut_is_spelled input (Err r) x is e = absurd cc
-cut_is_spelled input (Ok ts) x is e = record { spelled_by = ts; cut = is; within = read_is_spelled (length input) (spots ts) (read_within deepest (spots ts)) x refl e }
-
 read_means : (input : List ℕ) (read : Source) (p : t.Tree t.program) → source_of input ≡ read → outcome_of read ≡ cajoled p → Meant input p
 read_means input (uncut number at) p is e = absurd cc
 read_means input (unread number at) p is e = absurd cc
@@ -54,7 +36,7 @@ read_means input (spelled (placed.script body)) p is e =
     let found = judged_program (first (faults body)) (module_of body) p tree.1 in
     record {
       its_module = found.1;
-      spelled = record { tree = placed.script body; spelled = cut_is_spelled input (cut.cut longest_source input) (placed.script body) refl is; resolved = found.2 };
+      spelled = record { tree = placed.script body; spelled = spelled_where_read input (placed.script body) is; resolved = found.2 };
       program = found.3;
       means = guests_mean found.1 (guest_of body found.1 tree.0 found.0 found.2);
     }
