@@ -229,11 +229,12 @@ fn print_new<'a>(
     ensures less { OnOk result (weight rest.new.items
         < weight rest.old.items + 20 * nodes tree.expr (tree.new (expr maker.now) (of_exprs arguments.now))) }
 {
+    let operand = Piece::Part(maker, wraps_maker(in_head, maker), in_head);
     put(
         rest,
         &[
             Piece::Word(Word::New),
-            Piece::Part(maker, wraps_maker(in_head, maker), in_head),
+            operand,
             Piece::Punct(Punct::OpenParen),
             Piece::Exprs(arguments, in_head),
             Piece::Punct(Punct::CloseParen),
