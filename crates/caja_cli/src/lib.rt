@@ -11,6 +11,8 @@ ghost use Rattle.page_meaning.specs.Meant.{IsMeant};
 ghost use Rattle.caja_cli.specs.Answered.{IsAnswer, Wrote, WrotePart};
 
 mod command;
+#[cfg(test)]
+mod format_tests;
 mod formatting;
 #[cfg(test)]
 mod page_tests;
@@ -22,9 +24,9 @@ mod table_tests;
 #[cfg(test)]
 mod tests;
 
-use command::{Command, command_of};
 use caja_io::{InputFault, OutputFault, Sink, Source, read_all, write_all};
 use caja_units::Memory;
+use command::{Command, command_of};
 pub use status::Status;
 use std::alloc::Global;
 
@@ -83,11 +85,7 @@ pub fn caja<S: Source, K: Sink>(
 }
 
 /// What a command makes of an input that isn't too long, and the status.
-fn perform(
-    alloc: Global,
-    command: Command,
-    input: &[u8],
-) -> Result<(Vec<u8>, Status), Memory>
+fn perform(alloc: Global, command: Command, input: &[u8]) -> Result<(Vec<u8>, Status), Memory>
     ensures text { IfOk result (λ r. r.0.items ≡ (command_output command input.now).0) }
     ensures status { IfOk result (λ r. r.1 ≡ (command_output command input.now).1) }
     ensures answer { IfOk result (λ r. IsAnswer r.1) }
