@@ -4,4 +4,3 @@ pub mod Exists
 pub mod Finishing
 pub mod Nested
 pub mod Unique
-pub mod Unplaced

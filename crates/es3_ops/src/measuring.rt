@@ -21,7 +21,7 @@ fn expression(statement: Stmt) -> Expr
 }
 
 /// The expression, and how deep it nests. What is measured is the program of this expression alone, which nests one level deeper.
-#[tactic(auto, using(crate::proofs::Unplaced::expr_plain))]
+#[tactic(auto, using(es3_printed::proofs::Unplaced::expr_plain))]
 pub fn measured(alloc: Global, part: Expr) -> Result<(Expr, u32), Memory>
     requires { deep t.expr (expr part) + 1 < 2 ^ 32 }
     ensures part { IfOk result (λ r. r.0 ≡ part) }

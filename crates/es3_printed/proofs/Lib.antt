@@ -13,4 +13,4 @@ pub mod SafeText
 pub mod Marks
 pub mod SourceTokens
 pub mod ReadBack
-pub mod Seen
+pub mod Unplaced

@@ -17,8 +17,6 @@ mod lists;
 mod piece;
 mod spelling;
 mod statement;
-#[cfg(test)]
-mod tests;
 mod token;
 
 use caja_units::Memory;

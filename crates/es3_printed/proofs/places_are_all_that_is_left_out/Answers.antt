@@ -1,5 +1,5 @@
-use Rattle.es3_printed.proofs.Seen.{seen_plain}
+use Rattle.es3_printed.proofs.Unplaced.{program_plain}
 use Rattle.es3_printed.proofs.places_are_all_that_is_left_out.Goals as goal
 
 pub returns : goal.returns
-returns c = seen_plain
+returns c = program_plain

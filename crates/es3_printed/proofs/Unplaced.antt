@@ -5,6 +5,7 @@ use Rattle.es3_tree.specs.declared.Expr.{Expr}
 use Rattle.es3_tree.specs.declared.Stmt.{Stmt}
 use Rattle.es3_tree.specs.declared.First.{First}
 use Rattle.es3_tree.specs.declared.Loop.{Loop}
+use Rattle.es3_tree.specs.declared.Program.{Program}
 use Rattle.es3_tree.specs.declared.Expr.TheBlock as b
 use Rattle.es3_tree.specs.Tree as t
 use Rattle.es3_tree.specs.View as v
@@ -107,3 +108,10 @@ mutual
   loop_target_plain : (x : Loop) → plain t.loop_target (p.loop_target x) ≡ v.loop_target x
   loop_target_plain (b.Loop::Var n) = refl
   loop_target_plain (b.Target x) = ap t.loop_expr (expr_plain x)
+
+statements_plain : (ss : List Stmt) → plain t.stmts (p.of_stmts ss) ≡ v.of_stmts ss
+statements_plain [] = refl
+statements_plain (s ∷ ss) = cc (stmt_plain s, statements_plain ss)
+
+pub program_plain : (x : Program) → plain t.program (p.program x) ≡ v.program x
+program_plain x = ap t.script (statements_plain x.body.items)
