@@ -1,5 +1,5 @@
 -- An accepted source is meant by its log.
-use Rattle.std.proofs.Common.{◌≡◌, ℕ, true, false, List, Option, Some, None, cond, refl, ap, ◌∙◌}
+use Rattle.std.proofs.Common.{◌≡◌, ℕ, true, false, List, Option, Some, None, cond, refl, sym, ap, subst, ◌∙◌}
 use Rattle.es3_tree.specs.Tree as t
 use Rattle.es3_tree.specs.Placed.{Placed}
 use Rattle.cajita_tree.specs.Tree as c
@@ -8,9 +8,12 @@ use Rattle.scope_rules.specs.Language.{is_first}
 use Rattle.scope_rules.specs.Faults.{Fault, faults, first}
 use Rattle.scope_rules.specs.Resolve.{module_of}
 use Rattle.cajita_rewrite.specs.Rewrite.{program_of}
-use Rattle.page_cajole.specs.Source.{Source, uncut, unread, spelled, source_of}
+use Rattle.page_cajole.specs.Source.{Source, uncut, unread, spelled, Spells, source_of, longest_source}
 use Rattle.page_cajole.specs.Cajoled.{outside, cajoled, judged, outcome_of_body, outcome_of}
-use Rattle.page_cajole.proofs.Spelled.{spelled_where_read}
+use Rattle.es3_printed.specs.Back.{IsSpelled, IsReadBack}
+use Rattle.es3_printed.proofs.ReadBack.{read_back, spelled_where_read}
+use Rattle.cajoled_text.proofs.Rewritten.{rewritten_is_spelled}
+use Rattle.page_cajole.proofs.Spelled as source
 use Rattle.page_meaning.proofs.Theorem.{guests_mean}
 use Rattle.page_meaning.proofs.Accepted.{guest_of}
 use Rattle.page_meaning.specs.Meant.{Meant, IsMeant}
@@ -34,10 +37,14 @@ read_means input (unread number at) p is e = absurd cc
 read_means input (spelled (placed.script body)) p is e =
     let tree = accepted_tree body p e in
     let found = judged_program (first (faults body)) (module_of body) p tree.1 in
+    let s : Spells input (placed.script body) = source.spelled_where_read input (placed.script body) is in
+    let text : IsSpelled (program_of found.1) =
+    rewritten_is_spelled body found.1 (spelled_where_read longest_source input s.spelled_by (placed.script body) s.cut s.within.spelled) found.2 in
     record {
       its_module = found.1;
-      spelled = record { tree = placed.script body; spelled = spelled_where_read input (placed.script body) is; resolved = found.2 };
+      spelled = record { tree = placed.script body; spelled = s; resolved = found.2 };
       program = found.3;
+      back = subst IsReadBack (sym found.3) (read_back (program_of found.1) text);
       means = guests_mean found.1 (guest_of body found.1 tree.0 found.0 found.2);
     }
 
