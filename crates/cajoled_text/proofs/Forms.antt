@@ -1,5 +1,5 @@
 -- Trees that tokens spell, each form from its parts: the tokens are not those that are printed, since parentheses stand round each operation.
-use Rattle.std.proofs.Common.{◌≡◌, ℕ, ◌≤◌, List, [], ◌∷◌, ◌++◌, map, None, Some, refl, ap, arith, lit<}
+use Rattle.std.proofs.Common.{◌≡◌, ℕ, ◌≤◌, List, [], ◌∷◌, ◌++◌, map, None, refl, ap, arith, lit<}
 use Rattle.std.specs.Prelude.{ℤ}
 use Rattle.std.specs.List.{All}
 use Rattle.std.proofs.lemmas.List.Elements.{All-nil, All-cons, All-append, All-map}
@@ -73,7 +73,7 @@ sum x y p q = record {
   tokens = open_paren ∷ ((p.tokens ++ punct 17 ∷ q.tokens) ++ close_paren ∷ []);
   are = within (lit< tt) (last (lit< tt)) (before p.are (then (lit< tt) q.are));
   shown = λ l le. shown_paren free l _ _ le (shown_join free 0 (an_op Add) (punct 17) x y p.tokens q.tokens (omega arith) refl refl
-    (p.shown 11 (omega arith)) (q.shown 12 (omega arith)));
+      (p.shown 11 (omega arith)) (q.shown 12 (omega arith)));
 }
 
 pub assigned : (us : List ℕ) (x : t.Tree t.expr) → IsToken (name us) → Expression x → Expression (t.assign None (t.name us) x)
@@ -82,7 +82,7 @@ assigned us x i p = record {
   tokens = open_paren ∷ ((name us ∷ equals ∷ p.tokens) ++ close_paren ∷ []);
   are = within (lit< tt) (last (lit< tt)) (then i (then (lit< tt) p.are));
   shown = λ l le. shown_paren free l _ _ le (shown_join free 0 (an_assign None) equals (t.name us) x (name us ∷ []) p.tokens (omega arith) refl refl
-    (shown_name free 15 us (omega arith)) (p.shown 1 (omega arith)));
+      (shown_name free 15 us (omega arith)) (p.shown 1 (omega arith)));
 }
 
 pub array : (xs : t.Tree t.exprs) → Expressions xs → Expression (t.array xs)

@@ -1,6 +1,6 @@
 -- The program that stands for a module: each form of the source is resolved and rewritten to one that tokens spell.
 use Rattle.std.proofs.Common.{◌≡◌, ℕ, ◌<◌, Bool, true, false, List, [], ◌∷◌, ◌++◌, Option, Some, None, refl, sym, subst, arith}
-use Rattle.std.specs.Prelude.{codes, IfSome, ◌&&◌}
+use Rattle.std.specs.Prelude.{codes, IfSome}
 use Rattle.std.specs.List.{All, list_all}
 use Rattle.std.proofs.lemmas.Bool.{and_parts}
 use Rattle.std.proofs.lemmas.Bool.Decides.{nat_tests}
@@ -8,12 +8,11 @@ use Rattle.std.proofs.lemmas.List.Elements.{All-nil, All-cons, All-head, All-tai
 use Rattle.es3_tree.specs.Tree as t
 use Rattle.es3_tree.specs.Placed as p
 use Rattle.es3_tree.specs.Placed.{Placed}
-use Rattle.es3_tree.specs.Token.{Token, name, num, text}
+use Rattle.es3_tree.specs.Token.{Token, name, text}
 use Rattle.es3_tree.specs.declared.BinOp.TheVariants.{Mul, Div, Rem, Add, Sub, Shl, Shr, Ushr, Less, Greater, LessEq, GreaterEq, InstanceOf, InObject, Equal, NotEqual, Same, NotSame, BitAnd, BitXor, BitOr}
 use Rattle.es3_tokens.specs.Characters.{is_letter, is_part}
-use Rattle.es3_tokens.specs.Tokens.{is_name}
 use Rattle.es3_tokens.specs.Back.{IsToken}
-use Rattle.es3_grammar.specs.Spots.{Spot, var_word, point, comma, colon, semicolon, equals, open_paren, close_paren, open_brace, close_brace}
+use Rattle.es3_grammar.specs.Spots.{Spot, point, colon, semicolon, close_paren, close_brace}
 use Rattle.es3_grammar.specs.Levels.{an_op}
 use Rattle.es3_grammar.specs.Grammar.{free, Spells, s_var, s_one_item, s_more_items, s_no_stmts, s_more_stmts, s_declaration, s_script}
 use Rattle.es3_grammar.specs.Plain.{plain}
@@ -130,25 +129,26 @@ OfFields x = Expressions (rewritten c.fields x)
 
 mutual
   unfolding bare resolved rewritten
+
   expression : (e : Placed t.expr) → Of (bare t.expr false (plain t.expr e)) → IfSome (resolved t.expr e) OfExpr
   expression (p.num n) h = number n (first h)
   expression (p.text us) h = literal us (first h)
   expression (p.name x) h = named x.text (first h)
   expression (p.object fs) h = one_holds c.record_of OfFields OfExpr (λ x q. a_record (rewritten c.fields x) q) (resolved t.fields fs)
-    (fields fs (front (bare t.fields false (plain t.fields fs)) (close_brace ∷ []) (rest h)))
+      (fields fs (front (bare t.fields false (plain t.fields fs)) (close_brace ∷ []) (rest h)))
   expression (p.dot e k) h =
-    let u = bare t.expr false (plain t.expr e) in
-    let w = wraps_object false (plain t.expr e) in
-    let us = key k.text (first (rest (back (wrapped w u) (point ∷ name k.text ∷ []) h))) in
-    one_holds (λ x. c.read x (c.fixed k.text)) OfExpr OfExpr (λ x q. a_member (rewritten c.expr x) k.text q us) (resolved t.expr e)
+      let u = bare t.expr false (plain t.expr e) in
+      let w = wraps_object false (plain t.expr e) in
+      let us = key k.text (first (rest (back (wrapped w u) (point ∷ name k.text ∷ []) h))) in
+      one_holds (λ x. c.read x (c.fixed k.text)) OfExpr OfExpr (λ x q. a_member (rewritten c.expr x) k.text q us) (resolved t.expr e)
       (expression e (unwrapped w u (front (wrapped w u) (point ∷ name k.text ∷ []) h)))
   expression (p.binary Add x y) h =
-    let u = bare t.expr false (plain t.expr x) in
-    let v = bare t.expr false (plain t.expr y) in
-    let d = wraps false 11 (plain t.expr x) in
-    let e = wraps false 12 (plain t.expr y) in
-    let sign = join_sign (an_op Add) in
-    both_holds (c.binary Add) OfExpr OfExpr OfExpr (λ a b q r. sum (rewritten c.expr a) (rewritten c.expr b) q r) (resolved t.expr x) (resolved t.expr y)
+      let u = bare t.expr false (plain t.expr x) in
+      let v = bare t.expr false (plain t.expr y) in
+      let d = wraps false 11 (plain t.expr x) in
+      let e = wraps false 12 (plain t.expr y) in
+      let sign = join_sign (an_op Add) in
+      both_holds (c.binary Add) OfExpr OfExpr OfExpr (λ a b q r. sum (rewritten c.expr a) (rewritten c.expr b) q r) (resolved t.expr x) (resolved t.expr y)
       (expression x (unwrapped d u (front (wrapped d u) (sign ∷ wrapped e v) h)))
       (expression y (unwrapped e v (rest (back (wrapped d u) (sign ∷ wrapped e v) h))))
   expression (p.binary Mul x y) h = tt
@@ -190,13 +190,15 @@ mutual
   fields : (fs : Placed t.fields) → Of (bare t.fields false (plain t.fields fs)) → IfSome (resolved t.fields fs) OfFields
   fields p.no_fields h = no_more
   fields (p.more_fields k e fs) h =
-    let u = bare t.expr false (plain t.expr e) in
-    let w = wraps false 1 (plain t.expr e) in
-    let v = behind_field (plain t.fields fs) (bare t.fields false (plain t.fields fs)) in
-    both_holds (c.more_fields k.text) OfExpr OfFields OfFields (λ x xs q r. more _ _ (literal k.text (first h)) (more (rewritten c.expr x) (rewritten c.fields xs) q r))
+      let u = bare t.expr false (plain t.expr e) in
+      let w = wraps false 1 (plain t.expr e) in
+      let v = behind_field (plain t.fields fs) (bare t.fields false (plain t.fields fs)) in
+      let behind_key : Of (wrapped w u ++ v) = rest {w = wrapped w u ++ v} (rest {w = colon ∷ (wrapped w u ++ v)} h) in
+      both_holds (c.more_fields k.text) OfExpr OfFields OfFields
+      (λ x xs q r. more (t.text k.text) _ (literal k.text (first h)) (more (rewritten c.expr x) (rewritten c.fields xs) q r))
       (resolved t.expr e) (resolved t.fields fs)
-      (expression e (unwrapped w u (front (wrapped w u) v (rest (rest h)))))
-      (fields fs (fields_behind (plain t.fields fs) (back (wrapped w u) v (rest (rest h)))))
+      (expression e (unwrapped w u (front (wrapped w u) v behind_key)))
+      (fields fs (fields_behind (plain t.fields fs) (back (wrapped w u) v behind_key)))
 
 -- ---- 12.2: where tokens spell a statement that declares variables, it declares one
 
@@ -281,14 +283,14 @@ unfolding bare resolved rewritten first_value
 items p.no_items f h = absurd f
 items (p.more_items x m p.no_items) f h =
     both_holds (c.more_items x.text) OfValue (λ z. z ≡ c.no_items) OfItems
-      (λ a b q e. subst (λ z. OfItems (c.more_items x.text a z)) (sym e) (one_item x.text (rewritten c.maybe_expr a) (first h) q))
-      (resolved t.maybe_expr m) (Some c.no_items) (begins_as m (front (first_value m) [] (rest h))) refl
+    (λ a b q e. subst (λ z. OfItems (c.more_items x.text a z)) (sym e) (one_item x.text (rewritten c.maybe_expr a) (first h) q))
+    (resolved t.maybe_expr m) (Some c.no_items) (begins_as m (front (first_value m) [] (rest h))) refl
 items (p.more_items x m (p.more_items y n is)) f h =
     let v = behind_item (plain t.items (p.more_items y n is)) (bare t.items false (plain t.items (p.more_items y n is))) in
     both_holds (c.more_items x.text) OfValue OfItems OfItems (λ a b q r. more_items x.text (rewritten c.maybe_expr a) (rewritten c.items b) (first h) q r)
-      (resolved t.maybe_expr m) (resolved t.items (p.more_items y n is))
-      (begins_as m (front (first_value m) v (rest h)))
-      (items (p.more_items y n is) tt (rest (back (first_value m) v (rest h))))
+    (resolved t.maybe_expr m) (resolved t.items (p.more_items y n is))
+    (begins_as m (front (first_value m) v (rest h)))
+    (items (p.more_items y n is) tt (rest (back (first_value m) v (rest h))))
 
 stmt : (s : Placed t.stmt) → Filled (plain t.stmt s) → Of (bare t.stmt false (plain t.stmt s)) → IfSome (resolved t.stmt s) OfStmt
 unfolding bare resolved rewritten
@@ -297,7 +299,7 @@ stmt (p.var is) f h = one_holds c.var OfItems OfStmt (λ x q. variables (rewritt
 stmt (p.expression e) f h =
     let u = bare t.expr false (plain t.expr e) in
     one_holds c.expression OfExpr OfStmt (λ x q. statement _ (assigned result_name (rewritten c.expr x) result q)) (resolved t.expr e)
-      (expression e (unwrapped (opens u) u (front (wrapped (opens u) u) (semicolon ∷ []) h)))
+    (expression e (unwrapped (opens u) u (front (wrapped (opens u) u) (semicolon ∷ []) h)))
 stmt (p.block ss) f h = tt
 stmt p.empty f h = tt
 stmt (p.branch e s r) f h = tt
@@ -322,7 +324,7 @@ stmts (p.more_stmts s ss) f h =
     let u = bare t.stmt false (plain t.stmt s) in
     let v = bare t.stmts false (plain t.stmts ss) in
     both_holds c.more_stmts OfStmt OfStmts OfStmts (λ a b q r. more_stmts (rewritten c.stmt a) _ q r) (resolved t.stmt s) (resolved t.stmts ss)
-      (stmt s f.0 (front u v h)) (stmts ss f.1 (back u v h))
+    (stmt s f.0 (front u v h)) (stmts ss f.1 (back u v h))
 
 -- ---- modules
 
@@ -331,10 +333,12 @@ OfProgram m = IsSpelled (program_of m)
 
 of_module : (body : Placed t.stmts) → AllFilled (plain t.stmts body) → Of (bare t.stmts false (plain t.stmts body)) → IfSome (module_of body) OfProgram
 unfolding rewritten
-of_module body f h = one_holds (λ list. c.a_module [] (c.block (vars_of body) list)) OfStmts OfProgram (λ list q. loads (joined (rewritten c.stmts list) result_stmts) q)
+of_module body f h =
+    one_holds (λ list. c.a_module [] (c.block (vars_of body) list)) OfStmts OfProgram (λ list q. loads (joined (rewritten c.stmts list) result_stmts) q)
     (resolved t.stmts body) (stmts body f h)
 
-pub rewritten_is_spelled : (body : Placed t.stmts) (m : c.Tree c.program) → IsSpelled (plain t.program (p.script body)) → module_of body ≡ Some m → IsSpelled (program_of m)
+pub rewritten_is_spelled : (body : Placed t.stmts) (m : c.Tree c.program) → IsSpelled (plain t.program (p.script body))
+    → module_of body ≡ Some m → IsSpelled (program_of m)
 unfolding bare
 rewritten_is_spelled body m h e =
     let filled = subst IsFilled h.same (is_filled h.tree h.by h.spelled) in
