@@ -1,25 +1,21 @@
 -- The program that stands for a module: each form of the source is resolved and rewritten to one that tokens spell.
-use Rattle.std.proofs.Common.{◌≡◌, ℕ, ◌<◌, Bool, true, false, List, [], ◌∷◌, ◌++◌, Option, Some, None, refl, sym, subst, arith}
-use Rattle.std.specs.Prelude.{codes, IfSome, ◌&&◌}
-use Rattle.std.specs.List.{All, list_all}
-use Rattle.std.proofs.lemmas.Bool.{and_parts}
-use Rattle.std.proofs.lemmas.Bool.Decides.{nat_tests}
+use Rattle.std.proofs.Common.{◌≡◌, ℕ, Bool, true, false, List, [], ◌∷◌, ◌++◌, Option, Some, None, refl, sym, subst}
+use Rattle.std.specs.Prelude.{codes, IfSome}
+use Rattle.std.specs.List.{All}
 use Rattle.std.proofs.lemmas.List.Elements.{All-nil, All-cons, All-head, All-tail}
 use Rattle.es3_tree.specs.Tree as t
 use Rattle.es3_tree.specs.Placed as p
 use Rattle.es3_tree.specs.Placed.{Placed}
-use Rattle.es3_tree.specs.Token.{Token, name, num, text}
+use Rattle.es3_tree.specs.Token.{Token, name, text}
 use Rattle.es3_tree.specs.declared.BinOp.TheVariants.{Mul, Div, Rem, Add, Sub, Shl, Shr, Ushr, Less, Greater, LessEq, GreaterEq, InstanceOf, InObject, Equal, NotEqual, Same, NotSame, BitAnd, BitXor, BitOr}
-use Rattle.es3_tokens.specs.Characters.{is_letter, is_part}
-use Rattle.es3_tokens.specs.Tokens.{is_name}
 use Rattle.es3_tokens.specs.Back.{IsToken}
-use Rattle.es3_grammar.specs.Spots.{Spot, var_word, point, comma, colon, semicolon, equals, open_paren, close_paren, open_brace, close_brace}
+use Rattle.es3_grammar.specs.Spots.{Spot, point, colon, semicolon, close_paren, close_brace}
 use Rattle.es3_grammar.specs.Levels.{an_op}
 use Rattle.es3_grammar.specs.Grammar.{free, Spells, s_var, s_one_item, s_more_items, s_no_stmts, s_more_stmts, s_declaration, s_script}
 use Rattle.es3_grammar.specs.Plain.{plain}
 use Rattle.es3_printed.specs.Tokens.{bare, wrapped, wraps, wraps_object, opens, join_sign, initialiser, behind_field, behind_item}
 use Rattle.es3_printed.specs.Back.{IsSpelled}
-use Rattle.es3_printed.proofs.Written.{written}
+use Rattle.es3_printed.proofs.Written.{written, name_small}
 use Rattle.cajita_tree.specs.Tree as c
 use Rattle.scope_rules.specs.Resolve.{both, one, resolved, module_of, vars_of}
 use Rattle.cajita_rewrite.specs.Rewrite.{runtime_name, imports_name, result_name, runtime_call, result_stmts, load_stmt, declares, joined, rewritten, program_of}
@@ -72,23 +68,8 @@ items_behind (t.more_items x m is) h = rest h
 
 -- a name's units are below 65536, so that it is a text too
 
-part_small : (d : ℕ) → is_part d ≡ true → d < 65536
-part_small d h = grind (arith, nat_tests)
-
-letter_small : (d : ℕ) → is_letter d ≡ true → d < 65536
-letter_small d h = grind (arith, nat_tests)
-
-parts_small : (us : List ℕ) → list_all is_part us ≡ true → IsToken (text us)
-parts_small [] h = All-nil (λ u. u < 65536)
-parts_small (d ∷ us) h =
-    let a = and_parts (is_part d) (list_all is_part us) h in
-    All-cons (λ u. u < 65536) d us (part_small d a.0) (parts_small us a.1)
-
 key : (us : List ℕ) → IsToken (name us) → IsToken (text us)
-key [] h = All-nil (λ u. u < 65536)
-key (d ∷ us) h =
-    let a = and_parts (is_letter d) (list_all is_part us) h.0 in
-    All-cons (λ u. u < 65536) d us (letter_small d a.0) (parts_small us a.1)
+key us h = name_small us h.0
 
 -- ---- what the rewriting itself writes
 
@@ -194,10 +175,12 @@ mutual
       let u = bare t.expr false (plain t.expr e) in
       let w = wraps false 1 (plain t.expr e) in
       let v = behind_field (plain t.fields fs) (bare t.fields false (plain t.fields fs)) in
-      both_holds (c.more_fields k.text) OfExpr OfFields OfFields (λ x xs q r. more _ _ (literal k.text (first h)) (more (rewritten c.expr x) (rewritten c.fields xs) q r))
+      let behind_key : Of (wrapped w u ++ v) = rest {w = wrapped w u ++ v} (rest {w = colon ∷ (wrapped w u ++ v)} h) in
+      both_holds (c.more_fields k.text) OfExpr OfFields OfFields
+      (λ x xs q r. more (t.text k.text) _ (literal k.text (first h)) (more (rewritten c.expr x) (rewritten c.fields xs) q r))
       (resolved t.expr e) (resolved t.fields fs)
-      (expression e (unwrapped w u (front (wrapped w u) v (rest (rest h)))))
-      (fields fs (fields_behind (plain t.fields fs) (back (wrapped w u) v (rest (rest h)))))
+      (expression e (unwrapped w u (front (wrapped w u) v behind_key)))
+      (fields fs (fields_behind (plain t.fields fs) (back (wrapped w u) v behind_key)))
 
 -- ---- 12.2: where tokens spell a statement that declares variables, it declares one
 
@@ -332,10 +315,12 @@ OfProgram m = IsSpelled (program_of m)
 
 of_module : (body : Placed t.stmts) → AllFilled (plain t.stmts body) → Of (bare t.stmts false (plain t.stmts body)) → IfSome (module_of body) OfProgram
 unfolding rewritten
-of_module body f h = one_holds (λ list. c.a_module [] (c.block (vars_of body) list)) OfStmts OfProgram (λ list q. loads (joined (rewritten c.stmts list) result_stmts) q)
+of_module body f h =
+    one_holds (λ list. c.a_module [] (c.block (vars_of body) list)) OfStmts OfProgram (λ list q. loads (joined (rewritten c.stmts list) result_stmts) q)
     (resolved t.stmts body) (stmts body f h)
 
-pub rewritten_is_spelled : (body : Placed t.stmts) (m : c.Tree c.program) → IsSpelled (plain t.program (p.script body)) → module_of body ≡ Some m → IsSpelled (program_of m)
+pub rewritten_is_spelled : (body : Placed t.stmts) (m : c.Tree c.program) → IsSpelled (plain t.program (p.script body))
+    → module_of body ≡ Some m → IsSpelled (program_of m)
 unfolding bare
 rewritten_is_spelled body m h e =
     let filled = subst IsFilled h.same (is_filled h.tree h.by h.spelled) in

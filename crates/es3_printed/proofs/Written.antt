@@ -100,7 +100,7 @@ parts_small (c ∷ us) h =
 letter_small : (c : ℕ) → is_letter c ≡ true → c < 65536
 letter_small c h = grind (arith, nat_tests)
 
-name_small : (us : List ℕ) → is_name us ≡ true → IsToken (text us)
+pub name_small : (us : List ℕ) → is_name us ≡ true → IsToken (text us)
 name_small [] h = cc
 name_small (c ∷ us) h =
     let a = and_parts (is_letter c) (list_all is_part us) h in
