@@ -8,7 +8,7 @@ ghost use Rattle.caja_cli.specs.Output.{format_output};
 use crate::refusal::refused;
 use crate::status::Status;
 use caja_units::Memory;
-use page_cajole::{Format, format};
+use page_cajole::{FormatAnswer, format};
 use std::alloc::Global;
 
 /// What is written for an input, and the status.
@@ -17,9 +17,9 @@ pub fn format_source(alloc: Global, input: &[u8]) -> Result<(Vec<u8>, Status), M
     ensures status { IfOk result (λ r. r.1 ≡ (format_output (formatted input.now)).1) }
 {
     match format(alloc, input)? {
-        Format::Uncut(number, place) => refused(alloc, "lex", number, place),
-        Format::Unread(number, place) => refused(alloc, "read", number, place),
-        Format::Text(text) => line_of(text),
+        FormatAnswer::Uncut(number, place) => refused(alloc, "lex", number, place),
+        FormatAnswer::Unread(number, place) => refused(alloc, "read", number, place),
+        FormatAnswer::Text(text) => line_of(text),
     }
 }
 

@@ -8,8 +8,8 @@ use Rattle.es3_printed.specs.Safe.{is_safe}
 use Rattle.es3_printed.specs.Back.{IsReadBack}
 use Rattle.page_cajole.specs.Source as s
 use Rattle.page_cajole.specs.Source.{Source, source_of, Spells}
-use Rattle.page_cajole.specs.declared.formatting.Format.{Format}
-use Rattle.page_cajole.specs.declared.formatting.Format.TheVariants as answer
+use Rattle.page_cajole.specs.declared.formatting.FormatAnswer.{FormatAnswer}
+use Rattle.page_cajole.specs.declared.formatting.FormatAnswer.TheVariants as answer
 
 pub data Formatted : Type 0 where
   -- it isn't cut into tokens, or these spell no program: the number of the refusal in its stage, and the byte of the source
@@ -27,7 +27,7 @@ abbrev pub formatted : List ℕ → Formatted
 formatted source = text_of (source_of source)
 
 -- what an answer says
-abbrev pub told : Format → Formatted
+abbrev pub told : FormatAnswer → Formatted
 told (answer.Text v) = text v.items
 told (answer.Uncut number at) = uncut number at
 told (answer.Unread number at) = unread number at

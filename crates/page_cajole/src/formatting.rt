@@ -10,7 +10,7 @@ use std::alloc::Global;
 
 /// What a source is formatted to.
 #[derive(Drop)]
-pub enum Format {
+pub enum FormatAnswer {
     /// The printed text of the program that it spells, in bytes of ASCII.
     Text(Vec<u8>),
     /// It isn't cut into tokens: the number of the refusal, and the byte of the source where it is, from 0.
@@ -26,12 +26,12 @@ pub enum Format {
 ///
 /// `Memory` where memory is wanting.
 #[tactic(auto, using(es3_printed::proofs::Unplaced::program_plain))]
-pub fn format(alloc: Global, source: &[u8]) -> Result<Format, Memory>
+pub fn format(alloc: Global, source: &[u8]) -> Result<FormatAnswer, Memory>
     ensures { IfOk result (λ f. told f ≡ formatted source.now) }
 {
     match read_source(alloc, source)? {
-        SourceRead::Spelled(program) => Ok(Format::Text(print_program(alloc, &program)?)),
-        SourceRead::Uncut(number, at) => Ok(Format::Uncut(number, at)),
-        SourceRead::Unread(number, at) => Ok(Format::Unread(number, at)),
+        SourceRead::Spelled(program) => Ok(FormatAnswer::Text(print_program(alloc, &program)?)),
+        SourceRead::Uncut(number, at) => Ok(FormatAnswer::Uncut(number, at)),
+        SourceRead::Unread(number, at) => Ok(FormatAnswer::Unread(number, at)),
     }
 }

@@ -21,7 +21,7 @@ use cajita_rewrite::rewrite;
 use cajita_tree::Module;
 use es3_printer::print_program;
 use es3_tree::Program;
-pub use formatting::{Format, format};
+pub use formatting::{FormatAnswer, format};
 use scope_rules::{RuleError, check, is_first};
 use source::{SourceRead, read_source};
 use std::alloc::Global;
