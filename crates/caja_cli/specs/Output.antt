@@ -5,7 +5,7 @@ use Rattle.caja_units.specs.Index.{number_units}
 use Rattle.es3_tree.specs.Tree as t
 use Rattle.es3_printed.specs.Tokens.{printed}
 use Rattle.page_cajole.specs.Cajoled.{Outcome, uncut, unread, broken, cajoled, outcome}
-use Rattle.page_cajole.specs.Formatted.{Formatted, text, formatted}
+use Rattle.page_cajole.specs.Formatted.{Formatted, formatted}
 use Rattle.page_cajole.specs.Formatted as f
 use Rattle.page_runner.specs.declared.End.{End}
 use Rattle.page_runner.specs.declared.End.TheVariants as the_end
@@ -75,7 +75,7 @@ source_output (cajoled p) = (solo_parts p, end_status (page_end p page_steps))
 abbrev pub format_output : Formatted → List ℕ × Status
 format_output (f.uncut number place) = (refusal (codes "lex") number place, status.Refused)
 format_output (f.unread number place) = (refusal (codes "read") number place, status.Refused)
-format_output (text w) = (w ++ line_end, status.Done)
+format_output (f.text w) = (w ++ line_end, status.Done)
 
 -- what a command makes of an input that isn't too long
 abbrev pub command_output : Command → List ℕ → List ℕ × Status
