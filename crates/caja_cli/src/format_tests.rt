@@ -5,7 +5,10 @@ use caja_io::{MemSink, MemSource};
 use std::test::Fail;
 
 /// A source and its printed text, without the line end.
-static ROWS: [(&str, &str); 130] = [
+type Row = (&'static str, &'static str);
+
+/// Tokens, with a space where two would run together.
+static SPACED: [Row; 31] = [
     (
         "a - (b - c); x = - -1; if (a < !b) c; else \"</p>\";",
         "a-(b-c);x=- -1;if(a< !b)c;else\"\\x3C/p\\x3E\";",
@@ -97,6 +100,10 @@ static ROWS: [(&str, &str); 130] = [
         "a = !b; a = -b; a += +b; a -= --b; a <<= !b;",
         "a=!b;a=-b;a+=+b;a-=--b;a<<=!b;",
     ),
+];
+
+/// Parts of expressions, in parentheses where their places ask for them.
+static ENCLOSED: [Row; 57] = [
     ("(a, b) + c; a + (b, c);", "(a,b)+c;a+(b,c);"),
     (
         "(a = b) + c; a + (b = c); (a ? b : c) + d; a + (b ? c : d);",
@@ -310,6 +317,10 @@ static ROWS: [(&str, &str); 130] = [
         "(function () {}) ? a : b; ({}).a++; ({}).a ? b : c;",
         "(function(){}?a:b);({}.a++);({}.a?b:c);",
     ),
+];
+
+/// Heads of `for`, statements, functions, texts, numbers and records.
+static OTHERS: [Row; 42] = [
     (
         "for ((a in b); ; ) ; for (var i = (a in b); ; ) ;",
         "for((a in b);;);for(var i=(a in b);;);",
@@ -513,14 +524,37 @@ fn format_run(alloc: Global, input: Vec<u8>) -> Result<(Status, Vec<u8>), Fail> 
     Ok((status, sink.written().to_vec(alloc)?))
 }
 
+/// Whether the source is printed as the text and a line end.
+fn prints(alloc: Global, row: &Row) -> Result<bool, Fail> {
+    let (source, text) = *row;
+    let (status, output) = format_run(alloc, source.as_bytes().to_vec(alloc)?)?;
+    let wanted = format!(in alloc; "{text}\n")?;
+    Ok(status == Status::Done && output.as_slice() == wanted.as_bytes())
+}
+
 #[test]
-fn each_source_is_printed(rt: HostRuntime) -> Result<(), Fail> {
+fn tokens_are_spaced(rt: HostRuntime) -> Result<(), Fail> {
     let alloc = rt.alloc();
-    for (source, text) in ROWS.iter() {
-        let (status, output) = format_run(alloc, source.as_bytes().to_vec(alloc)?)?;
-        let wanted = format!(in alloc; "{text}\n")?;
-        assert_eq!(rt; output.as_slice(), wanted.as_bytes(), "{source}");
-        assert_eq!(rt; status, Status::Done, "{source}");
+    for row in SPACED.iter() {
+        assert!(rt; prints(alloc, row)?, "{}", row.0);
+    }
+    Ok(())
+}
+
+#[test]
+fn parts_are_enclosed(rt: HostRuntime) -> Result<(), Fail> {
+    let alloc = rt.alloc();
+    for row in ENCLOSED.iter() {
+        assert!(rt; prints(alloc, row)?, "{}", row.0);
+    }
+    Ok(())
+}
+
+#[test]
+fn each_form_is_printed(rt: HostRuntime) -> Result<(), Fail> {
+    let alloc = rt.alloc();
+    for row in OTHERS.iter() {
+        assert!(rt; prints(alloc, row)?, "{}", row.0);
     }
     Ok(())
 }
