@@ -11,18 +11,10 @@ ghost use Rattle.page_meaning.specs.Meant.{IsMeant};
 ghost use Rattle.caja_cli.specs.Answered.{IsAnswer, Wrote, WrotePart};
 
 mod command;
-#[cfg(test)]
-mod format_tests;
 mod formatting;
-#[cfg(test)]
-mod page_tests;
 mod refusal;
 mod solo;
 mod status;
-#[cfg(test)]
-mod table_tests;
-#[cfg(test)]
-mod tests;
 
 use caja_io::{InputFault, OutputFault, Sink, Source, read_all, write_all};
 use caja_units::Memory;

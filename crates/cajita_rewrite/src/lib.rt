@@ -9,8 +9,6 @@ ghost use Rattle.cajita_rewrite.specs.Rewrite.{program_of};
 
 mod forms;
 mod load;
-#[cfg(test)]
-mod tests;
 mod walk;
 
 use caja_units::Memory;

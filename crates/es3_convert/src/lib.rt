@@ -21,6 +21,3 @@ pub fn out_of_memory(_memory: Memory) -> Stop
 {
     Stop::Memory
 }
-
-#[cfg(test)]
-mod tests;

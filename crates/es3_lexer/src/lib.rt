@@ -10,10 +10,6 @@ mod puncts;
 mod signs;
 mod spelling;
 mod step;
-#[cfg(test)]
-mod test_tables;
-#[cfg(test)]
-mod tests;
 mod texts;
 mod token;
 mod words;

@@ -10,7 +10,5 @@ mod machine;
 mod note;
 mod reference;
 mod resume;
-#[cfg(test)]
-mod tests;
 
 pub use machine::Machine;

@@ -28,6 +28,3 @@ pub fn grouping_nests_within_its_parts()
     ensures { (n : ℕ) (front : Front) (x a : E) → Grouped n front x a
         → deep t.expr a ≤ sum_by (λ p. deep t.expr p.0 + 1) front + deep t.expr x }
 {}
-
-#[cfg(test)]
-mod tests;

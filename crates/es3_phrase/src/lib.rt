@@ -9,9 +9,6 @@ ghost use Rattle.es3_frames.specs.Made.{made_of};
 ghost use Rattle.es3_frames.specs.Views.{frame_of, spot_of, stack_of, state_of};
 ghost use Rattle.es3_phrase.specs.ReadsExpr.{Counts, Phrased, ReadsExpr, ReadsFront};
 
-#[cfg(test)]
-mod tests;
-
 use caja_units::Memory;
 use es3_expr::is_target;
 use es3_frames::brackets::turn;

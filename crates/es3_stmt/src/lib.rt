@@ -7,9 +7,5 @@
 mod ending;
 mod read;
 pub mod step;
-#[cfg(test)]
-mod test_tables;
-#[cfg(test)]
-mod tests;
 
 pub use read::{ReadError, read_program};

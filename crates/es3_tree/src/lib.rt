@@ -167,6 +167,3 @@ pub enum Expr {
     Assign(Option<BinOp>, Box<Expr>, Box<Expr>),
     Comma(Box<Expr>, Box<Expr>),
 }
-
-#[cfg(test)]
-mod tests;

@@ -56,6 +56,3 @@ pub fn read_public(alloc: Global, h: &mut Heap, by: u32, o: &Value, k: &Value) -
 {
     answer_of(read::read_public(alloc, h, by, o, k))
 }
-
-#[cfg(test)]
-mod tests;

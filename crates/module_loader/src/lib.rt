@@ -6,6 +6,3 @@ mod opening;
 
 pub use natives::PageNatives;
 pub use opening::{Opened, open};
-
-#[cfg(test)]
-mod tests;

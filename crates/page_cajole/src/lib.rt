@@ -13,8 +13,6 @@ ghost use Rattle.page_cajole.specs.Formatted.{IsFormatted};
 
 mod formatting;
 mod source;
-#[cfg(test)]
-mod tests;
 
 use caja_units::Memory;
 use cajita_rewrite::rewrite;

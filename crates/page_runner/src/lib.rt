@@ -98,6 +98,3 @@ fn cut_off(alloc: Global, end: End) -> Outcome
         end,
     }
 }
-
-#[cfg(test)]
-mod tests;

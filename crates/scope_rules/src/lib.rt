@@ -16,8 +16,6 @@ mod declared;
 mod faults;
 mod language;
 mod resolve;
-#[cfg(test)]
-mod tests;
 mod words;
 
 use caja_units::{Memory, Units};

@@ -1,7 +1,9 @@
-use crate::{RuleError, check, is_first};
+//! Programs and the first rule that each breaks.
+
 use caja_num::Whole;
 use caja_units::{Memory, Units};
 use es3_tree::{Expr, Name, Program, Stmt, VarItem, make_dot, make_object, make_var};
+use scope_rules::{RuleError, check, is_first};
 use std::alloc::Global;
 use std::test::Fail;
 

@@ -1,7 +1,9 @@
+//! The longest expressions at the front of tokens.
+
 ghost use Rattle.std.specs.Prelude.{◌<◌, ◌-◌, ◌^◌};
 
-use crate::read_expr;
 use es3_lexer::tokens;
+use es3_phrase::read_expr;
 use std::alloc::Global;
 use std::test::Fail;
 

@@ -1,7 +1,8 @@
 //! Sources at the edges of the first language, each with the exact output.
 
-use super::*;
+use caja_cli::{Status, caja};
 use caja_io::{MemSink, MemSource};
+use std::alloc::Global;
 use std::test::Fail;
 
 /// What stands before the statements of a module in its cajoled text.

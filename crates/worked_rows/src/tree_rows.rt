@@ -1,16 +1,18 @@
+//! Trees: their depth and their size, and each maker once where it succeeds.
+
 ghost use Rattle.std.specs.Prelude.{◌≡◌, IfOk};
 ghost use Rattle.es3_tree.specs.Tree as tree;
 ghost use Rattle.es3_tree.specs.View.{expr, stmt, func, program};
 ghost use Rattle.es3_tree.specs.Measure.{nest, count};
 
-use crate::{
+use caja_units::Units;
+use es3_tree::{
     BinOp, Case, Expr, First, Func, Loop, Name, Program, Stmt, UnOp, VarItem, depth, make_and,
     make_array, make_assign, make_binary, make_block, make_break, make_call, make_comma, make_cond,
     make_continue, make_declaration, make_do, make_dot, make_first_var, make_for, make_for_in,
     make_function, make_if, make_index, make_label, make_new, make_object, make_or, make_return,
     make_step, make_switch, make_try, make_unary, make_var, make_while, make_with, size,
 };
-use caja_units::Units;
 use std::alloc::Global;
 use std::test::Fail;
 

@@ -1,9 +1,9 @@
-//! Worked rows, and each call once where it succeeds.
+//! Calls of the guards, each once where it succeeds.
 
-use super::{Guarded, guard_row, initialize_map, read_public};
 use caja_num::Whole;
 use caja_units::{Memory, Units};
 use es3_heap::{Heap, Tag, Value};
+use guard_runtime::{Guarded, guard_row, initialize_map, read_public};
 use std::alloc::Global;
 use std::test::Fail;
 

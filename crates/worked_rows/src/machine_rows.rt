@@ -3,13 +3,13 @@
 ghost use Rattle.es3_heap.specs.declared.value.Value.TheVariants.{Undefined};
 ghost use Rattle.es3_meaning.specs.Natives.{throw_reply};
 
-use crate::Machine;
 use caja_num::Whole;
 use caja_units::{Memory, Units};
 use es3_control::Touch;
 use es3_control::natives::{Answer, Completion, Natives};
 use es3_convert::out_of_memory;
 use es3_heap::{Class, Heap, Proto, Stop, Tag, Value};
+use es3_machine::Machine;
 use es3_tree::{
     BinOp, Expr, Func, Name, Program, Stmt, make_assign, make_binary, make_call, make_function,
     make_return,

@@ -1,8 +1,12 @@
 //! Sources of every form, each with its printed text, and sources that are refused, each with its line.
 
-use super::*;
+use caja_cli::{Status, caja};
 use caja_io::{MemSink, MemSource};
+use std::alloc::Global;
 use std::test::Fail;
+
+/// The longest input, in bytes: 4 MiB.
+const LONGEST_INPUT: usize = 4_194_304;
 
 /// A source and its printed text, without the line end.
 type Row = (&'static str, &'static str);

@@ -1,9 +1,9 @@
 //! What the natives of an opened page answer.
 
-use super::{Opened, PageNatives, open};
 use caja_units::Memory;
 use es3_control::natives::{Answer, Natives};
 use es3_heap::{FuncKind, Value};
+use module_loader::{Opened, PageNatives, open};
 use std::alloc::Global;
 use std::test::Fail;
 

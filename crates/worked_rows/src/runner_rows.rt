@@ -1,7 +1,7 @@
 //! The log of a page, as bytes.
 
-use super::{End, run_page};
 use es3_tree::Program;
+use page_runner::{End, run_page};
 use std::test::Fail;
 
 #[test]

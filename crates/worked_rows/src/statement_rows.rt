@@ -1,7 +1,9 @@
-use crate::test_tables::{BROKEN_OFF, FAULTS, PROGRAMS};
-use crate::{ReadError, read_program};
+//! Sources that are read as programs, or refused.
+
+use crate::statement_tables::{BROKEN_OFF, FAULTS, PROGRAMS};
 use caja_units::Memory;
 use es3_lexer::tokens;
+use es3_stmt::read_program;
 use std::alloc::Global;
 use std::test::Fail;
 

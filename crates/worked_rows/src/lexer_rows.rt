@@ -1,6 +1,8 @@
-use crate::test_tables::{BROKEN, GAPS_AND_COMMENTS, REFUSED, TOKENS, VALUES};
-use crate::{Kind, Tokens, tokens};
+//! Sources that are cut into tokens, or refused.
+
+use crate::lexer_tables::{BROKEN, GAPS_AND_COMMENTS, REFUSED, TOKENS, VALUES};
 use caja_units::Units;
+use es3_lexer::{Kind, Tokens, tokens};
 use std::alloc::Global;
 use std::str;
 use std::test::Fail;

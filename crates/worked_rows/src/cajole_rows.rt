@@ -1,7 +1,7 @@
 //! Sources that are cajoled, and some that are refused.
 
-use super::{Answer, cajole};
 use caja_units::Memory;
+use page_cajole::{Answer, cajole};
 use std::alloc::Global;
 use std::test::Fail;
 

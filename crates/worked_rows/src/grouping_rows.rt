@@ -1,6 +1,8 @@
+//! Operands and the operators between them, grouped into trees.
+
 ghost use Rattle.std.specs.Prelude.{◌<◌, length};
 
-use crate::{Infix, Ops};
+use es3_ops::{Infix, Ops};
 use es3_tree::{BinOp, Expr, UnOp, make_unary};
 use std::alloc::Global;
 use std::test::Fail;

@@ -1,6 +1,12 @@
-use super::*;
-use caja_io::{MemSink, MemSource};
+//! Inputs of the top call with `solo`, and what becomes of each; wrong words; faults of the input and of the output.
+
+use caja_cli::{Status, caja};
+use caja_io::{MemSink, MemSource, read_all};
+use std::alloc::Global;
 use std::test::Fail;
+
+/// The longest input, in bytes: 4 MiB.
+const LONGEST_INPUT: usize = 4_194_304;
 
 // The room of a sink, in bytes.
 const ROOM: usize = 1024;
@@ -154,5 +160,34 @@ fn a_sink_that_takes_nothing_has_no_room(rt: HostRuntime) -> Result<(), Fail> {
     let mut sink = MemSink::new(0, vec![in alloc; 0; ROOM]?, Vec::new(alloc));
     assert_eq!(rt; solo_call(alloc, &mut source, &mut sink)?, Status::NoRoom);
     assert_eq!(rt; sink.written().len(), 0);
+    Ok(())
+}
+
+#[test]
+fn a_wrong_word_is_answered_before_the_input_is_read(rt: HostRuntime) -> Result<(), Fail> {
+    let alloc = rt.alloc();
+    let input: &[u8] = b"var a; a.x;";
+    let mut source = MemSource::new(input.to_vec(alloc)?, 4096, Vec::new(alloc));
+    let mut sink = MemSink::new(4096, vec![in alloc; 0; 64]?, Vec::new(alloc));
+    let words = vec![in alloc; String::from_str(alloc, "page")?]?;
+    assert_eq!(rt; caja(&words, &mut source, &mut sink, alloc), Status::Usage);
+    assert_eq!(rt; sink.written(), b"usage\n".as_slice());
+    let left = read_all(alloc, &mut source, 64)?;
+    assert_eq!(rt; left.as_slice(), input);
+    Ok(())
+}
+
+#[test]
+fn an_input_of_a_byte_too_many_is_refused(rt: HostRuntime) -> Result<(), Fail> {
+    let alloc = rt.alloc();
+    let input = vec![in alloc; b' '; LONGEST_INPUT + 1]?;
+    let mut source = MemSource::new(input, LONGEST_INPUT, Vec::new(alloc));
+    let mut sink = MemSink::new(4096, vec![in alloc; 0; 64]?, Vec::new(alloc));
+    let words = vec![in alloc; String::from_str(alloc, "solo")?]?;
+    assert_eq!(rt;
+        caja(&words, &mut source, &mut sink, alloc),
+        Status::Refused
+    );
+    assert_eq!(rt; sink.written(), b"refused main input 1 0\n".as_slice());
     Ok(())
 }

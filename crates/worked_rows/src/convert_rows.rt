@@ -1,8 +1,8 @@
-//! Worked rows, and each call once where it succeeds.
+//! Conversions of values, and sums, each call once where it succeeds.
 
-use super::{add, number_text, to_primitive, to_text};
 use caja_num::Whole;
 use caja_units::{Memory, Units};
+use es3_convert::{add, number_text, to_primitive, to_text};
 use es3_heap::{Class, Heap, Proto, Stop, Value};
 use std::alloc::Global;
 use std::test::Fail;

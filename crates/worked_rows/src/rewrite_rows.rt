@@ -1,3 +1,5 @@
+//! A module and the guarded program that stands for it.
+
 ghost use Rattle.std.specs.Prelude.{◌≡◌, codes, pos, IfOk};
 ghost use Rattle.es3_tree.specs.Tree as target;
 ghost use Rattle.es3_tree.specs.View.{program};
@@ -6,9 +8,9 @@ ghost use Rattle.cajita_tree.specs.Tree as tree;
 ghost use Rattle.cajita_tree.specs.View.{expr, module_view};
 ghost use Rattle.cajita_rewrite.specs.Rewrite.{program_of};
 
-use crate::rewrite;
 use caja_num::Whole;
 use caja_units::Units;
+use cajita_rewrite::rewrite;
 use cajita_tree::{
     CBody, CExpr, CStmt, CVarItem, Key, Module, make_binary, make_read, make_record, make_var,
 };
@@ -42,7 +44,7 @@ fn sum(alloc: Global) -> Result<CExpr, Fail>
 }
 
 // `var o = {x: 1}; o.x + 2;`
-#[tactic(auto, unfolding(crate::specs::Rewrite::rewritten))]
+#[tactic(auto, unfolding(cajita_rewrite::specs::Rewrite::rewritten))]
 fn module(alloc: Global) -> Result<Module, Fail>
     ensures { IfOk result (λ m.
         (nest target.program (program_of (module_view m)) ≡ 10)

@@ -1,0 +1,42 @@
+//! Worked rows of the crates below: sources, trees and pages, with what the standard or the rules give for them. They stand in one
+//! crate, so that none of those is proved a second time for its rows.
+#![tactic(auto)]
+
+#[cfg(test)]
+mod cajole_rows;
+#[cfg(test)]
+mod control_rows;
+#[cfg(test)]
+mod convert_rows;
+#[cfg(test)]
+mod format_rows;
+#[cfg(test)]
+mod grouping_rows;
+#[cfg(test)]
+mod guard_rows;
+#[cfg(test)]
+mod lexer_rows;
+#[cfg(test)]
+mod lexer_tables;
+#[cfg(test)]
+mod loader_rows;
+#[cfg(test)]
+mod machine_rows;
+#[cfg(test)]
+mod page_rows;
+#[cfg(test)]
+mod phrase_rows;
+#[cfg(test)]
+mod rewrite_rows;
+#[cfg(test)]
+mod rule_rows;
+#[cfg(test)]
+mod runner_rows;
+#[cfg(test)]
+mod source_rows;
+#[cfg(test)]
+mod statement_rows;
+#[cfg(test)]
+mod statement_tables;
+#[cfg(test)]
+mod tree_rows;
