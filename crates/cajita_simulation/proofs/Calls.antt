@@ -10,7 +10,7 @@ use Rattle.es3_meaning.specs.Store.{Store}
 use Rattle.es3_meaning.specs.References.{member}
 use Rattle.es3_meaning.specs.Meaning as Target
 use Rattle.cajita_rewrite.specs.Rewrite.{runtime_name, runtime_call}
-use Rattle.cajita_meaning.specs.World.{Value, World}
+use Rattle.cajita_meaning.specs.World.{World}
 use Rattle.cajita_meaning.specs.Direct as Source
 use Rattle.cajita_meaning.specs.Direct.{Item, printed}
 use Rattle.module_loader.specs.Opened.{runtime_id}

@@ -15,7 +15,7 @@ use Rattle.es3_meaning.specs.References.{slot, resolve, with_slot}
 use Rattle.cajita_simulation.proofs.Heaps.Names.{name_value-with_name}
 use Rattle.cajita_meaning.specs.World as World
 use Rattle.cajita_meaning.specs.World.{Value, Pairs, Object, value_at, with_value, with_last, with_object, next_name, World as State}
-use Rattle.cajita_meaning.specs.Direct.{Item, printed, scope_at, lookup, assigned, assign}
+use Rattle.cajita_meaning.specs.Direct.{Item, printed, scope_at, assigned, assign}
 use Rattle.module_loader.specs.Page.{Kept}
 use Rattle.cajita_simulation.proofs.Heaps.Made.{tagged, with_named}
 use Rattle.cajita_simulation.proofs.Heaps.Lists.{slice_get-set, slice_get-push, slice_get-push-other}

@@ -9,11 +9,10 @@ use Rattle.es3_meaning.specs.Store as store
 use Rattle.es3_meaning.specs.Store.{Store, name_value}
 use Rattle.es3_meaning.specs.References.{slot, resolve}
 use Rattle.es3_meaning.specs.Meaning as Target
-use Rattle.es3_meaning.specs.Meaning.{es3}
 use Rattle.cajita_meaning.specs.World as World
 use Rattle.cajita_meaning.specs.World.{Name, Value, Pairs, Object, a_record, an_error, World as State}
 use Rattle.cajita_meaning.specs.Direct as Source
-use Rattle.cajita_meaning.specs.Direct.{Item, printed, direct, scope_at, lookup}
+use Rattle.cajita_meaning.specs.Direct.{Item, printed, scope_at, lookup}
 use Rattle.module_loader.specs.Opened.{opened, runtime_id}
 use Rattle.module_loader.specs.Page.{Kept, first_kept}
 use Rattle.cajita_simulation.specs.Guest.{is_among}

@@ -8,10 +8,10 @@ use Rattle.es3_heap.specs.declared.value.Value.TheVariants as es
 use Rattle.es3_heap.specs.Objects as heap
 use Rattle.es3_heap.specs.Objects.{Objects}
 use Rattle.es3_convert.specs.Conversions as es3
-use Rattle.es3_convert.specs.Conversions.{and_then, primitive_of}
+use Rattle.es3_convert.specs.Conversions.{primitive_of}
 use Rattle.cajita_meaning.specs.World.{Value, undefined, null, truth, number, text, object, Object, a_record, an_error}
 use Rattle.cajita_meaning.specs.Sums.{text_of, number_of, primitive, sum_of_primitives, sum_of}
-use Rattle.cajita_simulation.proofs.Relation.{EsValue, Val, ObjectsAre, Stands}
+use Rattle.cajita_simulation.proofs.Relation.{EsValue, Val, ObjectsAre}
 use Rattle.es3_heap.specs.declared.value.Proto.TheVariants as proto
 use Rattle.cajita_simulation.proofs.Heaps.Opened.{IsOpened}
 use Rattle.cajita_simulation.proofs.Heaps.Texts.{text_of_record, text_of_error}

@@ -25,7 +25,6 @@ pub struct OtherStmt {
 
 /// An expression (ES3 11).
 #[cycle(code)]
-#[derive(Drop)]
 pub enum ExprCode {
     Num(Whole),
     Text(Units),
@@ -40,29 +39,74 @@ pub enum ExprCode {
     Other(OtherExpr),
 }
 
+impl Drop for ExprCode {
+    #[cycle(drops)]
+    fn drop(self) {
+        match self {
+            ExprCode::Num(_) => {}
+            ExprCode::Text(_) => {}
+            ExprCode::Name(_) => {}
+            ExprCode::Array(_) => {}
+            ExprCode::Function(_) => {}
+            ExprCode::Dot(_, _) => {}
+            ExprCode::Call(_, _) => {}
+            ExprCode::Add(_, _) => {}
+            ExprCode::Assign(_, _) => {}
+            ExprCode::Other(_) => {}
+        }
+    }
+}
+
 /// A function (ES3 13): its name if it has one, its parameters, its body.
 #[cycle(code)]
-#[derive(Drop)]
 pub struct FuncCode {
     pub name: Option<Rc<Units>>,
     pub params: Rc<Vec<Rc<Units>>>,
     pub body: Rc<Vec<Rc<StmtCode>>>,
 }
 
+impl Drop for FuncCode {
+    #[cycle(drops)]
+    fn drop(self) {
+        let FuncCode {
+            name: _,
+            params: _,
+            body: _,
+        } = self;
+    }
+}
+
 /// A variable of a `var`, with what it begins as (ES3 12.2).
 #[cycle(code)]
-#[derive(Drop)]
 pub struct VarCode {
     pub name: Rc<Units>,
     pub value: Option<Rc<ExprCode>>,
 }
 
+impl Drop for VarCode {
+    #[cycle(drops)]
+    fn drop(self) {
+        let VarCode { name: _, value: _ } = self;
+    }
+}
+
 /// A statement (ES3 12).
 #[cycle(code)]
-#[derive(Drop)]
 pub enum StmtCode {
     Expr(Rc<ExprCode>),
     Var(Rc<Vec<VarCode>>),
     Return(Option<Rc<ExprCode>>),
     Other(OtherStmt),
+}
+
+impl Drop for StmtCode {
+    #[cycle(drops)]
+    fn drop(self) {
+        match self {
+            StmtCode::Expr(_) => {}
+            StmtCode::Var(_) => {}
+            StmtCode::Return(_) => {}
+            StmtCode::Other(_) => {}
+        }
+    }
 }

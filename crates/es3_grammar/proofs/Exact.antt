@@ -4,7 +4,7 @@ use Rattle.std.proofs.Common.{◌≡◌, ◌↔◌, List, [], ◌∷◌, ◌++�
 use Rattle.std.proofs.lemmas.List.{append-nil}
 use Rattle.es3_tree.specs.Tree as t
 use Rattle.es3_tree.specs.Placed as tree
-use Rattle.es3_tree.specs.Placed.{Placed, Word}
+use Rattle.es3_tree.specs.Placed.{Placed}
 use Rattle.es3_tokens.specs.Tokens as tokens
 use Rattle.es3_grammar.specs.Spots.{Spot, spots}
 use Rattle.es3_grammar.specs.Grammar.{S, free, Spells, s_script, s_no_stmts, spells}

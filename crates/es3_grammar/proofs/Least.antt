@@ -17,7 +17,7 @@ use Rattle.es3_tree.specs.Tree as t
 use Rattle.es3_tree.specs.Placed as tree
 use Rattle.es3_tree.specs.Placed.{Placed, Word}
 use Rattle.es3_grammar.specs.Spots.{Spot, is, look_up, case_word, catch_word, default_word, else_word, finally_word, in_word, var_word, close_brace, open_paren, close_paren, open_bracket, point, semicolon, comma, colon, equals, while_word, open_brace, close_bracket}
-use Rattle.es3_grammar.specs.Levels.{E, own, is_target, takes_left, Infix, joins, a_query, a_step, infix_of, Opening, a_prefix, a_prefix_step, openings, Join, joined, infixes, unary_sign, step_sign, a_this, a_null, a_paren, an_object}
+use Rattle.es3_grammar.specs.Levels.{E, is_target, takes_left, Infix, joins, a_query, a_step, infix_of, Opening, a_prefix, a_prefix_step, openings, infixes, unary_sign, step_sign, a_this, a_null, a_paren, an_object}
 use Rattle.es3_grammar.specs.Grammar.{S, key_of, has_default, placed_word}
 use Rattle.es3_grammar.specs.Frames.{Field, Item, Clause, stmts_of, items_of, cases_of, Opened, an_array, a_call, a_new, Head, head, Body, a_program, a_block, a_function, a_clause, a_try, a_catch, a_finally, Frame, paren, subscript, items, field, new_of, prefix_step, prefix, join, test, either, statement, value, if_test, while_test, do_test, for_first, for_test, for_step, for_object, giving, throwing, with_head, switch_head, case_test, then_of, else_of, while_body, do_body, for_body, in_body, with_body, label_of, body, Stack, State, want, have, past, listed, member, key, func, params, param, param_end, start, begun, ended, closing, item, item_end, for_open, for_second, for_third, returned, jumped, clauses, tried, caught, catch_name, await, asked, no_in_here, exprs_of, fields_of}
 use Rattle.es3_grammar.specs.Machine.{when, opened, operand, closer, after_expr, none_yet, keyed, key_step, func_step, bodied, params_step, param_step, func_of, func_made, infix_own, binds, shifted, filled, after_item, closes, settle, arguments, have_step, member_step, declares, cases_closed, clause_step, body_closed, list_closed, next_clause, Begin, a_block_begins, a_list_ends, an_empty, a_break, a_next_clause, a_do, a_for, a_declaration, an_if, a_return, a_switch, a_throw, a_try_begins, a_var, a_while, a_with, begins, begin_by, begin, resume, item_step, first_item, jump, jumped_step, finally_begins, catch_name_step, caught_made, await_step, step, item_end_step, open_step}

@@ -23,6 +23,7 @@ pub mod DeepExamples
 pub mod Phrases
 mod Shapes
 pub mod Sums
+pub mod Unplaced
 pub mod OpenBrackets
 pub mod Turns
 pub mod Quickly

@@ -5,9 +5,8 @@ use Rattle.std.proofs.lemmas.List.{append-nil}
 use Rattle.es3_tree.specs.Token.{Token, name, word, punct, num, text}
 use Rattle.es3_tree.specs.Tree as t
 use Rattle.es3_tree.specs.Placed as tree
-use Rattle.es3_tree.specs.Placed.{Placed, Word}
 use Rattle.es3_grammar.specs.Spots.{Spot, is, look_up, do_word, in_word, new_word, switch_word, case_word, var_word, while_word, open_brace, close_brace, open_paren, close_paren, open_bracket, close_bracket, point, semicolon, comma, colon, query, equals}
-use Rattle.es3_grammar.specs.Levels.{E, Join, an_op, an_and, an_or, an_assign, a_comma, own, left, right, joined, is_target, takes_left, Infix, joins, a_query, a_step, infix_of, Opening, a_this, a_null, a_bool, a_paren, an_object, a_prefix, a_prefix_step, openings, unary_sign, step_sign}
+use Rattle.es3_grammar.specs.Levels.{E, is_target, infix_of, Opening, a_this, a_null, a_bool, a_paren, an_object, a_prefix, a_prefix_step, openings}
 use Rattle.es3_grammar.specs.Levels as l
 use Rattle.es3_grammar.specs.Grammar.{Bars, free, no_in, bars_call, is_open, ends_statement, named, BeginsPlain, placed_word, Spells, s_this, s_null, s_true, s_false, s_num, s_text, s_name, s_paren, s_array, s_object, s_index, s_call, s_new_call, s_some_exprs, s_some_fields, s_value, s_first_var, s_first_expr, s_some_expr, s_loop_expr, s_expression, s_var, s_return, s_throw, s_do, s_no_stmts, s_no_cases}
 use Rattle.es3_grammar.specs.Frames.{Item, exprs_of, fields_of, items_of, Opened, an_array, a_call, a_new, Frame, paren, subscript, items, field, new_of, prefix_step, prefix, test, either, statement, value, if_test, while_test, do_test, for_first, for_test, for_step, for_object, giving, throwing, with_head, switch_head, case_test, then_of, while_body, for_body, in_body, with_body, a_clause, body, Stack, State, want, have, member, key, start, ended, closing, item, for_second, for_third, clauses, await, asks, asked, no_in_here}

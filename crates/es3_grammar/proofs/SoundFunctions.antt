@@ -4,7 +4,7 @@ use Rattle.std.proofs.lemmas.List.{append-nil}
 use Rattle.es3_tree.specs.Token.{name, word, punct, num, text}
 use Rattle.es3_tree.specs.Tree as t
 use Rattle.es3_tree.specs.Placed as tree
-use Rattle.es3_tree.specs.Placed.{Placed, Word}
+use Rattle.es3_tree.specs.Placed.{Word}
 use Rattle.es3_grammar.specs.Spots.{Spot, is, function_word, open_brace, close_brace, open_paren, close_paren, open_bracket, close_bracket, point, comma, colon}
 use Rattle.es3_grammar.specs.Levels.{E}
 use Rattle.es3_grammar.specs.Grammar.{S, free, naming, key_of, placed_word, Names, Spells, s_array_comma, s_object, s_function, s_dot, s_no_exprs, s_no_fields, s_func, s_no_stmts, no_name, one_name}

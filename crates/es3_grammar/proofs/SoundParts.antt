@@ -4,9 +4,8 @@ use Rattle.std.proofs.lemmas.Bool.{leb-true, leb-false}
 use Rattle.es3_tree.specs.Token.{Token}
 use Rattle.es3_tree.specs.Tree as t
 use Rattle.es3_tree.specs.Placed as tree
-use Rattle.es3_tree.specs.Placed.{Placed, Word}
 use Rattle.es3_grammar.specs.Spots.{Spot, is, colon, query}
-use Rattle.es3_grammar.specs.Levels.{E, Join, an_op, an_and, an_or, an_assign, a_comma, own, left, right, joined, is_target, takes_left, Infix, joins, a_query, a_step, infix_of, Opening, a_this, a_null, a_bool, a_paren, an_object, a_prefix, a_prefix_step, openings, unary_sign, step_sign}
+use Rattle.es3_grammar.specs.Levels.{E, Join, an_op, an_and, an_or, an_assign, a_comma, own, left, right, joined, is_target, takes_left, Infix, joins, a_query, a_step, infix_of}
 use Rattle.es3_grammar.specs.Levels as l
 use Rattle.es3_grammar.specs.Grammar.{Bars, no_call, BeginsPlain, Spells, s_new, s_postfix, s_prefix_step, s_prefix, s_join, s_choice}
 use Rattle.es3_grammar.specs.Frames.{Frame, new_of, prefix_step, prefix, join, test, either, statement, Stack, State, want, past, asks, asked, no_in_here}

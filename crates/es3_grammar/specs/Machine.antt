@@ -5,7 +5,7 @@ use Rattle.es3_tree.specs.Tree as t
 use Rattle.es3_tree.specs.Placed as tree
 use Rattle.es3_tree.specs.Placed.{Placed, Word}
 use Rattle.es3_grammar.specs.Spots.{Spot, is, look_up, break_word, case_word, catch_word, continue_word, default_word, do_word, else_word, finally_word, for_word, function_word, if_word, in_word, return_word, switch_word, throw_word, try_word, var_word, while_word, with_word, open_brace, close_brace, open_paren, close_paren, open_bracket, close_bracket, point, semicolon, comma, colon, equals}
-use Rattle.es3_grammar.specs.Levels.{E, Join, own, right, joined, is_target, takes_left, Infix, joins, a_query, a_step, infix_of, Opening, a_this, a_null, a_bool, a_paren, an_object, a_prefix, a_prefix_step, openings}
+use Rattle.es3_grammar.specs.Levels.{E, own, joined, is_target, takes_left, Infix, joins, a_query, a_step, infix_of, Opening, a_this, a_null, a_bool, a_paren, an_object, a_prefix, a_prefix_step, openings}
 use Rattle.es3_grammar.specs.Levels as l
 use Rattle.es3_grammar.specs.Grammar.{S, ends_statement, placed_word, key_of, has_default}
 use Rattle.es3_grammar.specs.Frames.{Field, Item, Clause, exprs_of, fields_of, stmts_of, items_of, cases_of, Opened, an_array, a_call, a_new, Head, head, Body, a_program, a_block, a_function, a_clause, a_try, a_catch, a_finally, Frame, paren, subscript, items, field, new_of, prefix_step, prefix, join, test, either, statement, value, if_test, while_test, do_test, for_first, for_test, for_step, for_object, giving, throwing, with_head, switch_head, case_test, then_of, else_of, while_body, do_body, for_body, in_body, with_body, label_of, body, Stack, State, want, have, past, listed, member, key, func, params, param, param_end, start, begun, ended, closing, item, item_end, for_open, for_second, for_third, returned, jumped, clauses, tried, caught, catch_name, await, asks, asked, no_in_here}

@@ -10,6 +10,7 @@ use caja_units::{Memory, Units};
 use es3_control::code::{ExprCode, FuncCode, OtherExpr, OtherStmt, StmtCode, VarCode};
 use es3_tree::{BinOp, Expr, Func, Name, Stmt, VarItem};
 use std::alloc::Global;
+use std::mem;
 use std::rc::Rc;
 
 /// A value that is shared.
@@ -20,11 +21,10 @@ pub fn shared<T: Drop>(alloc: Global, value: T) -> Result<Rc<T>, Memory>
 }
 
 /// A name.
-fn load_name(alloc: Global, name: Name) -> Result<Rc<Units>, Memory>
-    ensures { IfOk result (λ r. r.value ≡ name.text) }
+fn load_name(alloc: Global, name: &Name) -> Result<Rc<Units>, Memory>
+    ensures { IfOk result (λ r. r.value ≡ name.now.text) }
 {
-    let Name { text, at: _at } = name;
-    shared(alloc, text)
+    shared(alloc, name.text.copy(alloc)?)
 }
 
 /// An expression of a form that the machine doesn't run yet.
@@ -50,52 +50,52 @@ fn load_flat(alloc: Global, e: Expr) -> Result<Rc<ExprCode>, Memory>
     requires { IsTrue (is_flat (v.expr e)) }
     ensures { IfOk result (λ c. plain_expr c.value ≡ v.expr e) }
 {
-    match e {
-        Expr::Num(n) => shared(alloc, ExprCode::Num(n)),
-        Expr::Text(text) => shared(alloc, ExprCode::Text(text)),
+    match &e {
+        Expr::Num(n) => shared(alloc, ExprCode::Num(*n)),
+        Expr::Text(text) => shared(alloc, ExprCode::Text(text.copy(alloc)?)),
         Expr::Name(x) => {
             let name = load_name(alloc, x)?;
             shared(alloc, ExprCode::Name(name))
         }
-        other => other_expr(alloc, other),
+        _ => other_expr(alloc, e),
     }
 }
 
 /// An expression.
 #[cycle(load)]
-fn load_expr(alloc: Global, e: Expr) -> Result<Rc<ExprCode>, Memory>
+fn load_expr(alloc: Global, mut e: Expr) -> Result<Rc<ExprCode>, Memory>
     ensures { IfOk result (λ c. plain_expr c.value ≡ v.expr e) }
 {
-    match e {
+    match &mut e {
         Expr::Array(es) => {
-            let items = load_exprs(alloc, es)?;
+            let items = load_exprs(alloc, mem::replace(es, Vec::new(alloc)))?;
             shared(alloc, ExprCode::Array(items))
         }
         Expr::Func(f) => {
-            let function = load_func(alloc, Box::into_inner(f))?;
+            let function = load_func(alloc, f)?;
             shared(alloc, ExprCode::Function(function))
         }
-        Expr::Dot(e, k) => {
-            let base = load_expr(alloc, Box::into_inner(e))?;
+        Expr::Dot(x, k) => {
+            let base = load_expr(alloc, mem::replace(x, Expr::Null))?;
             let key = load_name(alloc, k)?;
             shared(alloc, ExprCode::Dot(base, key))
         }
         Expr::Call(f, es) => {
-            let callee = load_expr(alloc, Box::into_inner(f))?;
-            let arguments = load_exprs(alloc, es)?;
+            let callee = load_expr(alloc, mem::replace(f, Expr::Null))?;
+            let arguments = load_exprs(alloc, mem::replace(es, Vec::new(alloc)))?;
             shared(alloc, ExprCode::Call(callee, arguments))
         }
         Expr::Binary(BinOp::Add, x, y) => {
-            let left = load_expr(alloc, Box::into_inner(x))?;
-            let right = load_expr(alloc, Box::into_inner(y))?;
+            let left = load_expr(alloc, mem::replace(x, Expr::Null))?;
+            let right = load_expr(alloc, mem::replace(y, Expr::Null))?;
             shared(alloc, ExprCode::Add(left, right))
         }
-        Expr::Assign(None, x, e) => {
-            let target = load_expr(alloc, Box::into_inner(x))?;
-            let value = load_expr(alloc, Box::into_inner(e))?;
+        Expr::Assign(None, x, y) => {
+            let target = load_expr(alloc, mem::replace(x, Expr::Null))?;
+            let value = load_expr(alloc, mem::replace(y, Expr::Null))?;
             shared(alloc, ExprCode::Assign(target, value))
         }
-        other => load_flat(alloc, other),
+        _ => load_flat(alloc, e),
     }
 }
 
@@ -114,24 +114,18 @@ fn load_exprs(alloc: Global, mut es: Vec<Expr>) -> Result<Rc<Vec<Rc<ExprCode>>>,
 
 /// A function.
 #[cycle(load)]
-fn load_func(alloc: Global, f: Func) -> Result<Rc<FuncCode>, Memory>
-    ensures { IfOk result (λ c. plain_func c.value ≡ v.func f) }
+fn load_func(alloc: Global, f: &mut Func) -> Result<Rc<FuncCode>, Memory>
+    ensures { IfOk result (λ c. plain_func c.value ≡ v.func f.old) }
 {
-    let Func {
-        name,
-        params,
-        body,
-        at: _at,
-    } = f;
-    let name = load_maybe_name(alloc, name)?;
-    let params = load_names(alloc, params)?;
-    let body = load_stmts(alloc, body)?;
+    let name = load_maybe_name(alloc, &f.name)?;
+    let params = load_names(alloc, &f.params)?;
+    let body = load_stmts(alloc, mem::replace(&mut f.body, Vec::new(alloc)))?;
     shared(alloc, FuncCode { name, params, body })
 }
 
 /// A name that may be absent.
-fn load_maybe_name(alloc: Global, name: Option<Name>) -> Result<Option<Rc<Units>>, Memory>
-    ensures { IfOk result (λ n. maybe_units n ≡ v.text_of name) }
+fn load_maybe_name(alloc: Global, name: &Option<Name>) -> Result<Option<Rc<Units>>, Memory>
+    ensures { IfOk result (λ n. maybe_units n ≡ v.text_of name.now) }
 {
     match name {
         Some(name) => Ok(Some(load_name(alloc, name)?)),
@@ -140,36 +134,35 @@ fn load_maybe_name(alloc: Global, name: Option<Name>) -> Result<Option<Rc<Units>
 }
 
 /// Names in order.
-fn load_names(alloc: Global, mut names: Vec<Name>) -> Result<Rc<Vec<Rc<Units>>>, Memory>
-    ensures { IfOk result (λ c. names_of c.value.items ≡ v.names names.items) }
+fn load_names(alloc: Global, names: &[Name]) -> Result<Rc<Vec<Rc<Units>>>, Memory>
+    ensures { IfOk result (λ c. names_of c.value.items ≡ v.names names.now) }
 {
     let mut codes = Vec::with_capacity(alloc, names.len())?;
-    while let Some(name) = names.pop() {
+    for name in names {
         codes.push(load_name(alloc, name)?)?;
     }
-    codes.reverse();
     shared(alloc, codes)
 }
 
 /// A statement.
 #[cycle(load)]
-fn load_stmt(alloc: Global, s: Stmt) -> Result<Rc<StmtCode>, Memory>
+fn load_stmt(alloc: Global, mut s: Stmt) -> Result<Rc<StmtCode>, Memory>
     ensures { IfOk result (λ c. plain_stmt c.value ≡ v.stmt s) }
 {
-    match s {
+    match &mut s {
         Stmt::Expr(e) => {
-            let code = load_expr(alloc, e)?;
+            let code = load_expr(alloc, mem::replace(e, Expr::Null))?;
             shared(alloc, StmtCode::Expr(code))
         }
         Stmt::Var(items) => {
             let vars = load_vars(alloc, items)?;
             shared(alloc, StmtCode::Var(vars))
         }
-        Stmt::Return(e, _at) => {
-            let value = load_maybe_expr(alloc, e)?;
+        Stmt::Return(e, _) => {
+            let value = load_maybe_expr(alloc, e.take())?;
             shared(alloc, StmtCode::Return(value))
         }
-        other => other_stmt(alloc, other),
+        _ => other_stmt(alloc, s),
     }
 }
 
@@ -186,14 +179,13 @@ fn load_maybe_expr(alloc: Global, e: Option<Expr>) -> Result<Option<Rc<ExprCode>
 
 /// The variables of a `var`.
 #[cycle(load)]
-fn load_vars(alloc: Global, mut items: Vec<VarItem>) -> Result<Rc<Vec<VarCode>>, Memory>
-    ensures { IfOk result (λ c. plain_vars c.value.items ≡ v.of_items items.items) }
+fn load_vars(alloc: Global, items: &mut Vec<VarItem>) -> Result<Rc<Vec<VarCode>>, Memory>
+    ensures { IfOk result (λ c. plain_vars c.value.items ≡ v.of_items items.old.items) }
 {
     let mut codes = Vec::with_capacity(alloc, items.len())?;
-    while let Some(item) = items.pop() {
-        let VarItem { name, value } = item;
-        let name = load_name(alloc, name)?;
-        let value = load_maybe_expr(alloc, value)?;
+    while let Some(mut item) = items.pop() {
+        let name = load_name(alloc, &item.name)?;
+        let value = load_maybe_expr(alloc, item.value.take())?;
         codes.push(VarCode { name, value })?;
     }
     codes.reverse();

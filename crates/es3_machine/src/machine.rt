@@ -1,6 +1,6 @@
 //! The machine, as its users see it.
 
-ghost use Rattle.std.specs.Prelude.{◌≡◌, ◌-◌, ◌≤◌, IfOk, OnOk, None, Some, []};
+ghost use Rattle.std.specs.Prelude.{◌≡◌, ◌-◌, ◌≤◌, IfOk, OnErr, OnOk, None, Some, []};
 ghost use Rattle.es3_tree.specs.View as v;
 ghost use Rattle.es3_heap.specs.Objects.{Objects};
 ghost use Rattle.es3_meaning.specs.Store.{Store};
@@ -70,6 +70,7 @@ impl Machine {
     /// Starts a program as a module, in place of what was started before and not run (ES3 14).
     pub fn start_program(&mut self, p: Program, by: u32) -> Result<(), Memory>
         ensures started { OnOk result (started_of self.new ≡ Some (v.program p, by)) }
+        ensures kept { OnErr result (started_of self.new ≡ started_of self.old) }
         ensures store { (h : Objects) → store_in h self.new ≡ store_in h self.old }
     {
         let Program { body } = p;

@@ -1,4 +1,3 @@
-pub mod Alone
 pub mod Grouped
 pub mod Listed
 pub mod Taking

@@ -85,7 +85,8 @@ impl Ops {
             (x y : E) → deep t.expr x ≡ 1 → Grouped 3 (front_with self.old op) x y → n ≡ deep t.expr y) }
     {
         self.waiting.reserve(1)?;
-        let (last, depth) = measured(self.alloc, self.last.take().unwrap())?;
+        let last = self.last.take().unwrap();
+        let depth = measured(&last);
         self.front.push((last, op))?;
         Ok(wait_behind(&mut self.waiting, depth, op))
     }

@@ -1,7 +1,7 @@
 -- Reading all of the tokens as an expression.
 use Rattle.std.specs.Prelude.{Result, Ok, Err, IfOk}
 use Rattle.std.specs.Option.{is_some}
-use Rattle.std.proofs.Common.{◌≡◌, ℕ, ◌+◌, ◌<◌, ◌≤◌, true, false, List, [], ◌∷◌, length, map, take, drop, get_or, Option, Some, None, refl, ap, sym, subst, ◌∙◌, arith}
+use Rattle.std.proofs.Common.{◌≡◌, ℕ, ◌+◌, ◌<◌, ◌≤◌, true, false, List, [], ◌∷◌, length, map, take, drop, get_or, Option, Some, None, refl, ap, sym, subst, ◌∙◌}
 use Rattle.std.proofs.lemmas.List.{take-map}
 use Rattle.std.proofs.Math.ListN.{drop_of_length-le}
 use Rattle.es3_tree.specs.PlacedView.{expr}
@@ -9,7 +9,7 @@ use Rattle.es3_tree.specs.declared.Expr.{Expr}
 use Rattle.es3_grammar.specs.Spots.{Spot}
 use Rattle.es3_grammar.specs.Levels.{E}
 use Rattle.es3_grammar.specs.Frames.{State, want}
-use Rattle.es3_grammar.specs.Machine.{Answer, phrase, step, ending, goes, run, read_phrase}
+use Rattle.es3_grammar.specs.Machine.{step, ending, goes, run, read_phrase}
 use Rattle.es3_grammar.specs.Longest.{is_phrase, Longest}
 use Rattle.es3_grammar.proofs.Longest.{longest_reads}
 use Rattle.es3_grammar.proofs.Phrases.{phrase_is}

@@ -1,6 +1,6 @@
 -- Where no expression is whole.
-use Rattle.std.proofs.Common.{◌≡◌, ℕ, true, false, [], ◌∷◌, refl, sym}
-use Rattle.es3_tree.specs.PlacedView.{stmt, word}
+use Rattle.std.proofs.Common.{◌≡◌, ℕ, false, [], ◌∷◌, refl}
+use Rattle.es3_tree.specs.PlacedView.{stmt}
 use Rattle.es3_lexer.specs.Tables.{punct_number}
 use Rattle.es3_grammar.specs.Levels.{E}
 use Rattle.es3_grammar.specs.Grammar.{S}

@@ -1,5 +1,5 @@
 -- What is answered where the longest expression at the front of tokens is read (ES3 11.14).
-use Rattle.std.specs.Prelude.{◌≡◌, ℕ, ◌+◌, ◌⊎◌, Bool, false, List, Result, Ok, Err, Option, Some, None}
+use Rattle.std.specs.Prelude.{◌≡◌, ℕ, ◌+◌, ◌⊎◌, false, List, Result, Ok, Err, Option, Some, None}
 use Rattle.es3_tree.specs.PlacedView.{expr}
 use Rattle.es3_tree.specs.declared.Expr.{Expr}
 use Rattle.es3_grammar.specs.Spots.{Spot}

@@ -13,4 +13,3 @@ pub mod SafeText
 pub mod Marks
 pub mod SourceTokens
 pub mod ReadBack
-pub mod Unplaced

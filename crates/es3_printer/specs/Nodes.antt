@@ -1,5 +1,5 @@
 -- How much there is to print: a measure that each step of the printer lessens.
-use Rattle.std.specs.Prelude.{ℕ, ◌+◌, ◌*◌, Bool, List, [], ◌∷◌, length, if◌then◌else◌}
+use Rattle.std.specs.Prelude.{ℕ, ◌+◌, ◌*◌, List, [], ◌∷◌, length, if◌then◌else◌}
 use Rattle.es3_tree.specs.Tree as t
 use Rattle.es3_tree.specs.View.{expr, stmt, func, first, loop_target, of_exprs, of_fields, of_items, of_stmts, of_cases, of_maybe_expr, of_handler, of_maybe_block}
 use Rattle.es3_printer.specs.declared.piece.Piece.{Piece}

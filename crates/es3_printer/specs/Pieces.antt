@@ -1,11 +1,10 @@
 -- What is still to be printed: pieces, each of which has tokens.
-use Rattle.std.specs.Prelude.{ℕ, ◌+◌, ◌*◌, Bool, true, false, List, [], ◌∷◌, ◌++◌, Option, Some, None, map, if◌then◌else◌}
+use Rattle.std.specs.Prelude.{◌+◌, true, false, List, [], ◌∷◌, ◌++◌}
 use Rattle.es3_tree.specs.Tree as t
 use Rattle.es3_tree.specs.Token as k
 use Rattle.es3_tree.specs.View.{expr, stmt, func, first, loop_target, names, of_exprs, of_fields, of_items, of_stmts, of_cases, of_maybe_expr, of_handler, of_maybe_block}
 use Rattle.es3_lexer.specs.Tables.{punct_number, word_number}
 use Rattle.es3_printed.specs.Tokens.{bare, wrapped, listed, initialiser}
-use Rattle.es3_printer.specs.Nodes.{nodes}
 use Rattle.es3_printer.specs.declared.piece.Piece.{Piece}
 use Rattle.es3_printer.specs.declared.piece.Piece.TheVariants as p
 

@@ -1,5 +1,5 @@
 -- A whole source: the limit, UTF-8, and its characters.
-use Rattle.std.proofs.Common.{◌≡◌, ℕ, ◌+◌, ◌<◌, ◌≤◌, Bool, true, false, List, [], ◌∷◌, Err, refl, sym, ap, ◌∙◌, arith, length}
+use Rattle.std.proofs.Common.{◌≡◌, ℕ, ◌+◌, ◌≤◌, Bool, true, false, List, [], ◌∷◌, Err, refl, sym, ap, ◌∙◌, arith, length}
 use Rattle.std.specs.Prelude.{if◌then◌else◌}
 use Rattle.std.specs.Char.{len_utf8}
 use Rattle.std.specs.Str.{chars, is_utf8, IsUtf8}
@@ -8,7 +8,7 @@ use Rattle.std.proofs.lemmas.List.{length-append}
 use Rattle.std.proofs.lemmas.List.Sums.{sum_by-cons}
 use Rattle.std.proofs.lemmas.Str.{length-encode, encodes-chars, is_utf8-from_IsUtf8, IsUtf8-from_is_utf8}
 use Rattle.std.proofs.Math.Utf8.{encode, encodes}
-use Rattle.es3_tokens.proofs.Tests.{ge_test, lt_test}
+use Rattle.es3_tokens.proofs.Tests.{ge_test}
 use Rattle.es3_tokens.specs.Cut.{cut, cut_chars, width}
 use Rattle.es3_tokens.specs.Refusals.{not_utf8, too_long}
 

@@ -19,7 +19,7 @@ pub use make_stmt::{
     make_for_in, make_if, make_label, make_return, make_switch, make_try, make_var, make_while,
     make_with,
 };
-pub use measure::{depth, size};
+pub use measure::{depth, depth_of_expr, size};
 
 /// A prefix operator that is no `++` or `--` (ES3 11.4).
 #[derive(Debug, Clone, Copy, PartialEq, Eq)]
@@ -68,12 +68,18 @@ pub struct Name {
 
 /// A function (ES3 13): its name if it has one, its parameters, its body, and the byte where it begins.
 #[cycle(tree)]
-#[derive(Drop)]
 pub struct Func {
     pub name: Option<Name>,
     pub params: Vec<Name>,
     pub body: Vec<Stmt>,
     pub at: u32,
+}
+
+impl Drop for Func {
+    #[cycle(drops)]
+    fn drop(self) {
+        let Func { name: _, params: _, body: _, at: _ } = self;
+    }
 }
 
 /// A program (ES3 14).
@@ -84,40 +90,70 @@ pub struct Program {
 
 /// A variable of a `var`, with what it begins as (ES3 12.2).
 #[cycle(tree)]
-#[derive(Drop)]
 pub struct VarItem {
     pub name: Name,
     pub value: Option<Expr>,
 }
 
+impl Drop for VarItem {
+    #[cycle(drops)]
+    fn drop(self) {
+        let VarItem { name: _, value: _ } = self;
+    }
+}
+
 /// A clause of a `switch`: `case` with its test, or `default` with none (ES3 12.11).
 #[cycle(tree)]
-#[derive(Drop)]
 pub struct Case {
     pub test: Option<Expr>,
     pub body: Vec<Stmt>,
 }
 
+impl Drop for Case {
+    #[cycle(drops)]
+    fn drop(self) {
+        let Case { test: _, body: _ } = self;
+    }
+}
+
 /// The first part of the head of a `for` (ES3 12.6.3).
 #[cycle(tree)]
-#[derive(Drop)]
 pub enum First {
     None,
     Var(Vec<VarItem>),
     Expr(Expr),
 }
 
+impl Drop for First {
+    #[cycle(drops)]
+    fn drop(self) {
+        match self {
+            First::None => {}
+            First::Var(_) => {}
+            First::Expr(_) => {}
+        }
+    }
+}
+
 /// What the head of a `for` .. `in` writes to (ES3 12.6.4).
 #[cycle(tree)]
-#[derive(Drop)]
 pub enum Loop {
     Var(Name),
     Target(Expr),
 }
 
+impl Drop for Loop {
+    #[cycle(drops)]
+    fn drop(self) {
+        match self {
+            Loop::Var(_) => {}
+            Loop::Target(_) => {}
+        }
+    }
+}
+
 /// A statement (ES3 12), or a function declaration (13). A lone `u32` is the byte where the statement begins.
 #[cycle(tree)]
-#[derive(Drop)]
 pub enum Stmt {
     Block(Vec<Stmt>),
     Var(Vec<VarItem>),
@@ -139,9 +175,34 @@ pub enum Stmt {
     Func(Func),
 }
 
+impl Drop for Stmt {
+    #[cycle(drops)]
+    fn drop(self) {
+        match self {
+            Stmt::Block(_) => {}
+            Stmt::Var(_) => {}
+            Stmt::Empty => {}
+            Stmt::Expr(_) => {}
+            Stmt::If(_, _, _) => {}
+            Stmt::While(_, _) => {}
+            Stmt::Do(_, _) => {}
+            Stmt::For(_, _, _, _) => {}
+            Stmt::ForIn(_, _, _) => {}
+            Stmt::Continue(_, _) => {}
+            Stmt::Break(_, _) => {}
+            Stmt::Return(_, _) => {}
+            Stmt::With(_, _, _) => {}
+            Stmt::Switch(_, _) => {}
+            Stmt::Label(_, _) => {}
+            Stmt::Throw(_) => {}
+            Stmt::Try(_, _, _) => {}
+            Stmt::Func(_) => {}
+        }
+    }
+}
+
 /// An expression (ES3 11). A lone `u32` is the byte where the word or the operator begins.
 #[cycle(tree)]
-#[derive(Drop)]
 pub enum Expr {
     This(u32),
     Null,
@@ -166,4 +227,33 @@ pub enum Expr {
     /// An assignment: with the operator of `+=` and its kin, or with none for `=`.
     Assign(Option<BinOp>, Box<Expr>, Box<Expr>),
     Comma(Box<Expr>, Box<Expr>),
+}
+
+impl Drop for Expr {
+    #[cycle(drops)]
+    fn drop(self) {
+        match self {
+            Expr::This(_) => {}
+            Expr::Null => {}
+            Expr::Bool(_) => {}
+            Expr::Num(_) => {}
+            Expr::Text(_) => {}
+            Expr::Name(_) => {}
+            Expr::Array(_) => {}
+            Expr::Object(_) => {}
+            Expr::Func(_) => {}
+            Expr::Dot(_, _) => {}
+            Expr::Index(_, _) => {}
+            Expr::Call(_, _) => {}
+            Expr::New(_, _) => {}
+            Expr::Unary(_, _, _) => {}
+            Expr::Step(_, _, _) => {}
+            Expr::Binary(_, _, _) => {}
+            Expr::And(_, _) => {}
+            Expr::Or(_, _) => {}
+            Expr::Cond(_, _, _) => {}
+            Expr::Assign(_, _, _) => {}
+            Expr::Comma(_, _) => {}
+        }
+    }
 }

@@ -237,6 +237,14 @@ pub fn depth(p: &Program) -> u32
     extent_of_stmts(&p.body).depth
 }
 
+/// The nesting of an expression alone: the greatest number of statements, expressions and functions on one path into it (ES3 11).
+pub fn depth_of_expr(x: &Expr) -> u32
+    requires { nest tree.expr (expr x.now) < 2 ^ 32 }
+    ensures { result ≡ nest tree.expr (expr x.now) }
+{
+    extent_of_expr(x).depth
+}
+
 /// The number of statements, expressions and functions of a program (ES3 11 to 14).
 pub fn size(p: &Program) -> u64
     requires { count tree.program (program p.now) < 2 ^ 64 }

@@ -1,5 +1,5 @@
 -- The store that a module of a page begins in: the prototypes, the object of the runtime with its guards, what a module may import, and the global object.
-use Rattle.std.specs.Prelude.{ℕ, List, Option, Some, None, length, codes}
+use Rattle.std.specs.Prelude.{ℕ, List, Some, None, length, codes}
 use Rattle.es3_heap.specs.declared.value.Value.TheVariants.{Obj}
 use Rattle.es3_heap.specs.declared.value.Class.TheVariants as class
 use Rattle.es3_heap.specs.declared.value.FuncKind.TheVariants.{Simple}

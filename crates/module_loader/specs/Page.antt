@@ -1,5 +1,5 @@
 -- The natives of a page, and what a module's program comes to among them.
-use Rattle.std.specs.Prelude.{ℕ, ◌*◌, List, [], ◌∷◌, Option, Some, None, Bool, true, false, codes, nat_eq, slice_get, if◌then◌else◌}
+use Rattle.std.specs.Prelude.{ℕ, List, [], ◌∷◌, false, codes, nat_eq, if◌then◌else◌}
 use Rattle.es3_tree.specs.Tree as t
 use Rattle.es3_heap.specs.declared.value.Value.{Value}
 use Rattle.es3_heap.specs.declared.value.Value.TheVariants.{Undefined, Obj}
@@ -7,7 +7,7 @@ use Rattle.es3_heap.specs.declared.value.Class.{Class}
 use Rattle.es3_heap.specs.declared.value.Class.TheVariants.{Function}
 use Rattle.es3_heap.specs.Objects.{Objects, object_at, class_of}
 use Rattle.es3_meaning.specs.Store.{Store}
-use Rattle.es3_meaning.specs.Natives.{Touched, Reply, value_reply, throw_reply, invoke_reply, stop_reply, Turn, Table}
+use Rattle.es3_meaning.specs.Natives.{invoke_reply, Turn, Table}
 use Rattle.es3_meaning.specs.Meaning.{Run, run_program}
 use Rattle.guard_runtime.specs.Guards.{Row, guard, thrown}
 use Rattle.module_loader.specs.declared.natives.PageNatives.{PageNatives}

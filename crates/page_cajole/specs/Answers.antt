@@ -1,8 +1,7 @@
 -- What an answer says of what becomes of the source.
-use Rattle.std.specs.Prelude.{◌≡◌, Result, Ok, Err}
+use Rattle.std.specs.Prelude.{◌≡◌}
 use Rattle.es3_tree.specs.PlacedView as view
 use Rattle.es3_tree.specs.View.{program}
-use Rattle.es3_tree.specs.declared.Program.{Program}
 use Rattle.es3_printed.specs.Tokens.{printed}
 use Rattle.page_cajole.specs.Source as s
 use Rattle.page_cajole.specs.Cajoled.{Outcome, uncut, unread, broken, cajoled}

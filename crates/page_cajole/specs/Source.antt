@@ -1,5 +1,5 @@
 -- From a source to the program that it spells, or to the stage that refuses it.
-use Rattle.std.specs.Prelude.{ℕ, ◌≡◌, List, length, Result, Ok, Err}
+use Rattle.std.specs.Prelude.{ℕ, ◌≡◌, List, length, Ok, Err}
 use Rattle.es3_tree.specs.Tree as t
 use Rattle.es3_tree.specs.Placed.{Placed}
 use Rattle.es3_tokens.specs.Refusals as lex

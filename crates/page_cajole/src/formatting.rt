@@ -25,7 +25,7 @@ pub enum FormatAnswer {
 /// # Errors
 ///
 /// `Memory` where memory is wanting.
-#[tactic(auto, using(es3_printed::proofs::Unplaced::program_plain))]
+#[tactic(auto, using(es3_grammar::proofs::Unplaced::program_plain))]
 pub fn format(alloc: Global, source: &[u8]) -> Result<FormatAnswer, Memory>
     ensures { IfOk result (λ f. told f ≡ formatted source.now) }
 {

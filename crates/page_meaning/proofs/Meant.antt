@@ -1,5 +1,5 @@
 -- An accepted source is meant by its log.
-use Rattle.std.proofs.Common.{◌≡◌, ℕ, true, false, List, Option, Some, None, cond, refl, sym, ap, subst, ◌∙◌}
+use Rattle.std.proofs.Common.{◌≡◌, ℕ, true, false, List, Option, Some, None, cond, refl, sym, subst}
 use Rattle.es3_tree.specs.Tree as t
 use Rattle.es3_tree.specs.Placed.{Placed}
 use Rattle.cajita_tree.specs.Tree as c

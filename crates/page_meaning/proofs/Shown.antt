@@ -19,7 +19,6 @@ use Rattle.es3_machine.specs.Machine.{completed}
 use Rattle.cajita_meaning.specs.World as World
 use Rattle.cajita_meaning.specs.World.{Name, Value, Object, a_record, an_error, World as State}
 use Rattle.cajita_meaning.specs.Direct as Source
-use Rattle.cajita_meaning.specs.Direct.{Item}
 use Rattle.module_loader.specs.Page.{Kept}
 use Rattle.page_runner.specs.declared.End.TheVariants.{Convert}
 use Rattle.page_runner.specs.Log.{main_name, line_end, text_units, error_text, class_text, object_name, after_name, value_text, load_line, completion_line, end_of, run_log, run_end}

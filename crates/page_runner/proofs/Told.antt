@@ -1,5 +1,5 @@
 -- What the machine's answer tells of the log and of the end.
-use Rattle.std.proofs.Common.{◌≡◌, ℕ, List, [], Option, Some, Result, Ok, Err, IfOk, ap, ◌∙◌, subst}
+use Rattle.std.proofs.Common.{◌≡◌, ℕ, [], Option, Some, Result, Ok, Err, IfOk, ap, ◌∙◌, subst}
 use Rattle.plans.specs.Plans.{Fault, stopped, out}
 use Rattle.es3_tree.specs.Tree as t
 use Rattle.caja_units.specs.declared.Memory.{Memory}

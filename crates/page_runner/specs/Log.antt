@@ -1,5 +1,5 @@
 -- The log of a page: how values are shown, a line for the load of a module, and how the page ended.
-use Rattle.std.specs.Prelude.{ℕ, ℤ, Bool, List, [], ◌∷◌, ◌++◌, Option, Some, None, codes, if◌then◌else◌}
+use Rattle.std.specs.Prelude.{ℕ, Bool, List, [], ◌∷◌, ◌++◌, codes, if◌then◌else◌}
 use Rattle.plans.specs.Plans.{Fault, number_fault, depth_fault, convert_fault, over, stopped, out}
 use Rattle.caja_units.specs.Index.{number_units}
 use Rattle.caja_units.specs.Number.{number_text}

@@ -8,7 +8,7 @@ use Rattle.es3_meaning.specs.Meaning.{is_arguments}
 use Rattle.cajita_tree.specs.Tree as c
 use Rattle.cajita_meaning.specs.World.{Value, World}
 use Rattle.cajita_meaning.specs.Direct as Source
-use Rattle.cajita_meaning.specs.Direct.{Item, lookup, first_of, scope_at}
+use Rattle.cajita_meaning.specs.Direct.{Item, lookup}
 use Rattle.module_loader.specs.Page.{Kept}
 use Rattle.cajita_simulation.specs.Guest.{is_among, GuestName}
 use Rattle.cajita_simulation.proofs.Relation.{EsValue, Here, env_of, Temps, Found, Rel}

@@ -8,7 +8,7 @@ use Rattle.cajita_tree.specs.Tree as c
 use Rattle.cajita_rewrite.specs.Rewrite.{runtime_call, pair}
 use Rattle.cajita_simulation.proofs.Heaps.Guards.{read_pub-guard}
 use Rattle.cajita_simulation.proofs.Relation.{Here, rel_pay, keeps_step}
-use Rattle.cajita_simulation.proofs.Laws.{ValueLaw, ValueBody, throws_from, value_since, with_part}
+use Rattle.cajita_simulation.proofs.Laws.{ValueLaw, ValueBody, value_since, with_part}
 use Rattle.cajita_simulation.proofs.Calls.{callee_match, guard_match}
 use Rattle.cajita_simulation.proofs.Rows.ReadPub.{read_match}
 

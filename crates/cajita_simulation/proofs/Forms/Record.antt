@@ -1,5 +1,5 @@
 -- Record literals: `{k: e}` is `___.initializeMap(["k",e])`.
-use Rattle.std.proofs.Common.{◌≡◌, ℕ, suc, ◌+◌, ◌≤◌, ◌<◌, List, [], ◌∷◌, ◌++◌, refl, sym, ◌∙◌, subst, arith}
+use Rattle.std.proofs.Common.{◌≡◌, ℕ, suc, ◌+◌, ◌≤◌, ◌<◌, List, [], ◌∷◌, ◌++◌, sym, ◌∙◌, subst, arith}
 use Rattle.std.specs.Prelude.{codes, length}
 use Rattle.std.proofs.lemmas.List.{length-append}
 use Rattle.plans.specs.Plans.{bind}

@@ -1,4 +1,4 @@
-use Rattle.std.proofs.Common.{◌≡◌, Some, None, ap, sym, ◌∙◌}
+use Rattle.std.proofs.Common.{Some, None, ap, sym, ◌∙◌}
 use Rattle.es3_tree.specs.PlacedView.{expr}
 use Rattle.es3_grammar.specs.Frames.{Stack}
 use Rattle.es3_grammar.specs.Machine.{finished}

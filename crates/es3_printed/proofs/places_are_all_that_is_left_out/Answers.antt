@@ -1,4 +1,4 @@
-use Rattle.es3_printed.proofs.Unplaced.{program_plain}
+use Rattle.es3_grammar.proofs.Unplaced.{program_plain}
 use Rattle.es3_printed.proofs.places_are_all_that_is_left_out.Goals as goal
 
 pub returns : goal.returns

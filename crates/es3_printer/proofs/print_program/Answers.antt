@@ -1,4 +1,4 @@
-use Rattle.std.proofs.Common.{◌∙◌, ◌++◌, ap, refl, false, []}
+use Rattle.std.proofs.Common.{◌∙◌, ◌++◌, ap, false, []}
 use Rattle.es3_tree.specs.Tree as t
 use Rattle.es3_tree.specs.View.{of_stmts}
 use Rattle.es3_printed.specs.Text.{onto}

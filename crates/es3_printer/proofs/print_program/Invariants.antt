@@ -1,6 +1,5 @@
 -- What is printed and what is still to be printed make the whole text.
-use Rattle.std.proofs.Common.{◌≡◌, false}
-use Rattle.es3_tree.specs.Tree as t
+use Rattle.std.proofs.Common.{◌≡◌}
 use Rattle.es3_tree.specs.View.{program}
 use Rattle.es3_printed.specs.Text.{onto}
 use Rattle.es3_printed.specs.Tokens.{printed}

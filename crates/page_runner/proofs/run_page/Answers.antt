@@ -1,4 +1,4 @@
-use Rattle.std.proofs.Common.{◌≡◌, ℕ, refl, ap, ◌∙◌}
+use Rattle.std.proofs.Common.{ℕ, refl, ap, ◌∙◌}
 use Rattle.es3_tree.specs.View.{program}
 use Rattle.es3_machine.specs.Machine.{Ran}
 use Rattle.es3_machine.specs.Held.{started_of, store_in, new_store}

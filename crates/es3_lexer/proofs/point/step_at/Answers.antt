@@ -1,4 +1,4 @@
-use Rattle.std.proofs.Common.{ℕ, ◌≡◌, List, get_or, sym, ap, subst, ◌∙◌, arith, true, false, drop}
+use Rattle.std.proofs.Common.{ℕ, ◌≡◌, List, sym, ap, subst, ◌∙◌, arith, true, false, drop}
 use Rattle.std.proofs.lemmas.Bool.Decides.{nat_tests}
 use Rattle.es3_lexer.proofs.point.step_at.Goals as goal
 use Rattle.es3_lexer.proofs.Fronts.{backslash_front, first_front, line_front, rest_is, text_front, white_front}

@@ -1,4 +1,3 @@
-use Rattle.std.proofs.Common.{rules, ◌≡◌, ◌++◌, ◌+◌, OnOk, List, [], ◌∷◌}
 use Rattle.es3_printer.proofs.Stacked.{one_more}
 use Rattle.es3_printer.proofs.piece.put.Goals as goal
 

@@ -1,4 +1,4 @@
-use Rattle.std.proofs.Common.{◌≡◌, ap, ◌∙◌}
+use Rattle.std.proofs.Common.{ap, ◌∙◌}
 use Rattle.es3_tree.specs.PlacedView.{expr}
 use Rattle.es3_expr.specs.Views.{maybe_behind}
 use Rattle.es3_steps.specs.Settling.{bound}
