@@ -39,6 +39,7 @@ pub enum ExprCode {
     Other(OtherExpr),
 }
 
+// Written out, so that no crate above need show anew how code is let go.
 impl Drop for ExprCode {
     #[cycle(drops)]
     fn drop(self) {

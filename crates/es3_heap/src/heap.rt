@@ -341,6 +341,3 @@ fn next_number(counts: &mut [u32], by: u32) -> u32
     counts[at] = number.saturating_add(1);
     number
 }
-
-#[cfg(test)]
-mod tests;

@@ -1,5 +1,5 @@
 -- The nesting and the number of parts of a call or of a `new`, as one arm for both gives them.
-use Rattle.std.proofs.Common.{◌≡◌, ℕ, ◌+◌, max, ap, ◌∙◌, ◌⊎◌, inl, inr}
+use Rattle.std.proofs.Common.{◌≡◌, ◌+◌, max, ap, ◌∙◌, ◌⊎◌, inl, inr}
 use Rattle.std.specs.Global.{Vec, Box}
 use Rattle.es3_tree.specs.declared.Expr.{Expr}
 use Rattle.es3_tree.specs.declared.Expr.TheVariants as e

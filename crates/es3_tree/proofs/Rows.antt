@@ -1,5 +1,5 @@
 -- The views of trees with lists and options in them.
-use Rattle.std.proofs.Common.{◌≡◌, ℕ, List, [], ◌∷◌, Option, None, Some, refl, ap, rules}
+use Rattle.std.proofs.Common.{◌≡◌, ℕ, Option, None, Some, refl, ap, rules}
 use Rattle.std.specs.Global.{Vec, Box}
 use Rattle.es3_tree.specs.declared.Name.{Name}
 use Rattle.es3_tree.specs.declared.Expr.{Expr, the_lemmas}
@@ -7,14 +7,11 @@ use Rattle.es3_tree.specs.declared.Stmt.{Stmt}
 use Rattle.es3_tree.specs.declared.Case.{Case}
 use Rattle.es3_tree.specs.declared.VarItem.{VarItem}
 use Rattle.es3_tree.specs.declared.First.{First}
-use Rattle.es3_tree.specs.declared.Loop.{Loop}
 use Rattle.es3_tree.specs.declared.Func.{Func}
-use Rattle.es3_tree.specs.declared.Program.{Program}
 use Rattle.es3_tree.specs.declared.Expr.TheBlock as b
 use Rattle.es3_tree.specs.declared.Expr.TheVariants as e
 use Rattle.es3_tree.specs.declared.Stmt.TheVariants as s
 use Rattle.es3_tree.specs.declared.First.TheVariants as i
-use Rattle.es3_tree.specs.declared.Loop.TheVariants as l
 use Rattle.es3_tree.specs.Tree as t
 use Rattle.es3_tree.specs.View as v
 

@@ -1,5 +1,5 @@
 -- What a tree of the program says, with its places.
-use Rattle.std.specs.Prelude.{ℕ, List, [], ◌∷◌, map, Option, Some, None}
+use Rattle.std.specs.Prelude.{List, [], ◌∷◌, map, Option, Some, None}
 use Rattle.std.specs.Global.{Vec, Box}
 use Rattle.es3_tree.specs.declared.Name.{Name}
 use Rattle.es3_tree.specs.declared.Expr.{Expr}

@@ -1,5 +1,5 @@
 -- Tokens (ES3 7.5 to 7.8): names and texts as 16-bit units, reserved words and punctuators by their places in the two tables.
-use Rattle.std.specs.Prelude.{ℕ, ℤ, List, [], ◌∷◌, codes, Option, slice_get, unwrap_or}
+use Rattle.std.specs.Prelude.{ℕ, ℤ, List, [], ◌∷◌, codes}
 
 pub data Token : Type 0 where
   name : List ℕ → Token

@@ -75,10 +75,16 @@ pub struct Func {
     pub at: u32,
 }
 
+// Written out, so that no crate above need show anew how a tree is let go.
 impl Drop for Func {
     #[cycle(drops)]
     fn drop(self) {
-        let Func { name: _, params: _, body: _, at: _ } = self;
+        let Func {
+            name: _,
+            params: _,
+            body: _,
+            at: _,
+        } = self;
     }
 }
 

@@ -15,6 +15,8 @@ mod grouping_rows;
 #[cfg(test)]
 mod guard_rows;
 #[cfg(test)]
+mod heap_rows;
+#[cfg(test)]
 mod lexer_rows;
 #[cfg(test)]
 mod lexer_tables;

@@ -1,7 +1,6 @@
-use super::Heap;
-use crate::value::{Attrs, Class, FuncKind, Proto, Tag, Value};
 use caja_num::Whole;
 use caja_units::Units;
+use es3_heap::{Attrs, Class, FuncKind, Heap, Proto, Tag, Value};
 use std::test::Fail;
 
 fn number(v: i64) -> Value {
