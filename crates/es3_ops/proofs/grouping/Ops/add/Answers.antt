@@ -1,4 +1,4 @@
-use Rattle.std.proofs.Common.{◌^◌, map, reverse, refl, sym, ◌∙◌}
+use Rattle.std.proofs.Common.{◌^◌, map, reverse, refl, sym, ◌∙◌, arith}
 use Rattle.es3_tree.specs.Tree as t
 use Rattle.es3_tree.specs.PlacedView.{expr}
 use Rattle.es3_grammar.specs.Levels.{own}
@@ -14,26 +14,26 @@ measured-requires c =
     let z = c.unwrap.result in
     let d = deep t.expr (expr z) in
     let a : Adds o z o.waiting.items d = record { last_is = sym c.take.ensures.value ∙ c.unwrap.ensures; waiting_is = refl; depth_is = refl } in
-    operand_below (reverse (map depth_of o.waiting.items)) d (own (infix_join c.args.op)) (2 ^ 32) (adds_fit o z o.waiting.items d c.args.op a c.requires.fits)
+    omega (arith, operand_below (reverse (map depth_of o.waiting.items)) d (own (infix_join c.args.op)) (2 ^ 32) (adds_fit o z o.waiting.items d c.args.op a c.requires.fits))
 
 pub wait_behind-requires-clause-fits : goal.wait_behind-requires-clause-fits
 wait_behind-requires-clause-fits c =
-    adds_fit c.args.self.now c.unwrap.result c.reserve.new.self.items c.in_ok-last.depth c.args.op
-    (record { last_is = sym c.take.ensures.value ∙ c.unwrap.ensures; waiting_is = c.reserve.ensures.items; depth_is = c.in_ok-last.ensures.depth })
+    adds_fit c.args.self.now c.unwrap.result c.reserve.new.self.items c.measured.result c.args.op
+    (record { last_is = sym c.take.ensures.value ∙ c.unwrap.ensures; waiting_is = c.reserve.ensures.items; depth_is = c.measured.ensures })
     c.requires.fits
 
 pub invariant_of-self-2 : goal.invariant_of-self-2
 invariant_of-self-2 c = record {
   kept =
-      adds_keep c.args.self.now c.unwrap.result c.reserve.new.self.items c.wait_behind.new.waiting.items c.in_ok-last.depth c.args.op c.push.new.self.items
-      (record { last_is = sym c.take.ensures.value ∙ c.unwrap.ensures; waiting_is = c.reserve.ensures.items; depth_is = c.in_ok-last.ensures.depth })
-      (cc (c.in_ok-push.ensures.items, c.in_ok-last.ensures.part))
+      adds_keep c.args.self.now c.unwrap.result c.reserve.new.self.items c.wait_behind.new.waiting.items c.measured.result c.args.op c.push.new.self.items
+      (record { last_is = sym c.take.ensures.value ∙ c.unwrap.ensures; waiting_is = c.reserve.ensures.items; depth_is = c.measured.ensures })
+      c.in_ok-push.ensures.items
       c.wait_behind.ensures.waits;
 }
 
 pub returns-clause-nests : goal.returns-clause-nests
 returns-clause-nests c x y one g =
     c.wait_behind.ensures.depth
-    ∙ adds_nest c.args.self.now c.unwrap.result c.reserve.new.self.items c.in_ok-last.depth c.args.op x y
-    (record { last_is = sym c.take.ensures.value ∙ c.unwrap.ensures; waiting_is = c.reserve.ensures.items; depth_is = c.in_ok-last.ensures.depth })
+    ∙ adds_nest c.args.self.now c.unwrap.result c.reserve.new.self.items c.measured.result c.args.op x y
+    (record { last_is = sym c.take.ensures.value ∙ c.unwrap.ensures; waiting_is = c.reserve.ensures.items; depth_is = c.measured.ensures })
     one g
