@@ -124,6 +124,7 @@ read_key k env v w = give (public_value w v k) w
 
 abbrev pub read_plan : c.Tree c.expr → c.Tree c.key → Env → World → Plan
 read_plan e (c.fixed k) env w = with_value e env w (read_key k env)
+read_plan e (c.computed f) env w = unknown_value (c.read e (c.computed f)) env w
 
 -- a sum, or the number fault
 abbrev pub value_or_fault : Option Value → World → Plan
@@ -159,6 +160,7 @@ var_items (c.more_items x (c.some_expr e) rest) env w = with_value e env w (λ v
 abbrev pub stmt_plan : c.Tree c.stmt → Env → World → Plan
 stmt_plan (c.expression e) env w = with_value e env w to_normal
 stmt_plan (c.var is) env w = var_items is env w
+stmt_plan x env w = unknown_effect x env w
 
 -- statements in a list, with the value of the expression statement that was evaluated last
 
@@ -189,13 +191,18 @@ module_end e w = ends e w
 abbrev pub module_env : ℕ → World → Env
 module_env by w = record { chain = length (w.scopes by) ∷ []; calls = 1; by = by }
 
--- a module without imports: its variables are bound, and its statements follow
+-- a load without a meaning yet
+abbrev pub unknown_load : c.Tree c.program → ℕ → World → Plan
+unknown_load m by w = enter (load m by) w ends
+
+-- a module without imports, whose body declares no function: its variables are bound, and its statements follow
 abbrev pub load_body : c.Tree c.body → ℕ → World → Plan
-load_body (c.block vars body) by w = ticks (length vars) w (list body None (module_env by w) (with_scope by (undefined_names vars) w) module_end)
+load_body (c.a_body c.no_funcs vars body) by w = ticks (length vars) w (list body None (module_env by w) (with_scope by (undefined_names vars) w) module_end)
+load_body (c.a_body (c.more_funcs f fs) vars body) by w = unknown_load (c.a_module [] (c.a_body (c.more_funcs f fs) vars body)) by w
 
 abbrev pub load_plan : c.Tree c.program → ℕ → World → Plan
 load_plan (c.a_module [] body) by w = load_body body by w
-load_plan (c.a_module (x ∷ xs) body) by w = enter (load (c.a_module (x ∷ xs) body) by) w ends
+load_plan (c.a_module (x ∷ xs) body) by w = unknown_load (c.a_module (x ∷ xs) body) by w
 
 -- the language
 

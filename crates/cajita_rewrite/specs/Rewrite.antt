@@ -27,14 +27,44 @@ pair a b = t.more_exprs a (t.more_exprs b t.no_exprs)
 -- what a rewritten part is
 abbrev pub of_sort : c.Sort → t.Sort
 of_sort c.expr = t.expr
+of_sort c.exprs = t.exprs
 of_sort c.fields = t.exprs
 of_sort c.key = t.expr
+of_sort c.target = t.expr
 of_sort c.maybe_expr = t.maybe_expr
 of_sort c.stmt = t.stmt
 of_sort c.stmts = t.stmts
 of_sort c.items = t.items
+of_sort c.maybe_stmt = t.maybe_stmt
+of_sort c.maybe_block = t.maybe_block
+of_sort c.first = t.first
+of_sort c.cases = t.cases
+of_sort c.handler = t.handler
+of_sort c.func = t.func
+of_sort c.funcs = t.stmts
 of_sort c.body = t.stmts
 of_sort c.program = t.program
+
+-- an empty part: it stands for each form that has no row yet, and no module that is accepted has one
+abbrev pub nothing : (s : c.Sort) → Tree (of_sort s)
+nothing c.expr = t.null
+nothing c.exprs = t.no_exprs
+nothing c.fields = t.no_exprs
+nothing c.key = t.null
+nothing c.target = t.null
+nothing c.maybe_expr = t.no_expr
+nothing c.stmt = t.empty
+nothing c.stmts = t.no_stmts
+nothing c.items = t.no_items
+nothing c.maybe_stmt = t.no_stmt
+nothing c.maybe_block = t.no_block
+nothing c.first = t.no_first
+nothing c.cases = t.no_cases
+nothing c.handler = t.no_handler
+nothing c.func = t.fun None [] t.no_stmts
+nothing c.funcs = t.no_stmts
+nothing c.body = t.no_stmts
+nothing c.program = t.script t.no_stmts
 
 -- `var x;`
 abbrev pub declares : List ℕ → Tree t.stmt
@@ -59,7 +89,7 @@ abbrev pub load_stmt : Tree t.stmts → Tree t.stmt
 load_stmt body = t.expression (runtime_call (codes "loadModule") (single (t.function (t.fun None (runtime_name ∷ imports_name ∷ []) body))))
 
 -- `{k: e}` is `___.initializeMap(["k",e])`, `e.k` is `___.readPub(e,"k")`, an expression statement directly in the module is `moduleResult___=e;`;
--- all else is itself over rewritten parts
+-- the other forms that have a row are themselves over rewritten parts
 unfoldable pub rewritten : (s : c.Sort) → c.Tree s → Tree (of_sort s)
 rewritten _ (c.num n) = t.num n
 rewritten _ (c.text u) = t.text u
@@ -78,8 +108,9 @@ rewritten _ c.no_items = t.no_items
 rewritten _ (c.more_items x e rest) = t.more_items x (rewritten _ e) (rewritten _ rest)
 rewritten _ c.no_stmts = t.no_stmts
 rewritten _ (c.more_stmts s rest) = t.more_stmts (rewritten _ s) (rewritten _ rest)
-rewritten _ (c.block vars list) = joined (rewritten _ list) result_stmts
+rewritten _ (c.a_body c.no_funcs vars list) = joined (rewritten _ list) result_stmts
 rewritten _ (c.a_module imports body) = t.script (t.more_stmts (load_stmt (t.more_stmts (declares result_name) (import_stmts imports (rewritten _ body)))) t.no_stmts)
+rewritten s _ = nothing s
 
 -- the program of a module
 abbrev pub program_of : c.Tree c.program → Tree t.program

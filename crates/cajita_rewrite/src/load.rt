@@ -4,6 +4,7 @@ ghost use Rattle.es3_tree.specs.View.{stmt, of_stmts, of_maybe_expr};
 ghost use Rattle.cajita_tree.specs.Tree as source;
 ghost use Rattle.cajita_tree.specs.View.{body as body_view};
 ghost use Rattle.cajita_rewrite.specs.Rewrite.{declares, import_stmts, joined, load_stmt, result_name, result_stmts, rewritten};
+ghost use Rattle.cajita_rewrite.specs.Given.{IsGiven};
 
 use crate::forms::{
     IMPORTS, NOWHERE, RESULT, RUNTIME, copied_name, own_name, own_variable, runtime_call,
@@ -44,6 +45,7 @@ fn add_imports(alloc: Global, out: &mut Vec<Stmt>, imports: &[Units]) -> Result<
 /// returns the result.
 #[tactic(auto, unfolding(crate::specs::Rewrite::rewritten))]
 pub(crate) fn module_body(alloc: Global, m: &Module) -> Result<Vec<Stmt>, Memory>
+    requires { IsGiven source.body (body_view m.now.body) }
     ensures { IfOk result (λ v.
         of_stmts v.items
         ≡ tree.more_stmts (declares result_name)

@@ -3,6 +3,7 @@ ghost use Rattle.es3_tree.specs.View as target;
 ghost use Rattle.cajita_tree.specs.Tree as tree;
 ghost use Rattle.cajita_tree.specs.View as source;
 ghost use Rattle.cajita_rewrite.specs.Rewrite.{rewritten, joined};
+ghost use Rattle.cajita_rewrite.specs.Given.{IsGiven};
 
 use crate::forms::{RESULT, copied_name, own_variable, runtime_call};
 use caja_units::{Memory, Units};
@@ -12,16 +13,19 @@ use std::alloc::Global;
 
 #[tactic(auto, unfolding(crate::specs::Rewrite::rewritten))]
 fn rewrite_key(alloc: Global, key: &Key) -> Result<Expr, Memory>
+    requires { IsGiven tree.key (source.key key.now) }
     ensures { IfOk result (λ x. target.expr x ≡ rewritten tree.key (source.key key.now)) }
 {
     match key {
         Key::Fixed(key) => Ok(Expr::Text(key.copy(alloc)?)),
+        _ => unreachable!(),
     }
 }
 
 #[cycle(rewrite)]
 #[tactic(auto, unfolding(crate::specs::Rewrite::rewritten), using(cajita_tree::proofs::Rows::views))]
 fn rewrite_expr(alloc: Global, e: &CExpr) -> Result<Expr, Memory>
+    requires { IsGiven tree.expr (source.expr e.now) }
     ensures { IfOk result (λ x. target.expr x ≡ rewritten tree.expr (source.expr e.now)) }
 {
     match e {
@@ -42,6 +46,7 @@ fn rewrite_expr(alloc: Global, e: &CExpr) -> Result<Expr, Memory>
             let right = rewrite_expr(alloc, right)?;
             Ok(make_binary(alloc, *op, left, right)?)
         }
+        _ => unreachable!(),
     }
 }
 
@@ -49,6 +54,7 @@ fn rewrite_expr(alloc: Global, e: &CExpr) -> Result<Expr, Memory>
 #[cycle(rewrite)]
 #[tactic(auto, unfolding(crate::specs::Rewrite::rewritten))]
 fn rewrite_fields(alloc: Global, fields: &[(Units, CExpr)]) -> Result<Vec<Expr>, Memory>
+    requires { IsGiven tree.fields (source.of_fields fields.now) }
     ensures { IfOk result (λ v. target.of_exprs v.items ≡ rewritten tree.fields (source.of_fields fields.now)) }
 {
     let mut pairs = Vec::new(alloc);
@@ -61,6 +67,7 @@ fn rewrite_fields(alloc: Global, fields: &[(Units, CExpr)]) -> Result<Vec<Expr>,
 
 #[tactic(auto, unfolding(crate::specs::Rewrite::rewritten))]
 fn rewrite_maybe(alloc: Global, e: &Option<CExpr>) -> Result<Option<Expr>, Memory>
+    requires { IsGiven tree.maybe_expr (source.of_maybe_expr e.now) }
     ensures { IfOk result (λ x. target.of_maybe_expr x ≡ rewritten tree.maybe_expr (source.of_maybe_expr e.now)) }
 {
     match e {
@@ -71,6 +78,7 @@ fn rewrite_maybe(alloc: Global, e: &Option<CExpr>) -> Result<Option<Expr>, Memor
 
 #[tactic(auto, unfolding(crate::specs::Rewrite::rewritten))]
 fn rewrite_items(alloc: Global, items: &[CVarItem]) -> Result<Vec<VarItem>, Memory>
+    requires { IsGiven tree.items (source.of_items items.now) }
     ensures { IfOk result (λ v. target.of_items v.items ≡ rewritten tree.items (source.of_items items.now)) }
 {
     let mut rewritten = Vec::new(alloc);
@@ -84,8 +92,9 @@ fn rewrite_items(alloc: Global, items: &[CVarItem]) -> Result<Vec<VarItem>, Memo
     Ok(rewritten)
 }
 
-#[tactic(auto, unfolding(crate::specs::Rewrite::rewritten))]
+#[tactic(auto, unfolding(crate::specs::Rewrite::rewritten), using(cajita_tree::proofs::Rows::views))]
 fn rewrite_stmt(alloc: Global, statement: &CStmt) -> Result<Stmt, Memory>
+    requires { IsGiven tree.stmt (source.stmt statement.now) }
     ensures { IfOk result (λ s. target.stmt s ≡ rewritten tree.stmt (source.stmt statement.now)) }
 {
     match statement {
@@ -94,12 +103,14 @@ fn rewrite_stmt(alloc: Global, statement: &CStmt) -> Result<Stmt, Memory>
             let value = rewrite_expr(alloc, e)?;
             Ok(Stmt::Expr(make_assign(alloc, None, own_variable(alloc, RESULT)?, value)?))
         }
+        _ => unreachable!(),
     }
 }
 
 /// Puts the rewritten statements behind those that are there.
 #[tactic(auto, unfolding(crate::specs::Rewrite::rewritten))]
 pub(crate) fn add_stmts(alloc: Global, out: &mut Vec<Stmt>, list: &[CStmt]) -> Result<(), Memory>
+    requires { IsGiven tree.stmts (source.of_stmts list.now) }
     ensures { OnOk result
         (target.of_stmts out.new.items
         ≡ joined (target.of_stmts out.old.items) (rewritten tree.stmts (source.of_stmts list.now))) }

@@ -22,13 +22,16 @@ value_body law (c.num n) g = number_body n
 value_body law (c.text us) g = text_body us
 value_body law (c.name x) g = name_body x g.0 g.1
 value_body law (c.record_of fs) g = record_body law fs g
-value_body law (c.read e (c.fixed k)) g = read_body k (law e g)
+value_body law (c.read e (c.fixed k)) g = read_body k (law e g.0)
+value_body law (c.read e (c.computed f)) g = absurd g.1
 value_body {H = H} {d = d} law (c.binary op a b) g = subst (λ o. ValueBody H d (c.binary o a b) (t.binary o (rewritten c.expr a) (rewritten c.expr b))) (sym g.0) (sum_body (law a g.1) (law b g.2))
+value_body law _ g = absurd g
 
 effect_body : {H : Here} {d : ℕ} → Values H d → (x : c.Tree c.stmt) → Guest H.vars c.stmt x → EffectBody H d x (rewritten c.stmt x)
 unfolding rewritten
 effect_body law (c.expression e) g = expression_body (law e g)
 effect_body law (c.var is) g = var_body law is g
+effect_body law _ g = absurd g
 
 values : (H : Here) (d : ℕ) → Values H d
 values H zero e g = value_zero

@@ -20,13 +20,13 @@ pub record GuestKey (k : List ℕ) : Type 0 where
   pub no_text : same_units (codes "toString") k ≡ false
   pub no_value : same_units (codes "valueOf") k ≡ false
 
--- a part over names that are declared
+-- a part over names that are declared; no other form is accepted yet
 abbrev pub Guest : List (List ℕ) → (s : c.Sort) → c.Tree s → Type 0
 Guest names _ (c.num n) = Unit {0}
 Guest names _ (c.text us) = Unit {0}
 Guest names _ (c.name x) = (is_among names x ≡ true) × GuestName x
 Guest names _ (c.record_of fs) = Guest names _ fs
-Guest names _ (c.read e k) = Guest names _ e
+Guest names _ (c.read e k) = Guest names _ e × Guest names _ k
 Guest names _ (c.binary op a b) = (op ≡ Add) × Guest names _ a × Guest names _ b
 Guest names _ c.no_fields = Unit {0}
 Guest names _ (c.more_fields k e rest) = GuestKey k × Guest names _ e × Guest names _ rest
@@ -39,8 +39,9 @@ Guest names _ c.no_items = Unit {0}
 Guest names _ (c.more_items x e rest) = (is_among names x ≡ true) × GuestName x × Guest names _ e × Guest names _ rest
 Guest names _ c.no_stmts = Unit {0}
 Guest names _ (c.more_stmts s rest) = Guest names _ s × Guest names _ rest
-Guest names _ (c.block vars list) = Guest names _ list
+Guest names _ (c.a_body c.no_funcs vars list) = Guest names _ list
 Guest names _ (c.a_module imports body) = Guest names _ body
+Guest names _ _ = ⊥
 
 -- the names that statements declare by `var`
 abbrev pub item_names : c.Tree c.items → List (List ℕ)
@@ -49,12 +50,12 @@ item_names (c.more_items x e rest) = x ∷ item_names rest
 
 abbrev pub declared_by : c.Tree c.stmt → List (List ℕ)
 declared_by (c.var is) = item_names is
-declared_by (c.expression e) = []
+declared_by _ = []
 
 abbrev pub declared : c.Tree c.stmts → List (List ℕ)
 declared c.no_stmts = []
 declared (c.more_stmts s rest) = declared_by s ++ declared rest
 
--- a module that imports nothing, and whose variables are those that its statements declare
+-- a module that imports nothing and declares no function, and whose variables are those that its statements declare
 pub data GuestModule : c.Tree c.program → Type 0 where
-  a_guest : (vars : List (List ℕ)) (list : c.Tree c.stmts) → ((x : List ℕ) → is_among vars x ≡ is_among (declared list) x) → Guest vars c.stmts list → GuestModule (c.a_module [] (c.block vars list))
+  a_guest : (vars : List (List ℕ)) (list : c.Tree c.stmts) → ((x : List ℕ) → is_among vars x ≡ is_among (declared list) x) → Guest vars c.stmts list → GuestModule (c.a_module [] (c.a_body c.no_funcs vars list))

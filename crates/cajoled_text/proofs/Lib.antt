@@ -1,2 +1,4 @@
 pub mod Forms
+pub mod First
 pub mod Rewritten
+pub mod Given

@@ -1,13 +1,13 @@
 -- The program that stands for a module: each form of the source is resolved and rewritten to one that tokens spell.
-use Rattle.std.proofs.Common.{◌≡◌, ℕ, Bool, true, false, List, [], ◌∷◌, ◌++◌, Option, Some, None, refl, sym, subst}
-use Rattle.std.specs.Prelude.{codes, IfSome}
+use Rattle.std.proofs.Common.{◌≡◌, ℕ, Bool, true, false, List, [], ◌∷◌, ◌++◌, Some, refl, sym, subst}
+use Rattle.std.specs.Prelude.{codes}
 use Rattle.std.specs.List.{All}
 use Rattle.std.proofs.lemmas.List.Elements.{All-nil, All-cons, All-head, All-tail}
 use Rattle.es3_tree.specs.Tree as t
 use Rattle.es3_tree.specs.Placed as p
 use Rattle.es3_tree.specs.Placed.{Placed}
 use Rattle.es3_tree.specs.Token.{Token, name, text}
-use Rattle.es3_tree.specs.declared.BinOp.TheVariants.{Mul, Div, Rem, Add, Sub, Shl, Shr, Ushr, Less, Greater, LessEq, GreaterEq, InstanceOf, InObject, Equal, NotEqual, Same, NotSame, BitAnd, BitXor, BitOr}
+use Rattle.es3_tree.specs.declared.BinOp.TheVariants.{Add}
 use Rattle.es3_tokens.specs.Back.{IsToken}
 use Rattle.es3_grammar.specs.Spots.{Spot, point, colon, semicolon, close_paren, close_brace}
 use Rattle.es3_grammar.specs.Levels.{an_op}
@@ -17,21 +17,12 @@ use Rattle.es3_printed.specs.Tokens.{bare, wrapped, wraps, wraps_object, opens, 
 use Rattle.es3_printed.specs.Back.{IsSpelled}
 use Rattle.es3_printed.proofs.Written.{written, name_small}
 use Rattle.cajita_tree.specs.Tree as c
-use Rattle.scope_rules.specs.Resolve.{both, one, resolved, module_of, vars_of}
+use Rattle.scope_rules.specs.Language.{is_first}
+use Rattle.scope_rules.specs.Resolve.{module_of}
 use Rattle.cajita_rewrite.specs.Rewrite.{runtime_name, imports_name, result_name, runtime_call, result_stmts, load_stmt, declares, joined, rewritten, program_of}
-use Rattle.cajoled_text.proofs.Forms.{Written, Expression, Expressions, number, literal, named, sum, assigned, array, member, call, function, no_more, more, no_value, value, one_item, more_items, variables, statement, returned, no_stmts, more_stmts, spelled}
-
--- ---- what is there in an option
-
-one_holds : {A B : Type 0} (f : A → B) (P : A → Type 0) (Q : B → Type 0) → ((a : A) → P a → Q (f a)) → (o : Option A) → IfSome o P → IfSome (one f o) Q
-one_holds f P Q g None h = tt
-one_holds f P Q g (Some a) h = g a h
-
-both_holds : {A B D : Type 0} (f : A → B → D) (P : A → Type 0) (Q : B → Type 0) (R : D → Type 0) → ((a : A) (b : B) → P a → Q b → R (f a b))
-    → (o : Option A) (r : Option B) → IfSome o P → IfSome r Q → IfSome (both f o r) R
-both_holds f P Q R g None r h k = tt
-both_holds f P Q R g (Some a) None h k = tt
-both_holds f P Q R g (Some a) (Some b) h k = g a b h k
+use Rattle.cajoled_text.proofs.Forms as form
+use Rattle.cajoled_text.proofs.Forms.{Written, Expression, Expressions, number, literal, named, sum, assigned, array, member, call, function, no_more, more, no_value, value, one_item, statement, returned, spelled}
+use Rattle.cajoled_text.proofs.First.{First, a_number, a_text, a_name, a_record, a_member, a_sum, no_fields, more_fields, no_expr, some_expr, no_items, more_items, variables, a_statement, no_stmts, more_stmts, FirstModule, first_module}
 
 -- ---- tokens, and parts of them
 
@@ -85,21 +76,21 @@ result = (refl, refl)
 called : (f : List ℕ) (xs : t.Tree t.exprs) → IsToken (name f) → Expressions xs → Expression (runtime_call f xs)
 called f xs i q = call _ xs (member _ f (named runtime_name runtime) i) q
 
-a_record : (xs : t.Tree t.exprs) → Expressions xs → Expression (runtime_call (codes "initializeMap") (t.more_exprs (t.array xs) t.no_exprs))
-a_record xs q = called (codes "initializeMap") _ (refl, refl) (more _ _ (array xs q) no_more)
+a_map : (xs : t.Tree t.exprs) → Expressions xs → Expression (runtime_call (codes "initializeMap") (t.more_exprs (t.array xs) t.no_exprs))
+a_map xs q = called (codes "initializeMap") _ (refl, refl) (more _ _ (array xs q) no_more)
 
-a_member : (x : t.Tree t.expr) (us : List ℕ) → Expression x → IsToken (text us)
+a_read : (x : t.Tree t.expr) (us : List ℕ) → Expression x → IsToken (text us)
     → Expression (runtime_call (codes "readPub") (t.more_exprs x (t.more_exprs (t.text us) t.no_exprs)))
-a_member x us q i = called (codes "readPub") _ (refl, refl) (more _ _ q (more _ _ (literal us i) no_more))
+a_read x us q i = called (codes "readPub") _ (refl, refl) (more _ _ q (more _ _ (literal us i) no_more))
 
 returns_result : Written t.stmts 1 result_stmts
-returns_result = more_stmts _ _ (returned _ (named result_name result)) no_stmts
+returns_result = form.more_stmts _ _ (returned _ (named result_name result)) form.no_stmts
 
 loads : (ss : t.Tree t.stmts) → Written t.stmts 1 ss → IsSpelled (t.script (t.more_stmts (load_stmt (t.more_stmts (declares result_name) ss)) t.no_stmts))
 loads ss q =
-    let body = more_stmts _ ss (variables _ (one_item result_name t.no_expr result no_value)) q in
+    let body = form.more_stmts _ ss (form.variables _ (one_item result_name t.no_expr result no_value)) q in
     let load = called (codes "loadModule") _ (refl, refl) (more _ _ (function runtime_name imports_name _ runtime imports body) no_more) in
-    spelled _ (more_stmts _ _ (statement _ load) no_stmts)
+    spelled _ (form.more_stmts _ _ (statement _ load) form.no_stmts)
 
 -- ---- the resolved and rewritten expressions
 
@@ -110,77 +101,38 @@ abbrev OfFields : c.Tree c.fields → Type 0
 OfFields x = Expressions (rewritten c.fields x)
 
 mutual
-  unfolding bare resolved rewritten
+  unfolding bare rewritten
 
-  expression : (e : Placed t.expr) → Of (bare t.expr false (plain t.expr e)) → IfSome (resolved t.expr e) OfExpr
-  expression (p.num n) h = number n (first h)
-  expression (p.text us) h = literal us (first h)
-  expression (p.name x) h = named x.text (first h)
-  expression (p.object fs) h = one_holds c.record_of OfFields OfExpr (λ x q. a_record (rewritten c.fields x) q) (resolved t.fields fs)
-      (fields fs (front (bare t.fields false (plain t.fields fs)) (close_brace ∷ []) (rest h)))
-  expression (p.dot e k) h =
+  expression : (e : Placed t.expr) (x : c.Tree c.expr) → First t.expr e x → Of (bare t.expr false (plain t.expr e)) → OfExpr x
+  expression _ _ (a_number n) h = number n (first h)
+  expression _ _ (a_text us) h = literal us (first h)
+  expression _ _ (a_name x is_free) h = named x.text (first h)
+  expression _ _ (a_record fs x q) h = a_map (rewritten c.fields x) (fields fs x q (front (bare t.fields false (plain t.fields fs)) (close_brace ∷ []) (rest h)))
+  expression _ _ (a_member e k x q) h =
       let u = bare t.expr false (plain t.expr e) in
       let w = wraps_object false (plain t.expr e) in
       let us = key k.text (first (rest (back (wrapped w u) (point ∷ name k.text ∷ []) h))) in
-      one_holds (λ x. c.read x (c.fixed k.text)) OfExpr OfExpr (λ x q. a_member (rewritten c.expr x) k.text q us) (resolved t.expr e)
-      (expression e (unwrapped w u (front (wrapped w u) (point ∷ name k.text ∷ []) h)))
-  expression (p.binary Add x y) h =
+      a_read (rewritten c.expr x) k.text (expression e x q (unwrapped w u (front (wrapped w u) (point ∷ name k.text ∷ []) h))) us
+  expression _ _ (a_sum x y a b q r) h =
       let u = bare t.expr false (plain t.expr x) in
       let v = bare t.expr false (plain t.expr y) in
       let d = wraps false 11 (plain t.expr x) in
       let e = wraps false 12 (plain t.expr y) in
       let sign = join_sign (an_op Add) in
-      both_holds (c.binary Add) OfExpr OfExpr OfExpr (λ a b q r. sum (rewritten c.expr a) (rewritten c.expr b) q r) (resolved t.expr x) (resolved t.expr y)
-      (expression x (unwrapped d u (front (wrapped d u) (sign ∷ wrapped e v) h)))
-      (expression y (unwrapped e v (rest (back (wrapped d u) (sign ∷ wrapped e v) h))))
-  expression (p.binary Mul x y) h = tt
-  expression (p.binary Div x y) h = tt
-  expression (p.binary Rem x y) h = tt
-  expression (p.binary Sub x y) h = tt
-  expression (p.binary Shl x y) h = tt
-  expression (p.binary Shr x y) h = tt
-  expression (p.binary Ushr x y) h = tt
-  expression (p.binary Less x y) h = tt
-  expression (p.binary Greater x y) h = tt
-  expression (p.binary LessEq x y) h = tt
-  expression (p.binary GreaterEq x y) h = tt
-  expression (p.binary InstanceOf x y) h = tt
-  expression (p.binary InObject x y) h = tt
-  expression (p.binary Equal x y) h = tt
-  expression (p.binary NotEqual x y) h = tt
-  expression (p.binary Same x y) h = tt
-  expression (p.binary NotSame x y) h = tt
-  expression (p.binary BitAnd x y) h = tt
-  expression (p.binary BitXor x y) h = tt
-  expression (p.binary BitOr x y) h = tt
-  expression (p.this a) h = tt
-  expression p.null h = tt
-  expression (p.bool b) h = tt
-  expression (p.array xs) h = tt
-  expression (p.function f) h = tt
-  expression (p.index x y) h = tt
-  expression (p.call x xs) h = tt
-  expression (p.new x xs) h = tt
-  expression (p.unary op x a) h = tt
-  expression (p.step up b x) h = tt
-  expression (p.and x y) h = tt
-  expression (p.or x y) h = tt
-  expression (p.choice x y z) h = tt
-  expression (p.assign op x y) h = tt
-  expression (p.comma x y) h = tt
+      sum (rewritten c.expr a) (rewritten c.expr b)
+      (expression x a q (unwrapped d u (front (wrapped d u) (sign ∷ wrapped e v) h)))
+      (expression y b r (unwrapped e v (rest (back (wrapped d u) (sign ∷ wrapped e v) h))))
 
-  fields : (fs : Placed t.fields) → Of (bare t.fields false (plain t.fields fs)) → IfSome (resolved t.fields fs) OfFields
-  fields p.no_fields h = no_more
-  fields (p.more_fields k e fs) h =
+  fields : (fs : Placed t.fields) (x : c.Tree c.fields) → First t.fields fs x → Of (bare t.fields false (plain t.fields fs)) → OfFields x
+  fields _ _ no_fields h = no_more
+  fields _ _ (more_fields k e fs x xs is_key q r) h =
       let u = bare t.expr false (plain t.expr e) in
       let w = wraps false 1 (plain t.expr e) in
       let v = behind_field (plain t.fields fs) (bare t.fields false (plain t.fields fs)) in
       let behind_key : Of (wrapped w u ++ v) = rest {w = wrapped w u ++ v} (rest {w = colon ∷ (wrapped w u ++ v)} h) in
-      both_holds (c.more_fields k.text) OfExpr OfFields OfFields
-      (λ x xs q r. more (t.text k.text) _ (literal k.text (first h)) (more (rewritten c.expr x) (rewritten c.fields xs) q r))
-      (resolved t.expr e) (resolved t.fields fs)
-      (expression e (unwrapped w u (front (wrapped w u) v behind_key)))
-      (fields fs (fields_behind (plain t.fields fs) (back (wrapped w u) v behind_key)))
+      more (t.text k.text) _ (literal k.text (first h)) (more (rewritten c.expr x) (rewritten c.fields xs)
+      (expression e x q (unwrapped w u (front (wrapped w u) v behind_key)))
+      (fields fs xs r (fields_behind (plain t.fields fs) (back (wrapped w u) v behind_key))))
 
 -- ---- 12.2: where tokens spell a statement that declares variables, it declares one
 
@@ -249,80 +201,50 @@ OfStmt x = Written t.stmt 0 (rewritten c.stmt x)
 abbrev OfStmts : c.Tree c.stmts → Type 0
 OfStmts x = Written t.stmts 1 (joined (rewritten c.stmts x) result_stmts)
 
-begins_as : (m : Placed t.maybe_expr) → Of (initialiser false (plain t.maybe_expr m) (bare t.maybe_expr false (plain t.maybe_expr m)))
-    → IfSome (resolved t.maybe_expr m) OfValue
-unfolding bare resolved rewritten
-begins_as p.no_expr h = no_value
-begins_as (p.some_expr e) h = one_holds c.some_expr OfExpr OfValue (λ x q. value (rewritten c.expr x) q) (resolved t.expr e)
-    (expression e (unwrapped (wraps false 1 (plain t.expr e)) (bare t.expr false (plain t.expr e)) (rest h)))
+begins_as : (m : Placed t.maybe_expr) (x : c.Tree c.maybe_expr) → First t.maybe_expr m x → Of (initialiser false (plain t.maybe_expr m) (bare t.maybe_expr false (plain t.maybe_expr m))) → OfValue x
+unfolding bare rewritten
+begins_as _ _ no_expr h = no_value
+begins_as _ _ (some_expr e x q) h = value (rewritten c.expr x) (expression e x q (unwrapped (wraps false 1 (plain t.expr e)) (bare t.expr false (plain t.expr e)) (rest h)))
 
 -- the tokens of what a variable begins as, and those behind it
 first_value : Placed t.maybe_expr → List Token
 first_value m = initialiser false (plain t.maybe_expr m) (bare t.maybe_expr false (plain t.maybe_expr m))
 
-items : (is : Placed t.items) → HasItems (plain t.items is) → Of (bare t.items false (plain t.items is)) → IfSome (resolved t.items is) OfItems
-unfolding bare resolved rewritten first_value
-items p.no_items f h = absurd f
-items (p.more_items x m p.no_items) f h =
-    both_holds (c.more_items x.text) OfValue (λ z. z ≡ c.no_items) OfItems
-    (λ a b q e. subst (λ z. OfItems (c.more_items x.text a z)) (sym e) (one_item x.text (rewritten c.maybe_expr a) (first h) q))
-    (resolved t.maybe_expr m) (Some c.no_items) (begins_as m (front (first_value m) [] (rest h))) refl
-items (p.more_items x m (p.more_items y n is)) f h =
+items : (is : Placed t.items) (x : c.Tree c.items) → First t.items is x → HasItems (plain t.items is) → Of (bare t.items false (plain t.items is)) → OfItems x
+unfolding bare rewritten first_value
+items _ _ no_items f h = absurd f
+items _ _ (more_items x m _ a _ is_free q no_items) f h = one_item x.text (rewritten c.maybe_expr a) (first h) (begins_as m a q (front (first_value m) [] (rest h)))
+items _ _ (more_items x m _ a _ is_free q (more_items y n is b rest' is_free' r r')) f h =
     let v = behind_item (plain t.items (p.more_items y n is)) (bare t.items false (plain t.items (p.more_items y n is))) in
-    both_holds (c.more_items x.text) OfValue OfItems OfItems (λ a b q r. more_items x.text (rewritten c.maybe_expr a) (rewritten c.items b) (first h) q r)
-    (resolved t.maybe_expr m) (resolved t.items (p.more_items y n is))
-    (begins_as m (front (first_value m) v (rest h)))
-    (items (p.more_items y n is) tt (rest (back (first_value m) v (rest h))))
+    form.more_items x.text (rewritten c.maybe_expr a) _ (first h)
+    (begins_as m a q (front (first_value m) v (rest h)))
+    (items _ _ (more_items y n is b rest' is_free' r r') tt (rest (back (first_value m) v (rest h))))
 
-stmt : (s : Placed t.stmt) → Filled (plain t.stmt s) → Of (bare t.stmt false (plain t.stmt s)) → IfSome (resolved t.stmt s) OfStmt
-unfolding bare resolved rewritten
-stmt (p.var is) f h = one_holds c.var OfItems OfStmt (λ x q. variables (rewritten c.items x) q) (resolved t.items is)
-    (items is f (front (bare t.items false (plain t.items is)) (semicolon ∷ []) (rest h)))
-stmt (p.expression e) f h =
+stmt : (s : Placed t.stmt) (x : c.Tree c.stmt) → First t.stmt s x → Filled (plain t.stmt s) → Of (bare t.stmt false (plain t.stmt s)) → OfStmt x
+unfolding bare rewritten
+stmt _ _ (variables is x q) f h = form.variables (rewritten c.items x) (items is x q f (front (bare t.items false (plain t.items is)) (semicolon ∷ []) (rest h)))
+stmt _ _ (a_statement e x q) f h =
     let u = bare t.expr false (plain t.expr e) in
-    one_holds c.expression OfExpr OfStmt (λ x q. statement _ (assigned result_name (rewritten c.expr x) result q)) (resolved t.expr e)
-    (expression e (unwrapped (opens u) u (front (wrapped (opens u) u) (semicolon ∷ []) h)))
-stmt (p.block ss) f h = tt
-stmt p.empty f h = tt
-stmt (p.branch e s r) f h = tt
-stmt (p.while_loop e s) f h = tt
-stmt (p.do_loop s e) f h = tt
-stmt (p.for_loop d m n s) f h = tt
-stmt (p.for_in l e s) f h = tt
-stmt (p.continue n a) f h = tt
-stmt (p.break n a) f h = tt
-stmt (p.return m a) f h = tt
-stmt (p.with_object e s a) f h = tt
-stmt (p.switch e cs) f h = tt
-stmt (p.label n s) f h = tt
-stmt (p.throw e) f h = tt
-stmt (p.try ss d l) f h = tt
-stmt (p.declare d) f h = tt
+    statement _ (assigned result_name (rewritten c.expr x) result (expression e x q (unwrapped (opens u) u (front (wrapped (opens u) u) (semicolon ∷ []) h))))
 
-stmts : (ss : Placed t.stmts) → AllFilled (plain t.stmts ss) → Of (bare t.stmts false (plain t.stmts ss)) → IfSome (resolved t.stmts ss) OfStmts
-unfolding bare resolved rewritten
-stmts p.no_stmts f h = returns_result
-stmts (p.more_stmts s ss) f h =
+stmts : (ss : Placed t.stmts) (x : c.Tree c.stmts) → First t.stmts ss x → AllFilled (plain t.stmts ss) → Of (bare t.stmts false (plain t.stmts ss)) → OfStmts x
+unfolding bare rewritten
+stmts _ _ no_stmts f h = returns_result
+stmts _ _ (more_stmts s ss a b q r) f h =
     let u = bare t.stmt false (plain t.stmt s) in
     let v = bare t.stmts false (plain t.stmts ss) in
-    both_holds c.more_stmts OfStmt OfStmts OfStmts (λ a b q r. more_stmts (rewritten c.stmt a) _ q r) (resolved t.stmt s) (resolved t.stmts ss)
-    (stmt s f.0 (front u v h)) (stmts ss f.1 (back u v h))
+    form.more_stmts (rewritten c.stmt a) _ (stmt s a q f.0 (front u v h)) (stmts ss b r f.1 (back u v h))
 
 -- ---- modules
 
-abbrev OfProgram : c.Tree c.program → Type 0
-OfProgram m = IsSpelled (program_of m)
-
-of_module : (body : Placed t.stmts) → AllFilled (plain t.stmts body) → Of (bare t.stmts false (plain t.stmts body)) → IfSome (module_of body) OfProgram
+of_module : (body : Placed t.stmts) (m : c.Tree c.program) → FirstModule body m → AllFilled (plain t.stmts body) → Of (bare t.stmts false (plain t.stmts body)) → IsSpelled (program_of m)
 unfolding rewritten
-of_module body f h =
-    one_holds (λ list. c.a_module [] (c.block (vars_of body) list)) OfStmts OfProgram (λ list q. loads (joined (rewritten c.stmts list) result_stmts) q)
-    (resolved t.stmts body) (stmts body f h)
+of_module body m one f h = subst (λ z. IsSpelled (program_of z)) (sym one.is) (loads (joined (rewritten c.stmts one.list) result_stmts) (stmts body one.list one.first f h))
 
-pub rewritten_is_spelled : (body : Placed t.stmts) (m : c.Tree c.program) → IsSpelled (plain t.program (p.script body))
-    → module_of body ≡ Some m → IsSpelled (program_of m)
+pub rewritten_is_spelled : (grants : List (List ℕ)) (body : Placed t.stmts) (m : c.Tree c.program) → IsSpelled (plain t.program (p.script body))
+    → module_of grants body ≡ Some m → is_first c.program m ≡ true → IsSpelled (program_of m)
 unfolding bare
-rewritten_is_spelled body m h e =
+rewritten_is_spelled grants body m h is one =
     let filled = subst IsFilled h.same (is_filled h.tree h.by h.spelled) in
     let tokens = subst (λ z. All IsToken (bare t.program false z)) h.same (written t.program free 0 h.tree h.by h.spelled h.tokens false) in
-    subst (λ o. IfSome o OfProgram) e (of_module body filled record { all = tokens })
+    of_module body m (first_module grants body m is one) filled record { all = tokens }

@@ -1,5 +1,5 @@
 -- What becomes of a source.
-use Rattle.std.specs.Prelude.{ℕ, List, Option, Some, None, if◌then◌else◌}
+use Rattle.std.specs.Prelude.{ℕ, List, [], Option, Some, None, if◌then◌else◌}
 use Rattle.es3_tree.specs.Tree as t
 use Rattle.es3_tree.specs.Placed as p
 use Rattle.es3_tree.specs.Placed.{Placed}
@@ -20,16 +20,16 @@ pub data Outcome : Type 0 where
   -- the program that stands for it
   cajoled : t.Tree t.program → Outcome
 
--- a program that isn't of the first language breaks the rule 0, at the byte 0
+-- a module that isn't of the first language breaks the rule 0, at the byte 0
 abbrev pub outside : Outcome
 outside = broken 0 0
 
 -- a program without faults has a module, so the first line never comes
 abbrev pub rewritten : Option (c.Tree c.program) → Outcome
 rewritten None = outside
-rewritten (Some m) = cajoled (program_of m)
+rewritten (Some m) = if is_first c.program m then cajoled (program_of m) else outside
 
--- by the first fault, and the module that counts where there is none
+-- by the first fault, and by the module where there is none: whether that is of the first language comes after the rules
 abbrev pub judged : Option Fault → Option (c.Tree c.program) → Outcome
 judged (Some f) m = broken f.rule f.at
 judged None m = rewritten m
@@ -37,9 +37,9 @@ judged None m = rewritten m
 abbrev pub statements : Placed t.program → Placed t.stmts
 statements (p.script body) = body
 
--- whether a tree is of the first language comes before the rules
+-- the module of a page by itself is granted no names
 abbrev pub outcome_of_body : Placed t.stmts → Outcome
-outcome_of_body body = if is_first t.stmts body then judged (first (faults body)) (module_of body) else outside
+outcome_of_body body = judged (first (faults [] body)) (module_of [] body)
 
 abbrev pub outcome_of : Source → Outcome
 outcome_of (s.uncut number at) = uncut number at

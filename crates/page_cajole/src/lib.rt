@@ -1,10 +1,12 @@
 //! From a source to the cajoled program that stands for it, and its text, or to its own printed text, or to the stage that refuses it.
 #![tactic(auto)]
 
-ghost use Rattle.std.specs.Prelude.{◌≡◌, ℕ, List, IfOk};
+ghost use Rattle.std.specs.Prelude.{◌≡◌, ℕ, List, IfOk, true};
 ghost use Rattle.es3_tree.specs.View.{program as program_view};
 ghost use Rattle.es3_tree.specs.PlacedView.{of_stmts};
+ghost use Rattle.cajita_tree.specs.Tree as source_tree;
 ghost use Rattle.cajita_tree.specs.View.{module_view};
+ghost use Rattle.scope_rules.specs.Language.{is_first as is_of_the_first};
 ghost use Rattle.cajita_rewrite.specs.Rewrite.{program_of};
 ghost use Rattle.es3_printed.specs.Tokens.{printed};
 ghost use Rattle.page_cajole.specs.Cajoled.{outcome, outcome_of_body};
@@ -41,13 +43,15 @@ pub enum Answer {
     /// Its tokens spell no program: 1 where none goes on with a token, and the byte of that token; 2 where all that go on nest too deep,
     /// and the byte 0.
     Unread(u8, u32),
-    /// A rule refuses it: the number of the rule, and the byte of the source where the first fault is. The rule 0 stands for what isn't
-    /// of the first language, at the byte 0.
+    /// A rule refuses it: the number of the rule, and the byte of the source where the first fault is. The rule 0 stands for what breaks
+    /// no rule and isn't of the first language, at the byte 0.
     Broken(u8, u32),
 }
 
 /// The program that stands for the module, and its text.
+#[tactic(auto, using(cajoled_text::proofs::Given::module_given))]
 fn cajoled(alloc: Global, resolved: &Module) -> Result<CajoledModule, Memory>
+    requires { is_of_the_first source_tree.program (module_view resolved.now) ≡ true }
     ensures program { IfOk result (λ m. program_view m.program ≡ program_of (module_view resolved.now)) }
     ensures text { IfOk result (λ m. m.text.items ≡ printed (program_view m.program)) }
 {
@@ -60,17 +64,15 @@ fn cajoled(alloc: Global, resolved: &Module) -> Result<CajoledModule, Memory>
 fn judge(alloc: Global, program: &Program) -> Result<Answer, Memory>
     ensures { IfOk result (λ a. Answers a (outcome_of_body (of_stmts program.now.body.items))) }
 {
-    if !is_first(&program.body) {
-        return Ok(Answer::Broken(0, 0));
-    }
-    match check(alloc, program) {
-        Ok(module) => Ok(Answer::Module(cajoled(alloc, &module)?)),
+    match check(alloc, program, &[]) {
+        Ok(module) if is_first(&module) => Ok(Answer::Module(cajoled(alloc, &module)?)),
+        Ok(_) => Ok(Answer::Broken(0, 0)),
         Err(RuleError::Fault(number, at, _name)) => Ok(Answer::Broken(number, at)),
         Err(RuleError::Memory) => Err(Memory),
     }
 }
 
-/// The cajoled module of a source, or what refuses it: cutting it into tokens, reading these, or a rule, in this order.
+/// The cajoled module of a source, which is granted no names, or what refuses it: cutting it into tokens, reading these, or a rule, in this order.
 ///
 /// # Errors
 ///

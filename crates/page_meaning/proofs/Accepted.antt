@@ -1,20 +1,22 @@
 -- A module that is of the first language and breaks no rule is a guest.
-use Rattle.std.proofs.Common.{◌≡◌, ℕ, Bool, true, false, List, [], ◌∷◌, ◌++◌, Option, Some, None, cond, refl, sym, ap, ◌∙◌, subst}
-use Rattle.std.specs.Prelude.{codes, ◌||◌, ◌&&◌, not}
+use Rattle.std.proofs.Common.{◌≡◌, ℕ, Bool, true, false, List, [], ◌∷◌, ◌++◌, map, Some, None, cond, refl, sym, ap, ◌∙◌, subst}
+use Rattle.std.specs.Prelude.{codes, ◌||◌, not}
 use Rattle.std.specs.Cmp.Lexicographic.{same_text}
 use Rattle.std.proofs.lemmas.List.Folds.{list_any-append}
 use Rattle.caja_units.specs.Units.{same_units, is_hidden}
 use Rattle.es3_heap.proofs.Keys.{same_key-refl}
 use Rattle.es3_tree.specs.Tree as t
-use Rattle.es3_tree.specs.Placed as p
 use Rattle.es3_tree.specs.Placed.{Placed, Word}
-use Rattle.es3_tree.specs.declared.BinOp.TheVariants.{Add}
+use Rattle.es3_labels.specs.Around.{in_program}
+use Rattle.es3_labels.specs.Misplaced.{misplaced}
 use Rattle.cajita_tree.specs.Tree as c
-use Rattle.scope_rules.specs.Rules.{own_words, is_free_name, is_record_key}
+use Rattle.scope_rules.specs.Rules.{fixed_names, own_words, is_free_name, is_record_key}
+use Rattle.scope_rules.specs.Declarations.{Declaration, variable, declared_as, declarations}
+use Rattle.scope_rules.specs.Scope.{Scope, in_module, imported, unbound, is_unbound, declares, own, is_arguments, lacks}
+use Rattle.scope_rules.specs.Faults.{Fault, hidden, undeclared, redeclared, faults_in, bad_label, module_scope, all_faults, ordered, inserted, faults, first, is_before}
+use Rattle.scope_rules.specs.Resolve.{names_of, is_variable, is_loop_variable, once_after, vars_of, module_of}
 use Rattle.scope_rules.specs.Language.{is_first}
-use Rattle.scope_rules.specs.Resolve as rules
-use Rattle.scope_rules.specs.Resolve.{of_sort, one, both, resolved, once_after, vars_of, module_of}
-use Rattle.scope_rules.specs.Faults.{Fault, hidden, undeclared, faults_in, ordered, inserted, faults, first, is_before}
+use Rattle.cajoled_text.proofs.First.{First, a_number, a_text, a_name, a_record, a_member, a_sum, no_fields, more_fields, no_expr, some_expr, no_items, more_items, variables, a_statement, no_stmts, more_stmts, and_left, and_right, first_module}
 use Rattle.cajita_simulation.specs.Guest as guest
 use Rattle.cajita_simulation.specs.Guest.{is_among, GuestName, GuestKey, Guest, GuestModule, a_guest}
 
@@ -27,14 +29,6 @@ no_front (f ∷ fs) gs e = absurd cc
 no_back : (fs gs : List Fault) → fs ++ gs ≡ [] → gs ≡ []
 no_back [] gs e = e
 no_back (f ∷ fs) gs e = absurd cc
-
-and_left : (a b : Bool) → (a && b) ≡ true → a ≡ true
-and_left true b e = refl
-and_left false b e = e
-
-and_right : (a b : Bool) → (a && b) ≡ true → b ≡ true
-and_right true b e = e
-and_right false b e = absurd cc
 
 not_true : (b : Bool) → not b ≡ true → b ≡ false
 not_true true e = absurd cc
@@ -62,15 +56,8 @@ none_there : (b : Bool) (f : Fault) → cond b (f ∷ []) [] ≡ [] → b ≡ fa
 none_there true f e = absurd cc
 none_there false f e = refl
 
-none_else : (b : Bool) (f : Fault) → cond b [] (f ∷ []) ≡ [] → b ≡ true
-none_else true f e = refl
-none_else false f e = absurd cc
-
 not_hidden : (x : Word) → hidden x ≡ [] → is_hidden x.text ≡ false
 not_hidden x e = none_there (is_hidden x.text) _ e
-
-is_declared : (names : List (List ℕ)) (x : Word) → undeclared names x ≡ [] → is_among names x.text ≡ true
-is_declared names x e = none_else (is_among names x.text) _ e
 
 -- and what the words say that mean something of their own: `eval`, `arguments`, `toString`, `valueOf`
 
@@ -95,62 +82,108 @@ guest_name x clean free = record { open_name = not_hidden x clean; own_name = (n
 guest_key : (x : Word) → hidden x ≡ [] → is_record_key x.text ≡ true → GuestKey x.text
 guest_key x clean free = let own = no_own x.text (and_right _ _ free) in record { open_key = not_hidden x clean; no_text = own.1; no_value = own.2 }
 
--- the names that a part declares
-abbrev declares : (s : t.Sort) → Placed s → List (List ℕ)
-declares t.items is = rules.item_names is
-declares t.stmt x = rules.declared_by x
-declares t.stmts ss = rules.declared ss
-declares _ x = []
+-- ---- the declarations of a body of the first language are its variables
 
-abbrev guest_declares : (s : c.Sort) → c.Tree s → List (List ℕ)
-guest_declares c.items is = guest.item_names is
-guest_declares c.stmt x = guest.declared_by x
-guest_declares c.stmts ss = guest.declared ss
-guest_declares _ x = []
+data Variables : List Declaration → List (List ℕ) → Type 0 where
+  none : Variables [] []
+  more : (x : Word) (ds : List Declaration) (names : List (List ℕ)) → Variables ds names → Variables (declared_as variable x ∷ ds) (x.text ∷ names)
 
--- a part has a resolved form, which is a guest's and declares the same names
-abbrev Accepted : List (List ℕ) → (s : t.Sort) → Placed s → Type 0
-Accepted names s x = (y : c.Tree (of_sort s)) × (resolved s x ≡ Some y) × Guest names (of_sort s) y × (guest_declares (of_sort s) y ≡ declares s x)
+together : (ds es : List Declaration) (xs ys : List (List ℕ)) → Variables ds xs → Variables es ys → Variables (ds ++ es) (xs ++ ys)
+together _ es _ ys none w = w
+together _ es _ ys (more x ds xs v) w = more x (ds ++ es) (xs ++ ys) (together ds es xs ys v w)
 
-both-given : {A B D : Type 0} (f : A → B → D) (x : Option A) (y : Option B) (a : A) (b : B) → x ≡ Some a → y ≡ Some b → both f x y ≡ Some (f a b)
-both-given f x y a b e g = cc
+named_variables : (ds : List Declaration) (xs : List (List ℕ)) → Variables ds xs → names_of is_variable ds ≡ xs
+named_variables _ _ none = refl
+named_variables _ _ (more x ds xs v) = ap (λ l. x.text ∷ l) (named_variables ds xs v)
 
-Declared : List (List ℕ) → List (List ℕ) → Type 0
-Declared names xs = (k : List ℕ) → is_among xs k ≡ true → is_among names k ≡ true
+no_loop_variables : (ds : List Declaration) (xs : List (List ℕ)) → Variables ds xs → names_of is_loop_variable ds ≡ []
+no_loop_variables _ _ none = refl
+no_loop_variables _ _ (more x ds xs v) = no_loop_variables ds xs v
 
-accepted : (names : List (List ℕ)) (s : t.Sort) (x : Placed s) → faults_in names s x ≡ [] → is_first s x ≡ true → ((k : List ℕ) → is_among (declares s x) k ≡ true → is_among names k ≡ true) → Accepted names s x
-unfolding resolved faults_in is_first
-accepted names _ (p.num n) e f d = (c.num n, refl, tt, refl)
-accepted names _ (p.text u) e f d = (c.text u, refl, tt, refl)
-accepted names _ (p.name x) e f d = (c.name x.text, refl, (is_declared names x (no_back _ _ e), guest_name x (no_front _ _ e) f), refl)
-accepted names _ (p.object fs) e f d = let g = accepted names _ fs e f (λ k h. absurd cc) in (c.record_of g.0, ap (one c.record_of) g.1, g.2, refl)
-accepted names _ (p.dot x k) e f d = let g = accepted names _ x (no_front _ _ e) (and_right _ _ f) (λ k h. absurd cc) in (c.read g.0 (c.fixed k.text), ap (one (λ z. c.read z (c.fixed k.text))) g.1, g.2, refl)
-accepted names _ (p.binary Add x y) e f d =
-    let g = accepted names _ x (no_front _ _ e) (and_left _ _ f) (λ k h. absurd cc) in
-    let h = accepted names _ y (no_back _ _ e) (and_right _ _ f) (λ k h. absurd cc) in
-    (c.binary Add g.0 h.0, both-given (c.binary Add) _ _ g.0 h.0 g.1 h.1, (refl, g.2, h.2), refl)
-accepted names _ p.no_fields e f d = (c.no_fields, refl, tt, refl)
-accepted names _ (p.more_fields k x rest) e f d =
-    let front = and_left _ _ f in
-    let g = accepted names _ x (no_back _ _ (no_front _ _ e)) (and_right _ _ front) (λ k h. absurd cc) in
-    let h = accepted names _ rest (no_back _ _ e) (and_right _ _ f) (λ k h. absurd cc) in
-    (c.more_fields k.text g.0 h.0, both-given (c.more_fields k.text) _ _ g.0 h.0 g.1 h.1, (guest_key k (no_front _ _ (no_front _ _ e)) (and_left _ _ (and_left _ _ front)), g.2, h.2), refl)
-accepted names _ p.no_expr e f d = (c.no_expr, refl, tt, refl)
-accepted names _ (p.some_expr x) e f d = let g = accepted names _ x e f (λ k h. absurd cc) in (c.some_expr g.0, ap (one c.some_expr) g.1, g.2, refl)
-accepted names _ (p.var is) e f d = let g = accepted names _ is e (and_right _ _ f) d in (c.var g.0, ap (one c.var) g.1, g.2, g.3)
-accepted names _ (p.expression x) e f d = let g = accepted names _ x e f (λ k h. absurd cc) in (c.expression g.0, ap (one c.expression) g.1, g.2, refl)
-accepted names _ p.no_items e f d = (c.no_items, refl, tt, refl)
-accepted names _ (p.more_items k x rest) e f d =
-    let front = and_left _ _ f in
-    let g = accepted names _ x (no_back _ _ (no_front _ _ e)) (and_right _ _ front) (λ k h. absurd cc) in
-    let h = accepted names _ rest (no_back _ _ e) (and_right _ _ f) (λ i there. d i (right_there (same_units i k.text) _ there)) in
-    (c.more_items k.text g.0 h.0, both-given (c.more_items k.text) _ _ g.0 h.0 g.1 h.1, (d k.text (left_there _ _ (same_key-refl k.text)), guest_name k (no_front _ _ (no_front _ _ e)) (and_left _ _ front), g.2, h.2), ap (λ l. k.text ∷ l) h.3)
-accepted names _ p.no_stmts e f d = (c.no_stmts, refl, tt, refl)
-accepted names _ (p.more_stmts s rest) e f d =
-    let g = accepted names _ s (no_front _ _ e) (and_left _ _ f) (λ k there. d k (list_any-append (same_units k) (rules.declared_by s) (rules.declared rest) ∙ left_there _ _ there)) in
-    let h = accepted names _ rest (no_back _ _ e) (and_right _ _ f) (λ k there. d k (list_any-append (same_units k) (rules.declared_by s) (rules.declared rest) ∙ right_there _ _ there)) in
-    (c.more_stmts g.0 h.0, both-given c.more_stmts _ _ g.0 h.0 g.1 h.1, (g.2, h.2), ap (λ l. l ++ guest.declared h.0) g.3 ∙ ap (λ l. rules.declared_by s ++ l) h.3)
-accepted names _ _ e f d = absurd cc
+known_variables : (ds : List Declaration) (xs : List (List ℕ)) → Variables ds xs → (k : List ℕ) → declares ds k ≡ is_among xs k
+known_variables _ _ none k = refl
+known_variables _ _ (more x ds xs v) k = ap (λ b. same_units k x.text || b) (known_variables ds xs v k)
+
+of_items : (is : Placed t.items) (y : c.Tree c.items) → First t.items is y → Variables (declarations t.items is) (guest.item_names y)
+unfolding declarations
+of_items _ _ no_items = none
+of_items _ _ (more_items x m is m' is' is_free q r) = more x (declarations t.items is) (guest.item_names is') (of_items is is' r)
+
+of_stmt : (s : Placed t.stmt) (y : c.Tree c.stmt) → First t.stmt s y → Variables (declarations t.stmt s) (guest.declared_by y)
+unfolding declarations
+of_stmt _ _ (variables is y q) = of_items is y q
+of_stmt _ _ (a_statement e y q) = none
+
+of_stmts : (ss : Placed t.stmts) (y : c.Tree c.stmts) → First t.stmts ss y → Variables (declarations t.stmts ss) (guest.declared y)
+unfolding declarations
+of_stmts _ _ no_stmts = none
+of_stmts _ _ (more_stmts s ss y ys q r) = together (declarations t.stmt s) (declarations t.stmts ss) (guest.declared_by y) (guest.declared ys) (of_stmt s y q) (of_stmts ss ys r)
+
+-- ---- a part that breaks no rule is a guest's
+
+-- a name that may stand in a module is declared there, where it is no name that modules have anyway
+is_declared : (ds : List Declaration) (x : Word) → is_free_name x.text ≡ true → undeclared (in_module ds fixed_names) x ≡ [] → declares ds x.text ≡ true
+is_declared ds x is_free clean =
+    let bare = (no_own x.text (and_right _ _ is_free)).0 in
+    let unfixed = not_true (is_among fixed_names x.text) (and_left _ _ is_free) in
+    let lacked = none_there (lacks (in_module ds fixed_names) x.text) _ clean in
+    let cases = elim (declares ds x.text) as (λ b. is_unbound (cond b (own ds x.text) (cond (is_among fixed_names x.text) imported unbound)) ≡ false → b ≡ true) [
+      | true ↦ λ e. refl
+      | false ↦ λ e. absurd (outside (is_among fixed_names x.text) unfixed e)
+    ] in cases (inside (is_arguments x.text) bare _ lacked)
+  where
+    outside : (b : Bool) → b ≡ false → is_unbound (cond b imported unbound) ≡ false → ⊥
+    outside true e h = absurd cc
+    outside false e h = absurd cc
+
+    inside : (b : Bool) → b ≡ false → (rest : Bool) → cond b true rest ≡ false → rest ≡ false
+    inside true e rest h = absurd cc
+    inside false e rest h = h
+
+module _ (ds : List Declaration) (names : List (List ℕ)) (usable : (x : List ℕ) → declares ds x ≡ true → is_among names x ≡ true) where
+  abbrev around : Scope
+  around = in_module ds fixed_names
+
+  mutual
+    unfolding faults_in
+
+    expression : (e : Placed t.expr) (y : c.Tree c.expr) → First t.expr e y → faults_in around t.expr e ≡ [] → Guest names c.expr y
+    expression _ _ (a_number n) h = tt
+    expression _ _ (a_text us) h = tt
+    expression _ _ (a_name x is_free) h = (usable x.text (is_declared ds x is_free (no_back _ _ h)), guest_name x (no_front _ _ (no_front _ _ h)) is_free)
+    expression _ _ (a_record fs y q) h = fields fs y q (no_front _ _ h)
+    expression _ _ (a_member e k y q) h = (expression e y q (no_front _ _ h), tt)
+    expression _ _ (a_sum a b x y q r) h = (refl, expression a x q (no_front _ _ h), expression b y r (no_back _ _ h))
+
+    fields : (fs : Placed t.fields) (y : c.Tree c.fields) → First t.fields fs y → faults_in around t.fields fs ≡ [] → Guest names c.fields y
+    fields _ _ no_fields h = tt
+    fields _ _ (more_fields k e fs x y is_key q r) h =
+        let front = no_front _ _ h in
+        (guest_key k (no_front _ _ (no_front _ _ front)) is_key, expression e x q (no_back _ _ front), fields fs y r (no_back _ _ h))
+
+  value : (m : Placed t.maybe_expr) (y : c.Tree c.maybe_expr) → First t.maybe_expr m y → faults_in around t.maybe_expr m ≡ [] → Guest names c.maybe_expr y
+  unfolding faults_in
+  value _ _ no_expr h = tt
+  value _ _ (some_expr e y q) h = expression e y q h
+
+  items : (is : Placed t.items) (y : c.Tree c.items) → First t.items is y → faults_in around t.items is ≡ [] → ((k : List ℕ) → is_among (guest.item_names y) k ≡ true → is_among names k ≡ true) → Guest names c.items y
+  unfolding faults_in
+  items _ _ no_items h d = tt
+  items _ _ (more_items x m is a b is_free q r) h d =
+      let front = no_front _ _ h in
+      (d x.text (left_there _ _ (same_key-refl x.text)), guest_name x (no_front _ _ (no_front _ _ (no_front _ _ front))) is_free, value m a q (no_back _ _ front), items is b r (no_back _ _ h) (λ k there. d k (right_there (same_units k x.text) _ there)))
+
+  stmt : (s : Placed t.stmt) (y : c.Tree c.stmt) → First t.stmt s y → faults_in around t.stmt s ≡ [] → ((k : List ℕ) → is_among (guest.declared_by y) k ≡ true → is_among names k ≡ true) → Guest names c.stmt y
+  unfolding faults_in
+  stmt _ _ (variables is y q) h d = items is y q h d
+  stmt _ _ (a_statement e y q) h d = expression e y q h
+
+  stmts : (ss : Placed t.stmts) (y : c.Tree c.stmts) → First t.stmts ss y → faults_in around t.stmts ss ≡ [] → ((k : List ℕ) → is_among (guest.declared y) k ≡ true → is_among names k ≡ true) → Guest names c.stmts y
+  unfolding faults_in
+  stmts _ _ no_stmts h d = tt
+  stmts _ _ (more_stmts s ss a b q r) h d =
+      let split : (k : List ℕ) → is_among (guest.declared_by a ++ guest.declared b) k ≡ (is_among (guest.declared_by a) k || is_among (guest.declared b) k) = λ k. list_any-append (same_units k) (guest.declared_by a) (guest.declared b) in
+      (stmt s a q (no_front _ _ h) (λ k there. d k (split k ∙ left_there _ _ there)), stmts ss b r (no_back _ _ h) (λ k there. d k (split k ∙ right_there _ _ there)))
 
 -- each name once is the same names
 
@@ -203,14 +236,18 @@ first_none : (fs : List Fault) → first fs ≡ None → fs ≡ []
 first_none [] e = refl
 first_none (f ∷ fs) e = absurd cc
 
--- the module of a tree that is accepted is a guest
-pub guest_of : (body : Placed t.stmts) (m : c.Tree c.program) → is_first t.stmts body ≡ true → first (faults body) ≡ None → module_of body ≡ Some m → GuestModule m
-guest_of body m is_one clean found =
+clean_body : (body : Placed t.stmts) → first (faults [] body) ≡ None → faults_in (module_scope [] body) t.stmts body ≡ []
+clean_body body e = no_back (redeclared [] (declarations t.stmts body)) _ (no_front _ (map bad_label (misplaced in_program t.stmts body)) (ordered_none (all_faults [] body) (first_none (faults [] body) e)))
+
+-- the module of a tree that breaks no rule is a guest, where it is of the first language
+pub guest_of : (body : Placed t.stmts) (m : c.Tree c.program) → first (faults [] body) ≡ None → module_of [] body ≡ Some m → is_first c.program m ≡ true → GuestModule m
+guest_of body m clean is one =
+    let f = first_module [] body m is one in
+    let ds = declarations t.stmts body in
     let names = vars_of body in
-    let same : (k : List ℕ) → is_among names k ≡ is_among (rules.declared body) k = once_same [] (rules.declared body) in
-    let g = accepted names t.stmts body (ordered_none _ (first_none _ clean)) is_one (λ k there. same k ∙ there) in
-    let module_is : c.a_module [] (c.block names g.0) ≡ m = some_is _ m (sym (ap (one (λ list. c.a_module [] (c.block names list))) g.1) ∙ found) in
-    subst GuestModule module_is (a_guest names g.0 (λ k. same k ∙ ap (λ l. is_among l k) (sym g.3)) g.2)
-  where
-    some_is : (x y : c.Tree c.program) → Some x ≡ Some y → x ≡ y
-    some_is x y e = cc
+    let v = of_stmts body f.list f.first in
+    let each : names ≡ once_after [] (guest.declared f.list) =
+    ap (λ l. once_after (once_after [] (names_of is_variable ds)) l) (no_loop_variables ds (guest.declared f.list) v) ∙ ap (once_after []) (named_variables ds (guest.declared f.list) v) in
+    let same : (k : List ℕ) → is_among names k ≡ is_among (guest.declared f.list) k = λ k. ap (λ l. is_among l k) each ∙ once_same [] (guest.declared f.list) k in
+    let known : (k : List ℕ) → declares ds k ≡ true → is_among names k ≡ true = λ k there. same k ∙ sym (known_variables ds (guest.declared f.list) v k) ∙ there in
+    subst GuestModule (sym f.is) (a_guest names f.list same (stmts ds names known body f.list f.first (clean_body body clean) (λ k there. same k ∙ there)))

@@ -1,5 +1,5 @@
 -- What the log of an accepted source means.
-use Rattle.std.specs.Prelude.{◌≡◌, ℕ, List, Some}
+use Rattle.std.specs.Prelude.{◌≡◌, ℕ, List, [], Some}
 use Rattle.es3_tree.specs.Tree as t
 use Rattle.es3_tree.specs.Placed.{Placed}
 use Rattle.cajita_tree.specs.Tree as c
@@ -10,11 +10,11 @@ use Rattle.page_cajole.specs.Source.{Spells}
 use Rattle.page_cajole.specs.Cajoled.{statements, outcome, cajoled}
 use Rattle.page_meaning.specs.Means.{SourceMeans}
 
--- the source spells a program, whose module is this one
+-- the source spells a program, whose module is this one: it is granted no names
 pub record SpellsModule (input : List ℕ) (m : c.Tree c.program) : Type 0 where
   pub tree : Placed t.program
   pub spelled : Spells input tree
-  pub resolved : module_of (statements tree) ≡ Some m
+  pub resolved : module_of [] (statements tree) ≡ Some m
 
 -- the program stands for the module that the source spells, what is written of it is read as that very program, and what its page shows is what that
 -- module means

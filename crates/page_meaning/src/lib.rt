@@ -4,7 +4,7 @@
 //! functions here have no body: their contracts are laws.
 #![tactic(auto)]
 
-ghost use Rattle.std.specs.Prelude.{◌≡◌, true, Some, None};
+ghost use Rattle.std.specs.Prelude.{◌≡◌, true, [], Some, None};
 ghost use Rattle.es3_tree.specs.Tree as t;
 ghost use Rattle.es3_tree.specs.Placed.{Placed};
 ghost use Rattle.cajita_tree.specs.Tree as c;
@@ -23,9 +23,10 @@ pub fn the_log_is_the_sources_meaning()
     ensures { (m : c.Tree c.program) → GuestModule m → SourceMeans m }
 {}
 
-/// The module of a tree of the first language that breaks no rule is a guest: its names are declared, and no name or key is one that the rewriting or
-/// the interpreter uses itself.
+/// The module of a tree that breaks no rule is a guest, where it is of the first language: its names are declared, and no name or key is one that the
+/// rewriting or the interpreter uses itself. It is granted no names.
 #[tactic(auto, using(crate::proofs::Accepted::guest_of))]
 pub fn an_accepted_module_is_a_guest()
-    ensures { (body : Placed t.stmts) (m : c.Tree c.program) → is_first t.stmts body ≡ true → first (faults body) ≡ None → module_of body ≡ Some m → GuestModule m }
+    ensures { (body : Placed t.stmts) (m : c.Tree c.program)
+        → first (faults [] body) ≡ None → module_of [] body ≡ Some m → is_first c.program m ≡ true → GuestModule m }
 {}

@@ -1,8 +1,12 @@
-pub mod Fields
+pub mod Checked
+pub mod Declared
+pub mod Declaring
 pub mod Front
 pub mod Given
-pub mod Once
+pub mod Misplaced
+pub mod Named
+pub mod OnceParts
 pub mod Order
 pub mod Parts
-pub mod Statements
+pub mod Resolved
 pub mod Single

@@ -1,6 +1,7 @@
 -- The first of some faults: of a list in two parts, and as the lists of a program are gone over.
-use Rattle.std.proofs.Common.{◌≡◌, List, [], ◌∷◌, ◌++◌, Option, Some, None, Bool, true, false, cond, refl, sym, ap, ◌∙◌, arith}
+use Rattle.std.proofs.Common.{◌≡◌, ℕ, ◌+◌, ◌<◌, List, [], ◌∷◌, ◌++◌, length, get_or, drop, Option, Some, None, Bool, true, false, cond, refl, sym, ap, ◌∙◌, arith}
 use Rattle.std.proofs.lemmas.Bool.Decides.{nat_tests}
+use Rattle.std.proofs.lemmas.List.{at_drop_more}
 use Rattle.scope_rules.specs.Faults.{Fault, is_before, inserted, ordered, first}
 use Rattle.scope_rules.specs.Found.{first_in, earlier_of}
 
@@ -33,7 +34,7 @@ earlier-assoc (Some a) None c = refl
 earlier-assoc (Some a) (Some b) None = with_none (earlier_of (Some a) (Some b))
 earlier-assoc (Some a) (Some b) (Some c) = three a b c (is_before b a) refl (is_before c b) refl (is_before c a) refl
 
-first-more : (x : Fault) (fs : List Fault) → first (inserted x fs) ≡ earlier_of (Some x) (first fs)
+pub first-more : (x : Fault) (fs : List Fault) → first (inserted x fs) ≡ earlier_of (Some x) (first fs)
 first-more x [] = refl
 first-more x (y ∷ ys) = go (is_before y x)
   where
@@ -56,6 +57,14 @@ one-more found here more fs gs all at is parts =
     ap (λ o. earlier_of o (first_in gs)) (is ∙ ap (earlier_of found) at)
     ∙ earlier-assoc found (first_in fs) (first_in gs)
     ∙ ap (earlier_of found) (sym (append_first fs gs) ∙ ap first_in (sym parts))
+
+-- a list gone over up to i, with the element there
+pub turn : {A : Type 0} (all : List A → List Fault) (fs : List Fault) (xs : List A) (i : ℕ) (x : A) (found here more : Option Fault) → i < length xs → x ≡ get_or xs i x
+    → all (x ∷ drop (i + 1) xs) ≡ fs ++ all (drop (i + 1) xs) → here ≡ first_in fs → more ≡ earlier_of found here
+    → earlier_of more (first_in (all (drop (i + 1) xs))) ≡ earlier_of found (first_in (all (drop i xs)))
+turn all fs xs i x found here more h is parts at now =
+    one-more found here more fs (all (drop (i + 1) xs)) (all (drop i xs)) at now
+    (at_drop_more all xs i x h ∙ ap (λ z. all (z ∷ drop (i + 1) xs)) (sym is) ∙ parts)
 
 some-none : {C : Type 0} (o : Option Fault) (x : Fault) → earlier_of (Some x) o ≡ None → C
 some-none None x e = absurd cc

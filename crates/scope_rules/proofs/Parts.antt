@@ -1,52 +1,58 @@
--- The faults of the lists of a program, one part after the other.
-use Rattle.std.proofs.Common.{◌≡◌, ℕ, ◌+◌, ◌<◌, ◌≤◌, List, ◌∷◌, ◌++◌, Option, length, get_or, drop, sym, ap, ◌∙◌}
-use Rattle.std.proofs.lemmas.List.{at_drop_more, at_drop_all}
-use Rattle.es3_tree.specs.declared.Name.{Name}
+-- The faults of forms, by their parts, and of the declarations of a body, one after the other.
+use Rattle.std.proofs.Common.{◌≡◌, ℕ, ◌+◌, ◌<◌, List, [], ◌∷◌, ◌++◌, Bool, Option, map, length, get_or, take, drop, sym, ap, ◌∙◌, ◌⊎◌, inl, inr}
+use Rattle.std.specs.List.{list_any}
+use Rattle.std.proofs.lemmas.List.{at_drop_more, take_more}
+use Rattle.std.specs.Global.{Vec, Box}
 use Rattle.es3_tree.specs.declared.Expr.{Expr}
-use Rattle.es3_tree.specs.declared.VarItem.{VarItem}
 use Rattle.es3_tree.specs.declared.Stmt.{Stmt}
+use Rattle.es3_tree.specs.declared.Case.{Case}
+use Rattle.es3_tree.specs.declared.Expr.TheVariants as e
+use Rattle.es3_tree.specs.declared.Stmt.TheVariants as s
 use Rattle.es3_tree.specs.Tree as t
-use Rattle.es3_tree.specs.PlacedView as source
-use Rattle.scope_rules.specs.Faults.{Fault, hidden, faults_in}
+use Rattle.es3_tree.specs.PlacedView as v
+use Rattle.es3_tree.proofs.PlacedRows.{placed_call, placed_new, placed_switch}
+use Rattle.scope_rules.specs.Scope.{Scope}
+use Rattle.scope_rules.specs.Faults.{Fault, word_fault, form_fault, clashes, redeclared, faults_in}
+use Rattle.scope_rules.specs.Views.{declaration_of}
+use Rattle.scope_rules.specs.declared.declarations.Declaration.{Declaration as DeclarationPart}
 use Rattle.scope_rules.specs.Found.{first_in, earlier_of}
-use Rattle.scope_rules.proofs.Order.{one-more, append_first, with_none}
+use Rattle.scope_rules.proofs.Declared.{pushed}
+use Rattle.scope_rules.proofs.Order.{one-more}
 
-pub fields-turn : (names : List (List ℕ)) (fields : List (Name × Expr)) (i : ℕ) (x : Name × Expr) (found at_key in_value here more : Option Fault) → i < length fields → x ≡ get_or fields i x
-    → at_key ≡ first_in (hidden (source.word x.0)) → in_value ≡ first_in (faults_in names t.expr (source.expr x.1)) → here ≡ earlier_of at_key in_value → more ≡ earlier_of found here
-    → earlier_of more (first_in (faults_in names t.fields (source.of_fields (drop (i + 1) fields)))) ≡ earlier_of found (first_in (faults_in names t.fields (source.of_fields (drop i fields))))
+pub faults_of_call : (around : Scope) {x : Expr} (b : Box Expr) (y : Vec Expr) → (x ≡ e.Call b y) ⊎ (x ≡ e.New b y)
+    → faults_in around t.expr (v.expr x) ≡ faults_in around t.expr (v.expr b.value) ++ faults_in around t.exprs (v.of_exprs y.items)
 unfolding faults_in
-fields-turn names fields i x found at_key in_value here more h is key value j g =
-    one-more found here more (hidden (source.word x.0) ++ faults_in names t.expr (source.expr x.1)) _ _
-    (j ∙ ap (λ o. earlier_of o in_value) key ∙ ap (earlier_of (first_in (hidden (source.word x.0)))) value ∙ sym (append_first (hidden (source.word x.0)) (faults_in names t.expr (source.expr x.1))))
-    g
-    (at_drop_more (λ l. faults_in names t.fields (source.of_fields l)) fields i x h ∙ ap (λ z. faults_in names t.fields (source.of_fields (z ∷ drop (i + 1) fields))) (sym is))
+faults_of_call around b y (inl h) = ap (λ x. faults_in around t.expr (v.expr x)) h ∙ ap (faults_in around t.expr) (placed_call b y)
+faults_of_call around b y (inr h) = ap (λ x. faults_in around t.expr (v.expr x)) h ∙ ap (faults_in around t.expr) (placed_new b y)
 
-pub fields-end : (names : List (List ℕ)) (fields : List (Name × Expr)) (i : ℕ) (found : Option Fault) → length fields ≤ i → earlier_of found (first_in (faults_in names t.fields (source.of_fields (drop i fields)))) ≡ found
+pub faults_of_with : (around : Scope) {x : Stmt} (y : Expr) (z : Box Stmt) (at : ℕ) → x ≡ s.With y z at
+    → faults_in around t.stmt (v.stmt x) ≡ (form_fault 2 at ++ faults_in around t.expr (v.expr y)) ++ faults_in around t.stmt (v.stmt z.value)
 unfolding faults_in
-fields-end names fields i found h = at_drop_all (λ l. earlier_of found (first_in (faults_in names t.fields (source.of_fields l)))) fields i h ∙ with_none found
+faults_of_with around y z at h = ap (λ x. faults_in around t.stmt (v.stmt x)) h
 
-pub items-turn : (names : List (List ℕ)) (items : List VarItem) (i : ℕ) (x : VarItem) (found at_name in_value here more : Option Fault) → i < length items → x ≡ get_or items i x
-    → at_name ≡ first_in (hidden (source.word x.name)) → in_value ≡ first_in (faults_in names t.maybe_expr (source.of_maybe_expr x.value)) → here ≡ earlier_of at_name in_value → more ≡ earlier_of found here
-    → earlier_of more (first_in (faults_in names t.items (source.of_items (drop (i + 1) items)))) ≡ earlier_of found (first_in (faults_in names t.items (source.of_items (drop i items))))
+pub faults_of_switch : (around : Scope) {x : Stmt} (y : Expr) (z : Vec Case) → x ≡ s.Switch y z
+    → faults_in around t.stmt (v.stmt x) ≡ faults_in around t.expr (v.expr y) ++ faults_in around t.cases (v.of_cases z.items)
 unfolding faults_in
-items-turn names items i x found at_name in_value here more h is name value j g =
-    one-more found here more (hidden (source.word x.name) ++ faults_in names t.maybe_expr (source.of_maybe_expr x.value)) _ _
-    (j ∙ ap (λ o. earlier_of o in_value) name ∙ ap (earlier_of (first_in (hidden (source.word x.name)))) value ∙ sym (append_first (hidden (source.word x.name)) (faults_in names t.maybe_expr (source.of_maybe_expr x.value))))
-    g
-    (at_drop_more (λ l. faults_in names t.items (source.of_items l)) items i x h ∙ ap (λ z. faults_in names t.items (source.of_items (z ∷ drop (i + 1) items))) (sym is))
+faults_of_switch around y z h = ap (λ x. faults_in around t.stmt (v.stmt x)) h ∙ ap (faults_in around t.stmt) (placed_switch y z)
 
-pub items-end : (names : List (List ℕ)) (items : List VarItem) (i : ℕ) (found : Option Fault) → length items ≤ i → earlier_of found (first_in (faults_in names t.items (source.of_items (drop i items)))) ≡ found
-unfolding faults_in
-items-end names items i found h = at_drop_all (λ l. earlier_of found (first_in (faults_in names t.items (source.of_items l)))) items i h ∙ with_none found
+-- a declaration, and those behind it
+redeclared_at : (ds : List DeclarationPart) (i : ℕ) (d : DeclarationPart) → i < length ds → d ≡ get_or ds i d
+    → redeclared (map declaration_of (take i ds)) (map declaration_of (drop i ds))
+    ≡ word_fault 5 (declaration_of d).word (list_any (clashes (declaration_of d)) (map declaration_of (take i ds)))
+    ++ redeclared (map declaration_of (take (i + 1) ds)) (map declaration_of (drop (i + 1) ds))
+redeclared_at ds i d h is =
+    let before = map declaration_of (take i ds) in
+    let rest = map declaration_of (drop (i + 1) ds) in
+    at_drop_more (λ l. redeclared before (map declaration_of l)) ds i d h
+    ∙ ap (λ x. redeclared before (declaration_of x ∷ rest)) (sym is)
+    ∙ ap (λ l. word_fault 5 (declaration_of d).word (list_any (clashes (declaration_of d)) before) ++ redeclared l rest)
+    (sym (pushed (take i ds) (take (i + 1) ds) d (take_more ds i d h ∙ ap (λ x. take i ds ++ x ∷ []) (sym is))))
 
-pub stmts-turn : (names : List (List ℕ)) (list : List Stmt) (i : ℕ) (x : Stmt) (found here more : Option Fault) → i < length list → x ≡ get_or list i x
-    → here ≡ first_in (faults_in names t.stmt (source.stmt x)) → more ≡ earlier_of found here
-    → earlier_of more (first_in (faults_in names t.stmts (source.of_stmts (drop (i + 1) list)))) ≡ earlier_of found (first_in (faults_in names t.stmts (source.of_stmts (drop i list))))
-unfolding faults_in
-stmts-turn names list i x found here more h is j g =
-    one-more found here more (faults_in names t.stmt (source.stmt x)) _ _ j g
-    (at_drop_more (λ l. faults_in names t.stmts (source.of_stmts l)) list i x h ∙ ap (λ z. faults_in names t.stmts (source.of_stmts (z ∷ drop (i + 1) list))) (sym is))
-
-pub stmts-end : (names : List (List ℕ)) (list : List Stmt) (i : ℕ) (found : Option Fault) → length list ≤ i → earlier_of found (first_in (faults_in names t.stmts (source.of_stmts (drop i list)))) ≡ found
-unfolding faults_in
-stmts-end names list i found h = at_drop_all (λ l. earlier_of found (first_in (faults_in names t.stmts (source.of_stmts l)))) list i h ∙ with_none found
+-- with one declaration more
+pub redeclared-turn : (ds : List DeclarationPart) (i : ℕ) (d : DeclarationPart) (again : Bool) (found here more : Option Fault) → i < length ds → d ≡ get_or ds i d
+    → again ≡ list_any (clashes (declaration_of d)) (map declaration_of (take i ds)) → here ≡ first_in (word_fault 5 (declaration_of d).word again) → more ≡ earlier_of found here
+    → earlier_of more (first_in (redeclared (map declaration_of (take (i + 1) ds)) (map declaration_of (drop (i + 1) ds))))
+    ≡ earlier_of found (first_in (redeclared (map declaration_of (take i ds)) (map declaration_of (drop i ds))))
+redeclared-turn ds i d again found here more h is told at now =
+    one-more found here more (word_fault 5 (declaration_of d).word (list_any (clashes (declaration_of d)) (map declaration_of (take i ds)))) _ _
+    (at ∙ ap (λ b. first_in (word_fault 5 (declaration_of d).word b)) told) now (redeclared_at ds i d h is)

@@ -1,6 +1,6 @@
 -- The first of some faults, as it is found part by part.
 use Rattle.std.specs.Prelude.{List, Option, Some, None, if◌then◌else◌}
-use Rattle.scope_rules.specs.declared.faults.Found.{Found}
+use Rattle.scope_rules.specs.declared.found.Found.{Found}
 use Rattle.scope_rules.specs.Faults.{Fault, is_before, ordered, first}
 
 abbrev pub fault_of : Found → Fault

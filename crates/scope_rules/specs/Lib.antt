@@ -1,6 +1,11 @@
 pub mod Rules
-pub mod Language
-pub mod Resolve
+pub mod Declarations
+pub mod Scope
+pub mod Views
 pub mod Faults
+pub mod Free
+pub mod Resolve
+pub mod Declaring
+pub mod Language
 pub mod Found
 pub mod Check

@@ -1,51 +1,37 @@
-//! What the first language asks of a tree, beside how it is spelled.
+//! What the first language asks of a module.
 
 ghost use Rattle.std.specs.Prelude.{◌≡◌};
-ghost use Rattle.es3_tree.specs.Tree as tree;
-ghost use Rattle.es3_tree.specs.PlacedView as source;
-ghost use Rattle.scope_rules.specs.Language.{is_first, has_field as has_such_field, is_single as is_one};
+ghost use Rattle.cajita_tree.specs.Tree as tree;
+ghost use Rattle.cajita_tree.specs.View as view;
+ghost use Rattle.scope_rules.specs.Language.{is_first, is_single as is_one};
 
 use crate::words::{is_free_key, is_free_name, is_record_key};
 use caja_units::Units;
-use es3_tree::{BinOp, Expr, Name, Stmt, VarItem};
-
-// Whether one of these properties has the key.
-fn has_field(key: &Units, fields: &[(Name, Expr)]) -> bool
-    ensures { result ≡ has_such_field key.now (source.of_fields fields.now) }
-{
-    for (other, _) in fields {
-        if key.same(&other.text) {
-            return true;
-        }
-    }
-    false
-}
+use cajita_tree::{CBody, CExpr, CStmt, CVarItem, Key, Module};
+use es3_tree::BinOp;
 
 #[cycle(first)]
-#[tactic(auto, unfolding(crate::specs::Language::is_first), using(es3_tree::proofs::PlacedRows::placed_views))]
-fn is_first_expr(e: &Expr) -> bool
-    ensures { result ≡ is_first tree.expr (source.expr e.now) }
+#[tactic(auto, unfolding(crate::specs::Language::is_first), using(cajita_tree::proofs::Rows::views))]
+fn is_first_expr(e: &CExpr) -> bool
+    ensures { result ≡ is_first tree.expr (view.expr e.now) }
 {
     match e {
-        Expr::Num(_) | Expr::Text(_) => true,
-        Expr::Name(name) => is_free_name(&name.text),
-        Expr::Object(fields) => are_first_fields(fields),
-        Expr::Dot(object, key) => is_free_key(&key.text) && is_first_expr(object),
-        Expr::Binary(BinOp::Add, left, right) => is_first_expr(left) && is_first_expr(right),
+        CExpr::Num(_) | CExpr::Text(_) => true,
+        CExpr::Name(name) => is_free_name(name),
+        CExpr::Record(fields) => are_first_fields(fields),
+        CExpr::Read(object, Key::Fixed(key)) => is_free_key(key) && is_first_expr(object),
+        CExpr::Binary(BinOp::Add, left, right) => is_first_expr(left) && is_first_expr(right),
         _ => false,
     }
 }
 
 #[cycle(first)]
 #[tactic(auto, unfolding(crate::specs::Language::is_first))]
-fn are_first_fields(fields: &[(Name, Expr)]) -> bool
-    ensures { result ≡ is_first tree.fields (source.of_fields fields.now) }
+fn are_first_fields(fields: &[(Units, CExpr)]) -> bool
+    ensures { result ≡ is_first tree.fields (view.of_fields fields.now) }
 {
-    for (i, (key, value)) in fields.iter().enumerate() {
-        if !is_record_key(&key.text) {
-            return false;
-        }
-        if has_field(&key.text, &fields[i + 1..]) {
+    for (key, value) in fields {
+        if !is_record_key(key) {
             return false;
         }
         if !is_first_expr(value) {
@@ -55,9 +41,10 @@ fn are_first_fields(fields: &[(Name, Expr)]) -> bool
     true
 }
 
+// What a variable begins as, if the source says so.
 #[tactic(auto, unfolding(crate::specs::Language::is_first))]
-fn is_first_value(e: &Option<Expr>) -> bool
-    ensures { result ≡ is_first tree.maybe_expr (source.of_maybe_expr e.now) }
+fn is_first_value(e: &Option<CExpr>) -> bool
+    ensures { result ≡ is_first tree.maybe_expr (view.of_maybe_expr e.now) }
 {
     match e {
         Some(e) => is_first_expr(e),
@@ -66,11 +53,11 @@ fn is_first_value(e: &Option<Expr>) -> bool
 }
 
 #[tactic(auto, unfolding(crate::specs::Language::is_first))]
-fn are_first_items(items: &[VarItem]) -> bool
-    ensures { result ≡ is_first tree.items (source.of_items items.now) }
+fn are_first_items(items: &[CVarItem]) -> bool
+    ensures { result ≡ is_first tree.items (view.of_items items.now) }
 {
     for item in items {
-        if !is_free_name(&item.name.text) {
+        if !is_free_name(&item.name) {
             return false;
         }
         if !is_first_value(&item.value) {
@@ -82,27 +69,26 @@ fn are_first_items(items: &[VarItem]) -> bool
 
 // Whether it is one variable.
 #[tactic(auto, using(crate::proofs::Single::single))]
-fn is_single(items: &[VarItem]) -> bool
-    ensures { result ≡ is_one (source.of_items items.now) }
+fn is_single(items: &[CVarItem]) -> bool
+    ensures { result ≡ is_one (view.of_items items.now) }
 {
     items.len() == 1
 }
 
-#[tactic(auto, unfolding(crate::specs::Language::is_first), using(es3_tree::proofs::PlacedRows::placed_views))]
-fn is_first_stmt(statement: &Stmt) -> bool
-    ensures { result ≡ is_first tree.stmt (source.stmt statement.now) }
+#[tactic(auto, unfolding(crate::specs::Language::is_first), using(cajita_tree::proofs::Rows::views))]
+fn is_first_stmt(statement: &CStmt) -> bool
+    ensures { result ≡ is_first tree.stmt (view.stmt statement.now) }
 {
     match statement {
-        Stmt::Var(items) => is_single(items) && are_first_items(items),
-        Stmt::Expr(e) => is_first_expr(e),
+        CStmt::Var(items) => is_single(items) && are_first_items(items),
+        CStmt::Expr(e) => is_first_expr(e),
         _ => false,
     }
 }
 
-/// Whether the statements are of the first language.
 #[tactic(auto, unfolding(crate::specs::Language::is_first))]
-pub(crate) fn are_first_stmts(list: &[Stmt]) -> bool
-    ensures { result ≡ is_first tree.stmts (source.of_stmts list.now) }
+fn are_first_stmts(list: &[CStmt]) -> bool
+    ensures { result ≡ is_first tree.stmts (view.of_stmts list.now) }
 {
     for statement in list {
         if !is_first_stmt(statement) {
@@ -110,4 +96,20 @@ pub(crate) fn are_first_stmts(list: &[Stmt]) -> bool
         }
     }
     true
+}
+
+// A body that declares no function.
+#[tactic(auto, using(crate::proofs::Single::first_body))]
+fn is_first_body(body: &CBody) -> bool
+    ensures { result ≡ is_first tree.body (view.body body.now) }
+{
+    body.funcs.as_slice().is_empty() && are_first_stmts(&body.list)
+}
+
+/// Whether the module is of the first language.
+#[tactic(auto, unfolding(crate::specs::Language::is_first))]
+pub(crate) fn is_first_module(resolved: &Module) -> bool
+    ensures { result ≡ is_first tree.program (view.module_view resolved.now) }
+{
+    resolved.imports.is_empty() && is_first_body(&resolved.body)
 }

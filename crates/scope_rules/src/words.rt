@@ -1,16 +1,18 @@
-ghost use Rattle.std.specs.Prelude.{◌≡◌, drop};
+ghost use Rattle.std.specs.Prelude.{◌≡◌, [], ◌∷◌, drop, codes};
 ghost use Rattle.std.specs.List.{list_any, list_all};
 ghost use Rattle.caja_units.specs.Units.{same_units};
 ghost use Rattle.es3_tree.specs.Token.{words};
 ghost use Rattle.es3_tokens.specs.Characters as class;
 ghost use Rattle.es3_tokens.specs.Tokens.{is_name as name};
 ghost use Rattle.scope_rules.specs.Rules.{
+  fixed_names,
   is_among as is_among_them,
   own_words,
   is_free_name as free_name,
   is_free_key as free_key,
   is_record_key as record_key,
 };
+ghost use Rattle.scope_rules.specs.Scope.{is_arguments as is_arguments_word, is_eval as is_eval_word};
 
 use caja_units::Units;
 
@@ -145,11 +147,39 @@ fn is_own_word(text: &Units) -> bool
     is_word_of(&OWN_WORDS, text)
 }
 
+/// Whether the text is `arguments` (ES3 10.1.8).
+pub(crate) fn is_arguments(text: &Units) -> bool
+    ensures { result ≡ is_arguments_word text.now }
+{
+    spells(text, "arguments")
+}
+
+/// Whether the text is `eval` (ES3 15.1.2.1).
+pub(crate) fn is_eval(text: &Units) -> bool
+    ensures { result ≡ is_eval_word text.now }
+{
+    spells(text, "eval")
+}
+
+/// Whether the text is a key that no record may have.
+pub(crate) fn is_reserved_key(key: &Units) -> bool
+    ensures { result ≡ is_among_them (codes "toString" ∷ codes "valueOf" ∷ []) key.now }
+{
+    spells(key, "toString") || spells(key, "valueOf")
+}
+
+/// Whether every module has the name without declaring it.
+pub(crate) fn is_fixed_name(name: &Units) -> bool
+    ensures { result ≡ is_among_them fixed_names name.now }
+{
+    is_word_of(&FIXED_NAMES, name)
+}
+
 /// Whether the text may be a name: every module has some names without declaring them.
 pub(crate) fn is_free_name(name: &Units) -> bool
     ensures { result ≡ free_name name.now }
 {
-    !is_word_of(&FIXED_NAMES, name) && !is_own_word(name)
+    !is_fixed_name(name) && !is_own_word(name)
 }
 
 /// Whether the text may be a key behind a point: texts have some as methods, and `length`.

@@ -33,6 +33,8 @@ mod rewrite_rows;
 #[cfg(test)]
 mod rule_rows;
 #[cfg(test)]
+mod rule_tables;
+#[cfg(test)]
 mod runner_rows;
 #[cfg(test)]
 mod source_rows;

@@ -100,7 +100,7 @@ fn an_input_that_is_no_module_is_refused(rt: HostRuntime) -> Result<(), Fail> {
     let alloc = rt.alloc();
     // The input, and the line.
     let rows: [(&str, &str); 4] = [
-        ("if (a) b;", "refused main rule 0 0\n"),
+        ("if (1) ;", "refused main rule 0 0\n"),
         ("foo__;", "refused main rule 1 0\n"),
         ("foo_;", "refused main rule 10 0\n"),
         ("var o = {x: y};", "refused main rule 10 12\n"),

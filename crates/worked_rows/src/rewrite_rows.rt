@@ -7,12 +7,13 @@ ghost use Rattle.es3_tree.specs.Measure.{nest, count};
 ghost use Rattle.cajita_tree.specs.Tree as tree;
 ghost use Rattle.cajita_tree.specs.View.{expr, module_view};
 ghost use Rattle.cajita_rewrite.specs.Rewrite.{program_of};
+ghost use Rattle.cajita_rewrite.specs.Given.{IsGiven};
 
 use caja_num::Whole;
 use caja_units::Units;
 use cajita_rewrite::rewrite;
 use cajita_tree::{
-    CBody, CExpr, CStmt, CVarItem, Key, Module, make_binary, make_read, make_record, make_var,
+    CExpr, CStmt, CVarItem, Key, Module, make_binary, make_body, make_read, make_record, make_var,
 };
 use es3_tree::{BinOp, Program, depth, size};
 use std::alloc::Global;
@@ -46,7 +47,8 @@ fn sum(alloc: Global) -> Result<CExpr, Fail>
 // `var o = {x: 1}; o.x + 2;`
 #[tactic(auto, unfolding(cajita_rewrite::specs::Rewrite::rewritten))]
 fn module(alloc: Global) -> Result<Module, Fail>
-    ensures { IfOk result (λ m.
+    ensures given { IfOk result (λ m. IsGiven tree.program (module_view m)) }
+    ensures measures { IfOk result (λ m.
         (nest target.program (program_of (module_view m)) ≡ 10)
         × (count target.program (program_of (module_view m)) ≡ 26)) }
 {
@@ -59,7 +61,7 @@ fn module(alloc: Global) -> Result<Module, Fail>
     let vars = Vec::from_array(alloc, [Units::from_ascii(alloc, b"o")?])?;
     Ok(Module {
         imports: Vec::new(alloc),
-        body: CBody { vars, list },
+        body: make_body(Vec::new(alloc), vars, list),
     })
 }
 

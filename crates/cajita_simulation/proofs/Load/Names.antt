@@ -77,7 +77,7 @@ items_kept (c.more_items x e rest) = ap (λ (l : List (List ℕ)). x ∷ l) (ite
 names_kept : (x : c.Tree c.stmt) → var_names (rewritten c.stmt x) ≡ declared_by x
 unfolding rewritten
 names_kept (c.var is) = items_kept is
-names_kept (c.expression e) = refl
+names_kept _ = refl
 
 vars_joined : (ss : c.Tree c.stmts) (rest : t.Tree t.stmts) → vars_of (joined (rewritten c.stmts ss) rest) ≡ declared ss ++ vars_of rest
 unfolding rewritten

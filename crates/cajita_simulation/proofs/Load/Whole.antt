@@ -47,7 +47,7 @@ module_ends by vars d i h = record {
   throws = λ acc. record { on = λ a le v e w z n s y m is r keep. both_end (omega (arith, r.steps)) (is, m, r.objects, r.items) };
 }
 
-program_is : (vars : List (List ℕ)) (list : c.Tree c.stmts) → program_of (c.a_module [] (c.block vars list)) ≡ t.script (t.more_stmts (load_stmt (module_body list)) t.no_stmts)
+program_is : (vars : List (List ℕ)) (list : c.Tree c.stmts) → program_of (c.a_module [] (c.a_body c.no_funcs vars list)) ≡ t.script (t.more_stmts (load_stmt (module_body list)) t.no_stmts)
 unfolding rewritten
 program_is vars list = refl
 
@@ -55,12 +55,12 @@ program_is vars list = refl
 abbrev pub Laws : ℕ → List (List ℕ) → Type 0
 Laws by vars = (d : ℕ) (x : c.Tree c.stmt) → Guest vars c.stmt x → EffectLaw (here by vars) d x (rewritten c.stmt x)
 
-loaded : (by : ℕ) (vars : List (List ℕ)) (list : c.Tree c.stmts) → by < 64 → ((x : List ℕ) → is_among vars x ≡ is_among (declared list) x) → Guest vars c.stmts list → Laws by vars → (d : ℕ) → Match (sides by) d (enter (Source.load (c.a_module [] (c.block vars list)) by) empty_world ends) [] 0 (Target.program_plan (t.script (t.more_stmts (load_stmt (module_body list)) t.no_stmts)) by first_store) first_kept 0
+loaded : (by : ℕ) (vars : List (List ℕ)) (list : c.Tree c.stmts) → by < 64 → ((x : List ℕ) → is_among vars x ≡ is_among (declared list) x) → Guest vars c.stmts list → Laws by vars → (d : ℕ) → Match (sides by) d (enter (Source.load (c.a_module [] (c.a_body c.no_funcs vars list)) by) empty_world ends) [] 0 (Target.program_plan (t.script (t.more_stmts (load_stmt (module_body list)) t.no_stmts)) by first_store) first_kept 0
 loaded by vars list few same guest laws zero = both_cut (omega arith) refl
 loaded by vars list few same guest laws (suc d) =
     both_enter (enters list (waiting by) (ticked (length vars) empty_world _ ends 1 (λ n some.
     list_match (laws (suc d)) list guest None None result_stmts d 40 Source.module_end Target.body_end ends (after_load (waiting by)) (omega arith) (opening by vars list n few same some) (module_ends by vars d 7 _))))
 
-pub whole : (by : ℕ) (vars : List (List ℕ)) (list : c.Tree c.stmts) → by < 64 → ((x : List ℕ) → is_among vars x ≡ is_among (declared list) x) → Guest vars c.stmts list → Laws by vars → (d : ℕ) → Match (sides by) d (enter (Source.load (c.a_module [] (c.block vars list)) by) empty_world ends) [] 0 (Target.program_plan (program_of (c.a_module [] (c.block vars list))) by first_store) first_kept 0
+pub whole : (by : ℕ) (vars : List (List ℕ)) (list : c.Tree c.stmts) → by < 64 → ((x : List ℕ) → is_among vars x ≡ is_among (declared list) x) → Guest vars c.stmts list → Laws by vars → (d : ℕ) → Match (sides by) d (enter (Source.load (c.a_module [] (c.a_body c.no_funcs vars list)) by) empty_world ends) [] 0 (Target.program_plan (program_of (c.a_module [] (c.a_body c.no_funcs vars list))) by first_store) first_kept 0
 whole by vars list few same guest laws d =
-    subst (λ p. Match (sides by) d (enter (Source.load (c.a_module [] (c.block vars list)) by) empty_world ends) [] 0 (Target.program_plan p by first_store) first_kept 0) (sym (program_is vars list)) (loaded by vars list few same guest laws d)
+    subst (λ p. Match (sides by) d (enter (Source.load (c.a_module [] (c.a_body c.no_funcs vars list)) by) empty_world ends) [] 0 (Target.program_plan p by first_store) first_kept 0) (sym (program_is vars list)) (loaded by vars list few same guest laws d)

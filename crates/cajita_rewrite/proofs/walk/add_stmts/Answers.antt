@@ -1,5 +1,6 @@
 use Rattle.std.proofs.Common.{sym, ◌∙◌, arith}
 use Rattle.cajita_rewrite.proofs.Joined.{stmts-turn, stmts-end}
+use Rattle.cajita_rewrite.proofs.Parts.{stmt-given}
 use Rattle.cajita_rewrite.proofs.walk.add_stmts.Goals as goal
 
 pub loop-statement-preserved : goal.loop-statement-preserved
@@ -9,3 +10,6 @@ loop-statement-preserved c =
 
 pub returns : goal.returns
 returns c = sym (stmts-end c.args.list.now c.loop-statement.statement-index c.loop-statement.out.items (omega arith)) ∙ c.loop-statement.invariant
+
+pub rewrite_stmt-requires : goal.rewrite_stmt-requires
+rewrite_stmt-requires c = stmt-given c.args.list.now c.loop-statement.statement-index c.statement-item.result (omega arith) c.statement-item.is c.requires

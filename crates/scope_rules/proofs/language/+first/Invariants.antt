@@ -1,9 +1,9 @@
 -- What is left decides.
 use Rattle.std.proofs.Common.{◌≡◌, drop}
-use Rattle.es3_tree.specs.Tree as tree
-use Rattle.es3_tree.specs.PlacedView as source
+use Rattle.cajita_tree.specs.Tree as tree
+use Rattle.cajita_tree.specs.View as view
 use Rattle.scope_rules.specs.Language.{is_first}
 use Rattle.scope_rules.proofs.language.+first.Given as goal
 
-abbrev pub invariant-are_first_fields-loop-i : goal.invariant-are_first_fields-loop-i
-invariant-are_first_fields-loop-i l = is_first tree.fields (source.of_fields (drop l.i l.fields)) ≡ is_first tree.fields (source.of_fields l.fields)
+abbrev pub invariant-are_first_fields-loop-key : goal.invariant-are_first_fields-loop-key
+invariant-are_first_fields-loop-key l = is_first tree.fields (view.of_fields (drop l.key-index l.fields)) ≡ is_first tree.fields (view.of_fields l.fields)

@@ -1,0 +1,83 @@
+use Rattle.std.proofs.Common.{◌++◌, refl, sym, ap, ◌∙◌, arith}
+use Rattle.es3_tree.specs.Tree as tree
+use Rattle.es3_tree.specs.PlacedView as source
+use Rattle.scope_rules.specs.Faults.{faults_in, form_fault, hidden, reserved, declared}
+use Rattle.scope_rules.specs.Found.{first_in}
+use Rattle.scope_rules.specs.Views.{scope_of}
+use Rattle.scope_rules.proofs.Order.{turn}
+use Rattle.scope_rules.proofs.Parts.{faults_of_call, faults_of_with, faults_of_switch}
+use Rattle.scope_rules.proofs.+faults.Goals as goal
+
+pub faults_of_expressions::in_exprs-loop-expression-preserved : goal.faults_of_expressions::in_exprs-loop-expression-preserved
+unfolding faults_in
+faults_of_expressions::in_exprs-loop-expression-preserved t c =
+    turn (λ l. faults_in (scope_of c.args.scope.now) tree.exprs (source.of_exprs l)) _ c.args.list.now c.loop-expression.expression-index c.expression-item.result _ _ _ (omega arith) c.expression-item.is refl
+    c.in_ok-in_expr.ensures c.earlier-found.ensures.is
+    ∙ c.loop-expression.invariant
+
+pub faults_of_expressions::in_fields-loop-key-preserved : goal.faults_of_expressions::in_fields-loop-key-preserved
+unfolding faults_in
+faults_of_expressions::in_fields-loop-key-preserved t c =
+    let s = scope_of c.args.scope.now in
+    let key = source.word c.loop-key-item.result.0 in
+    let value = faults_in s tree.expr (source.expr c.loop-key-item.result.1) in
+    turn (λ l. faults_in s tree.fields (source.of_fields l)) ((hidden key ++ reserved key) ++ value) c.args.fields.now c.loop-key.key-index c.loop-key-item.result _ _ _ (omega arith) c.loop-key-item.is refl
+    (c.earlier-here.ensures.of_parts (hidden key ++ reserved key) value
+    (c.earlier-at_key.ensures.of_parts (hidden key) (reserved key) c.in_ok-hidden.ensures c.in_ok-reserved.ensures) c.in_ok-in_expr.ensures)
+    c.earlier-found.ensures.is
+    ∙ c.loop-key.invariant
+
+pub faults_of_statements::in_stmts-loop-statement-preserved : goal.faults_of_statements::in_stmts-loop-statement-preserved
+unfolding faults_in
+faults_of_statements::in_stmts-loop-statement-preserved t c =
+    turn (λ l. faults_in (scope_of c.args.scope.now) tree.stmts (source.of_stmts l)) _ c.args.list.now c.loop-statement.statement-index c.statement-item.result _ _ _ (omega arith) c.statement-item.is refl
+    c.in_ok-in_stmt.ensures c.earlier-found.ensures.is
+    ∙ c.loop-statement.invariant
+
+pub faults_of_statements::in_items-loop-item-preserved : goal.faults_of_statements::in_items-loop-item-preserved
+unfolding faults_in
+faults_of_statements::in_items-loop-item-preserved t c =
+    let s = scope_of c.args.scope.now in
+    let name = declared (source.word c.item-item.result.name) in
+    let value = faults_in s tree.maybe_expr (source.of_maybe_expr c.item-item.result.value) in
+    turn (λ l. faults_in s tree.items (source.of_items l)) (name ++ value) c.args.items.now c.loop-item.item-index c.item-item.result _ _ _ (omega arith) c.item-item.is refl
+    (c.earlier-here.ensures.of_parts name value c.in_ok-at_name.ensures c.in_ok-in_maybe_expr.ensures)
+    c.earlier-found.ensures.is
+    ∙ c.loop-item.invariant
+
+pub faults_of_statements::in_cases-loop-case-preserved : goal.faults_of_statements::in_cases-loop-case-preserved
+unfolding faults_in
+faults_of_statements::in_cases-loop-case-preserved t c =
+    let s = scope_of c.args.scope.now in
+    let test = faults_in s tree.maybe_expr (source.of_maybe_expr c.case-item.result.test) in
+    let body = faults_in s tree.stmts (source.of_stmts c.case-item.result.body.items) in
+    turn (λ l. faults_in s tree.cases (source.of_cases l)) (test ++ body) c.args.cases.now c.loop-case.case-index c.case-item.result _ _ _ (omega arith) c.case-item.is refl
+    (c.earlier-here.ensures.of_parts test body c.in_ok-at_test.ensures (c.in_ok-in_stmts.ensures ∙ ap (λ l. first_in (faults_in s tree.stmts (source.of_stmts l))) c.deref.ensures.value))
+    c.earlier-found.ensures.is
+    ∙ c.loop-case.invariant
+
+pub faults_of_expressions::in_expr-returns-in_ok-in_exprs-in-Call : goal.faults_of_expressions::in_expr-returns-in_ok-in_exprs-in-Call
+faults_of_expressions::in_expr-returns-in_ok-in_exprs-in-Call t c =
+    let s = scope_of c.args.scope.now in
+    c.earlier-in-Call.ensures.of_parts (faults_in s tree.expr (source.expr c.in-Call.callee.value)) (faults_in s tree.exprs (source.of_exprs c.in-Call.arguments.items))
+    (c.in_ok-first-in-Call.ensures ∙ ap (λ x. first_in (faults_in s tree.expr (source.expr x))) c.deref-in-Call.ensures)
+    (c.in_ok-in_exprs-in-Call.ensures ∙ ap (λ l. first_in (faults_in s tree.exprs (source.of_exprs l))) c.deref-in-Call-2.ensures.value)
+    ∙ ap first_in (sym (faults_of_call s c.in-Call.callee c.in-Call.arguments c.in-Call.is))
+
+pub faults_of_statements::in_stmt-returns-in_ok-in_stmt-in-With : goal.faults_of_statements::in_stmt-returns-in_ok-in_stmt-in-With
+faults_of_statements::in_stmt-returns-in_ok-in_stmt-in-With t c =
+    let s = scope_of c.args.scope.now in
+    let here = form_fault 2 c.in-With.at in
+    let object = faults_in s tree.expr (source.expr c.in-With.object) in
+    c.earlier-in-With.ensures.of_parts (here ++ object) (faults_in s tree.stmt (source.stmt c.in-With.body.value))
+    (c.earlier-head-in-With.ensures.of_parts here object c.in_ok-here-in-With.ensures c.in_ok-in_expr-in-With.ensures)
+    (c.in_ok-in_stmt-in-With.ensures ∙ ap (λ x. first_in (faults_in s tree.stmt (source.stmt x))) c.deref-in-With.ensures)
+    ∙ ap first_in (sym (faults_of_with s c.in-With.object c.in-With.body c.in-With.at c.in-With.is))
+
+pub faults_of_statements::in_stmt-returns-in_ok-in_cases-in-Switch : goal.faults_of_statements::in_stmt-returns-in_ok-in_cases-in-Switch
+faults_of_statements::in_stmt-returns-in_ok-in_cases-in-Switch t c =
+    let s = scope_of c.args.scope.now in
+    c.earlier-in-Switch.ensures.of_parts (faults_in s tree.expr (source.expr c.in-Switch.value)) (faults_in s tree.cases (source.of_cases c.in-Switch.cases.items))
+    c.in_ok-first-in-Switch.ensures
+    (c.in_ok-in_cases-in-Switch.ensures ∙ ap (λ l. first_in (faults_in s tree.cases (source.of_cases l))) c.deref-in-Switch.ensures.value)
+    ∙ ap first_in (sym (faults_of_switch s c.in-Switch.value c.in-Switch.cases c.in-Switch.is))
