@@ -1,1 +1,1 @@
-function f() { return f; } f = 1;
+function f() {} f = 1;
