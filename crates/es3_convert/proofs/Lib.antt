@@ -1,2 +1,3 @@
 pub mod Arrays
+pub mod Digits
 pub mod Faults

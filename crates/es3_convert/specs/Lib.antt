@@ -1,3 +1,5 @@
 pub mod Conversions
 pub mod Answers
 pub mod Texts
+pub mod Numbers
+pub mod Comparisons

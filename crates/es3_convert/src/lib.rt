@@ -6,12 +6,16 @@
 ghost use Rattle.std.specs.Prelude.{◌≡◌};
 
 mod array;
+mod compare;
+mod number;
 mod sum;
 mod text;
 
 pub use array::{array_item, array_items, array_len, own_value};
 use caja_units::Memory;
+pub use compare::{less, loose_equal, strict_equal, to_bool};
 use es3_heap::Stop;
+pub use number::to_number;
 pub use sum::{add, to_primitive};
 pub use text::{index_key, number_text, to_text};
 

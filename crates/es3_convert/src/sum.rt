@@ -4,9 +4,9 @@ ghost use Rattle.std.specs.Prelude.{◌≡◌};
 ghost use Rattle.es3_convert.specs.Answers.{Answers};
 ghost use Rattle.es3_convert.specs.Conversions.{primitive_of, plain_number, number_or_fault, sum_of_numbers, sum_of_primitives, sum_of};
 
+use crate::number::plain_number;
 use crate::out_of_memory;
 use crate::text::{primitive_text, to_text};
-use caja_num::Whole;
 use es3_heap::{Heap, Stop, Value};
 use std::alloc::Global;
 
@@ -17,18 +17,6 @@ pub fn to_primitive(alloc: Global, h: &Heap, v: &Value) -> Result<Value, Stop>
     match v {
         Value::Obj(_) => Ok(Value::Text(to_text(alloc, h, v)?)),
         _ => v.copy(alloc).map_err(out_of_memory),
-    }
-}
-
-/// The number of a value that is neither a text nor an object (ES3 9.3); undefined has none.
-fn plain_number(v: &Value) -> Option<Whole>
-    ensures { result ≡ plain_number v.now }
-{
-    match v {
-        Value::Null => Whole::new(0),
-        Value::Bool(b) => Whole::new(i64::from(*b)),
-        Value::Num(n) => Some(*n),
-        _ => None,
     }
 }
 

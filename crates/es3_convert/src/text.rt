@@ -63,7 +63,7 @@ fn converts(alloc: Global, h: &Heap, o: ObjId) -> Result<bool, Memory>
 }
 
 /// Appends a text.
-fn push_text(units: &mut Vec<u16>, text: &Units) -> Result<(), Memory>
+pub fn push_text(units: &mut Vec<u16>, text: &Units) -> Result<(), Memory>
     ensures { OnOk result (units.new.items ≡ units.old.items ++ text.now) }
 {
     for at in 0..text.len() {

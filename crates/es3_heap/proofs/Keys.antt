@@ -1,6 +1,6 @@
 -- Where the property of a key stands, and what a write there leaves.
 use Rattle.std.proofs.Common.{◌≡◌, ℕ, suc, ◌+◌, ◌<◌, ◌≤◌, Bool, true, false, List, [], ◌∷◌, ◌++◌, Option, Some, None, length, get_or, set, cond, not, nat_lt, refl, sym, ap, ◌∙◌, arith}
-use Rattle.std.specs.List.{position, position_or_len}
+use Rattle.std.specs.List.{position, position_or_len, remove}
 use Rattle.std.proofs.lemmas.Bool.Decides.{nat_tests}
 use Rattle.std.specs.Cmp.Lexicographic.{same_text}
 use Rattle.std.proofs.lemmas.Slice.Eq.{bytes_eq-Decides}
@@ -8,7 +8,7 @@ use Rattle.caja_units.specs.Units.{same_units}
 use Rattle.es3_heap.specs.declared.value.Value.{Value}
 use Rattle.es3_heap.specs.declared.value.Attrs.{Attrs}
 use Rattle.es3_heap.specs.Objects.{Property, plain_attrs}
-use Rattle.es3_heap.specs.Properties.{find, written, defined}
+use Rattle.es3_heap.specs.Properties.{find, written, revalued, defined, without}
 
 abbrev pub has_key : List ℕ → Property → Bool
 has_key k p = same_units k p.key
@@ -22,12 +22,29 @@ with_value p v = record { key = p.key; value = v; attrs = p.attrs }
 one_more : (n : ℕ) → 1 + n ≡ suc n
 one_more n = omega arith
 
-written-within : (k : List ℕ) (v : Value) (ps : List Property) (d : Property) → place k ps < length ps → written k v ps ≡ set ps (place k ps) (with_value (get_or ps (place k ps) d) v)
-written-within k v [] d h = absurd (omega arith)
-written-within k v (p ∷ ps) d h =
-    let cases = elim (same_units k p.key) as (λ b. cond (not b) (1 + place k ps) 0 < suc (length ps) → cond b (with_value p v ∷ ps) (p ∷ written k v ps) ≡ set (p ∷ ps) (cond (not b) (1 + place k ps) 0) (with_value (get_or (p ∷ ps) (cond (not b) (1 + place k ps) 0) d) v)) [
+revalued-within : (k : List ℕ) (v : Value) (ps : List Property) (d : Property) → place k ps < length ps → revalued k v ps ≡ set ps (place k ps) (with_value (get_or ps (place k ps) d) v)
+revalued-within k v [] d h = absurd (omega arith)
+revalued-within k v (p ∷ ps) d h =
+    let cases = elim (same_units k p.key) as (λ b. cond (not b) (1 + place k ps) 0 < suc (length ps) → cond b (with_value p v ∷ ps) (p ∷ revalued k v ps) ≡ set (p ∷ ps) (cond (not b) (1 + place k ps) 0) (with_value (get_or (p ∷ ps) (cond (not b) (1 + place k ps) 0) d) v)) [
       | true ↦ λ less. refl
-      | false ↦ λ less. rw (one_more (place k ps)) (ap (λ qs. p ∷ qs) (written-within k v ps d (omega arith)))
+      | false ↦ λ less. rw (one_more (place k ps)) (ap (λ qs. p ∷ qs) (revalued-within k v ps d (omega arith)))
+    ] in cases h
+
+revalued-past : (k : List ℕ) (v : Value) (ps : List Property) → length ps ≤ place k ps → revalued k v ps ≡ ps
+revalued-past k v [] h = refl
+revalued-past k v (p ∷ ps) h =
+    let cases = elim (same_units k p.key) as (λ b. suc (length ps) ≤ cond (not b) (1 + place k ps) 0 → cond b (with_value p v ∷ ps) (p ∷ revalued k v ps) ≡ p ∷ ps) [
+      | true ↦ λ less. absurd (omega arith)
+      | false ↦ λ less. ap (λ qs. p ∷ qs) (revalued-past k v ps (omega arith))
+    ] in cases h
+
+-- a write to a property that is there is another value of it
+written-within : (k : List ℕ) (v : Value) (ps : List Property) → place k ps < length ps → written k v ps ≡ revalued k v ps
+written-within k v [] h = absurd (omega arith)
+written-within k v (p ∷ ps) h =
+    let cases = elim (same_units k p.key) as (λ b. cond (not b) (1 + place k ps) 0 < suc (length ps) → cond b (with_value p v ∷ ps) (p ∷ written k v ps) ≡ cond b (with_value p v ∷ ps) (p ∷ revalued k v ps)) [
+      | true ↦ λ less. refl
+      | false ↦ λ less. ap (λ qs. p ∷ qs) (written-within k v ps (omega arith))
     ] in cases h
 
 written-past : (k : List ℕ) (v : Value) (ps : List Property) → length ps ≤ place k ps → written k v ps ≡ ps ++ record { key = k; value = v; attrs = plain_attrs } ∷ []
@@ -83,12 +100,19 @@ found k (p ∷ ps) d h =
       | false ↦ λ is less. rw (one_more (place k ps)) (found k ps d (omega arith))
     ] in cases refl h
 
--- a write where the key stands
-pub set-written : (k : List ℕ) (v : Value) (ps : List Property) (at : ℕ) (p : Property) → position (has_key k) ps ≡ Some at → p ≡ get_or ps at p → set ps at (with_value p v) ≡ written k v ps
-set-written k v ps at p e is =
+-- another value where the key stands, and where it doesn't
+pub set-revalued : (k : List ℕ) (v : Value) (ps : List Property) (at : ℕ) (p : Property) → position (has_key k) ps ≡ Some at → p ≡ get_or ps at p → set ps at (with_value p v) ≡ revalued k v ps
+set-revalued k v ps at p e is =
     let here = position_some k ps at e in
     let same : get_or ps (place k ps) p ≡ p = rw here.0 (sym is) in
-    sym (written-within k v ps p here.1 ∙ rw (same, here.0) refl)
+    sym (revalued-within k v ps p here.1 ∙ rw (same, here.0) refl)
+
+pub none-revalued : (k : List ℕ) (v : Value) (ps : List Property) → position (has_key k) ps ≡ None → ps ≡ revalued k v ps
+none-revalued k v ps e = sym (revalued-past k v ps (position_none k ps e))
+
+-- a write where the key stands
+pub set-written : (k : List ℕ) (v : Value) (ps : List Property) (at : ℕ) (p : Property) → position (has_key k) ps ≡ Some at → p ≡ get_or ps at p → set ps at (with_value p v) ≡ written k v ps
+set-written k v ps at p e is = set-revalued k v ps at p e is ∙ sym (written-within k v ps (position_some k ps at e).1)
 
 pub push-written : (k : List ℕ) (v : Value) (ps : List Property) → position (has_key k) ps ≡ None → ps ++ record { key = k; value = v; attrs = plain_attrs } ∷ [] ≡ written k v ps
 push-written k v ps e = sym (written-past k v ps (position_none k ps e))
@@ -116,3 +140,57 @@ find-key k (q ∷ ps) p h =
 pub find-property : (k : List ℕ) (ps : List Property) (p : Property) → find k ps ≡ Some p → find k ps ≡ Some (record { key = k; value = p.value; attrs = p.attrs })
 find-property k ps p h =
     h ∙ ap (λ key. let found : Property = record { key = key; value = p.value; attrs = p.attrs } in Some found) (find-key k ps p h)
+
+-- where no property has the key, none is found, and none is taken away
+find-past : (k : List ℕ) (ps : List Property) → length ps ≤ place k ps → find k ps ≡ None
+find-past k [] h = refl
+find-past k (p ∷ ps) h =
+    let cases = elim (same_units k p.key) as (λ b. suc (length ps) ≤ cond (not b) (1 + place k ps) 0 → cond b (Some p) (find k ps) ≡ None) [
+      | true ↦ λ less. absurd (omega arith)
+      | false ↦ λ less. find-past k ps (omega arith)
+    ] in cases h
+
+without-past : (k : List ℕ) (ps : List Property) → length ps ≤ place k ps → without k ps ≡ ps
+without-past k [] h = refl
+without-past k (p ∷ ps) h =
+    let cases = elim (same_units k p.key) as (λ b. suc (length ps) ≤ cond (not b) (1 + place k ps) 0 → cond b (cond p.attrs.dont_delete (p ∷ ps) ps) (p ∷ without k ps) ≡ p ∷ ps) [
+      | true ↦ λ less. absurd (omega arith)
+      | false ↦ λ less. ap (λ qs. p ∷ qs) (without-past k ps (omega arith))
+    ] in cases h
+
+pub none-found : (k : List ℕ) (ps : List Property) → position (has_key k) ps ≡ None → find k ps ≡ None
+none-found k ps e = find-past k ps (position_none k ps e)
+
+pub none-without : (k : List ℕ) (ps : List Property) → position (has_key k) ps ≡ None → ps ≡ without k ps
+none-without k ps e = sym (without-past k ps (position_none k ps e))
+
+-- where one has it, that one is found, and that one alone is taken away
+find-within : (k : List ℕ) (ps : List Property) (d : Property) → place k ps < length ps → find k ps ≡ Some (get_or ps (place k ps) d)
+find-within k [] d h = absurd (omega arith)
+find-within k (p ∷ ps) d h =
+    let cases = elim (same_units k p.key) as (λ b. cond (not b) (1 + place k ps) 0 < suc (length ps) → cond b (Some p) (find k ps) ≡ Some (get_or (p ∷ ps) (cond (not b) (1 + place k ps) 0) d)) [
+      | true ↦ λ less. refl
+      | false ↦ λ less. rw (one_more (place k ps)) (find-within k ps d (omega arith))
+    ] in cases h
+
+without-within : (k : List ℕ) (ps : List Property) (d : Property) → place k ps < length ps → without k ps ≡ cond (get_or ps (place k ps) d).attrs.dont_delete ps (remove ps (place k ps))
+without-within k [] d h = absurd (omega arith)
+without-within k (p ∷ ps) d h =
+    let cases = elim (same_units k p.key) as (λ b. cond (not b) (1 + place k ps) 0 < suc (length ps) → cond b (cond p.attrs.dont_delete (p ∷ ps) ps) (p ∷ without k ps) ≡ cond (get_or (p ∷ ps) (cond (not b) (1 + place k ps) 0) d).attrs.dont_delete (p ∷ ps) (remove (p ∷ ps) (cond (not b) (1 + place k ps) 0))) [
+      | true ↦ λ less. refl
+      | false ↦ λ less. rw (one_more (place k ps)) (ap (λ qs. p ∷ qs) (without-within k ps d (omega arith)) ∙ behind p ps (get_or ps (place k ps) d).attrs.dont_delete (place k ps))
+    ] in cases h
+  where
+    behind : (p : Property) (ps : List Property) (b : Bool) (i : ℕ) → p ∷ cond b ps (remove ps i) ≡ cond b (p ∷ ps) (remove (p ∷ ps) (suc i))
+    behind p ps true i = refl
+    behind p ps false i = refl
+
+pub some-found : (k : List ℕ) (ps : List Property) (at : ℕ) (p : Property) → position (has_key k) ps ≡ Some at → p ≡ get_or ps at p → find k ps ≡ Some p
+some-found k ps at p e is =
+    let here = position_some k ps at e in
+    find-within k ps p here.1 ∙ rw (here.0, ← is) refl
+
+pub some-without : (k : List ℕ) (ps : List Property) (at : ℕ) (p : Property) → position (has_key k) ps ≡ Some at → p ≡ get_or ps at p → without k ps ≡ cond p.attrs.dont_delete ps (remove ps at)
+some-without k ps at p e is =
+    let here = position_some k ps at e in
+    without-within k ps p here.1 ∙ rw (here.0, ← is) refl

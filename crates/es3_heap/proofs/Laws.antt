@@ -13,7 +13,7 @@ use Rattle.es3_heap.specs.declared.value.Attrs.{Attrs}
 use Rattle.es3_heap.specs.declared.value.Class.{Class}
 use Rattle.es3_heap.specs.declared.value.Class.TheVariants as class
 use Rattle.es3_heap.specs.Objects.{Property, Object, Objects, plain_attrs, class_of, props_of, object_at, with_object}
-use Rattle.es3_heap.specs.Properties.{find, own, get, value_of, lookup_from, length_key, length_of, at_least, lengthened, written, defined, with_props, can_put, put, define}
+use Rattle.es3_heap.specs.Properties.{find, own, get, value_of, lookup_from, length_key, length_of, at_least, lengthened, written, revalued, defined, with_props, can_put, put, define, delete}
 use Rattle.es3_heap.specs.Reading.{property}
 use Rattle.es3_heap.proofs.Keys.{has_key, same_key, same_key-refl}
 
@@ -133,12 +133,20 @@ no_index k i h =
       | false ↦ λ is. refl
     ] refl
 
+find-revalued-other : (j k : List ℕ) (v : Value) (ps : List Property) → same_units j k ≡ false → find j (revalued k v ps) ≡ find j ps
+find-revalued-other j k v [] ne = refl
+find-revalued-other j k v (p ∷ ps) ne =
+    let cases = elim (has_key k p) as (λ b. has_key k p ≡ b → find j (cond b (property p.key v p.attrs ∷ ps) (p ∷ revalued k v ps)) ≡ find j (p ∷ ps)) [
+      | true ↦ λ is. let other : same_units j p.key ≡ false = ap (same_units j) (same_key k p is) ∙ ne in rw other refl
+      | false ↦ λ is. ap (λ rest. cond (same_units j p.key) (Some p) rest) (find-revalued-other j k v ps ne)
+    ] in cases refl
+
 find-at_least : (k : List ℕ) (i : Option ℕ) (ps : List Property) → array_index k ≡ i → find k (at_least i ps) ≡ find k ps
 find-at_least k None ps is = refl
 find-at_least k (Some i) ps is =
-    elim (nat_lt i (length_of (value_of (find length_key ps)))) as (λ b. find k (cond b ps (written length_key (Num (pos (i + 1))) ps)) ≡ find k ps) [
+    elim (nat_lt i (length_of (value_of (find length_key ps)))) as (λ b. find k (cond b ps (revalued length_key (Num (pos (i + 1))) ps)) ≡ find k ps) [
       | true ↦ refl
-      | false ↦ find-written-other k length_key _ ps (no_index k i is)
+      | false ↦ find-revalued-other k length_key _ ps (no_index k i is)
     ]
 
 find-lengthened : (c : Class) (k : List ℕ) (ps : List Property) → find k (lengthened c k ps) ≡ find k ps
@@ -162,3 +170,6 @@ pub get-put : (h : Objects) (o : ℕ) (k : List ℕ) (v : Value) (x : Object) �
 get-put h o k v x there may =
     let within = slice_get_within h.list o x there in
     ap value_of (lookup_from-own _ (put h o k v) o k _ (omega (arith, within, length-put h o k v)) (own-put h o k v x there may))
+
+pub length-delete : (h : Objects) (o : ℕ) (k : List ℕ) → length (delete h o k).list ≡ length h.list
+length-delete h o k = length-with_props h o (object_at h o) _

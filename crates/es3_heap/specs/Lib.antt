@@ -1,5 +1,6 @@
 pub mod Objects
 pub mod Properties
+pub mod Enumerating
 pub mod Making
 pub mod Reading
 pub mod Store

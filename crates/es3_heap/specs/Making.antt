@@ -1,5 +1,5 @@
 -- New objects: what the standard says of each kind, and the names that the log gives.
-use Rattle.std.specs.Prelude.{ℕ, ◌+◌, List, [], ◌∷◌, Option, Some, None, length, slice_get, slice_set, pos, codes, replicate, min}
+use Rattle.std.specs.Prelude.{ℕ, ◌+◌, Bool, true, false, if◌then◌else◌, List, [], ◌∷◌, Option, Some, None, length, slice_get, slice_set, pos, codes, replicate, min}
 use Rattle.caja_units.specs.Index.{number_units}
 use Rattle.es3_heap.specs.declared.value.Value.{Value}
 use Rattle.es3_heap.specs.declared.value.Value.TheVariants.{Num, Text}
@@ -41,9 +41,21 @@ first_objects =
 abbrev pub new_objects : Objects
 new_objects = record { list = first_objects; counts = replicate 64 0 }
 
+-- 15.4.5.2: the length of an array, which is neither written nor deleted by a script
+abbrev pub length_property : ℕ → Property
+length_property n = record { key = length_key; value = Num (pos n); attrs = fixed_attrs }
+
+-- what an object of a class begins with: an array has a length
+abbrev pub first_properties : Class → List Property
+first_properties class.Array = length_property 0 ∷ []
+first_properties c = []
+
+abbrev pub plain_object : Class → Option ℕ → Object
+plain_object c p = record { class = c; proto = p; callable = None; tag = tag.None; props = first_properties c }
+
 -- a new object that isn't a function
 abbrev pub made : Class → Option ℕ → Objects → Objects
-made c p h = with_object h (bare c p None)
+made c p h = with_object h (plain_object c p)
 
 -- a new function
 abbrev pub made_function : FuncKind → ℕ → Objects → Objects
@@ -61,7 +73,7 @@ array_object vs = record {
   proto = Some (proto_id proto.Array);
   callable = None;
   tag = tag.None;
-  props = record { key = length_key; value = Num (pos (length vs)); attrs = fixed_attrs } ∷ item_properties 0 vs;
+  props = length_property (length vs) ∷ item_properties 0 vs;
 }
 
 -- 15.11: an error with its name and message
@@ -82,13 +94,26 @@ abbrev pub with_tag : Objects → ℕ → Option Object → Tag → Objects
 with_tag h n None t = h
 with_tag h n (Some o) t = replaced h n (record { class = o.class; proto = o.proto; callable = o.callable; tag = t; props = o.props })
 
+abbrev pub is_untagged : Tag → Bool
+is_untagged tag.None = true
+is_untagged t = false
+
+-- whether there is an object that has no name yet
+abbrev pub awaits_name : Option Object → Bool
+awaits_name None = false
+awaits_name (Some o) = is_untagged o.tag
+
+-- an object's name is set once
+abbrev pub tagged : Objects → ℕ → Tag → Objects
+tagged h o t = if awaits_name (object_at h o) then with_tag h o (object_at h o) t else h
+
 -- a count stands still at 2^32 - 1
 abbrev pub raised : ℕ → ℕ
 raised n = min (n + 1) 4294967295
 
--- the next name of a module for an object
+-- the next name of a module for an object that has none; for another object no name is counted
 abbrev pub named : Objects → ℕ → ℕ → Objects
 named h o m =
     let n = count_at (slice_get h.counts m) in
     let g = with_tag h o (object_at h o) (tag.Made m n) in
-    record { list = g.list; counts = slice_set h.counts m (raised n) }
+    if awaits_name (object_at h o) then record { list = g.list; counts = slice_set h.counts m (raised n) } else h

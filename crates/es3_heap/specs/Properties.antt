@@ -1,4 +1,4 @@
--- Reading and writing properties (ES3 8.6.2.1 to 8.6.2.5): recursions over an object and the prototypes above it.
+-- Reading, writing and deleting properties (ES3 8.6.2.1 to 8.6.2.5): recursions over an object and the prototypes above it.
 use Rattle.std.specs.Prelude.{ℕ, zero, suc, ◌+◌, Bool, true, not, List, [], ◌∷◌, Option, Some, None, length, nat_lt, if◌then◌else◌, pos, codes, unsigned_abs}
 use Rattle.caja_units.specs.Units.{same_units}
 use Rattle.caja_units.specs.Index.{array_index}
@@ -65,9 +65,14 @@ abbrev pub length_of : Value → ℕ
 length_of (Num n) = unsigned_abs n
 length_of v = 0
 
+-- another value of a property that is there
+abbrev pub revalued : List ℕ → Value → List Property → List Property
+revalued k v [] = []
+revalued k v (p ∷ ps) = if same_units k p.key then record { key = p.key; value = v; attrs = p.attrs } ∷ ps else p ∷ revalued k v ps
+
 abbrev pub at_least : Option ℕ → List Property → List Property
 at_least None ps = ps
-at_least (Some i) ps = if nat_lt i (length_of (value_of (find length_key ps))) then ps else written length_key (Num (pos (i + 1))) ps
+at_least (Some i) ps = if nat_lt i (length_of (value_of (find length_key ps))) then ps else revalued length_key (Num (pos (i + 1))) ps
 
 -- 15.4.5.1: an array is longer than each of its indices
 abbrev pub lengthened : Class → List ℕ → List Property → List Property
@@ -87,3 +92,20 @@ put h o k v =
 -- a property as the standard's tables give it, whatever was there
 abbrev pub define : Objects → ℕ → List ℕ → Value → Attrs → Objects
 define h o k v a = with_props h o (object_at h o) (defined k v a (props_of (object_at h o)))
+
+-- 8.6.2.5: whether a property may go; one that isn't there may
+abbrev pub may_delete : Option Property → Bool
+may_delete None = true
+may_delete (Some p) = not p.attrs.dont_delete
+
+abbrev pub can_delete : Objects → ℕ → List ℕ → Bool
+can_delete h o k = may_delete (own h o k)
+
+-- the properties without that of a key, unless it is DontDelete
+abbrev pub without : List ℕ → List Property → List Property
+without k [] = []
+without k (p ∷ ps) = if same_units k p.key then (if p.attrs.dont_delete then p ∷ ps else ps) else p ∷ without k ps
+
+-- 8.6.2.5: [[Delete]], which does nothing where the property may not go
+abbrev pub delete : Objects → ℕ → List ℕ → Objects
+delete h o k = with_props h o (object_at h o) (without k (props_of (object_at h o)))

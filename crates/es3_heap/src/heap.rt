@@ -1,10 +1,11 @@
 //! The store: all objects of a run, each named by its number (ES3 8.6).
 
-ghost use Rattle.std.specs.Prelude.{◌≡◌, ◌≤◌, IfOk, OnOk, option_map, is_some, length, slice_get, slice_set};
+ghost use Rattle.std.specs.Prelude.{◌≡◌, ◌≤◌, IfOk, OnOk, OnErr, ◌++◌, option_map, is_some, length, slice_get, slice_set};
 ghost use Rattle.std.specs.Option.{option_copied};
 ghost use Rattle.es3_heap.specs.Objects.{object_at, props_of, proto_of, callable_of, tag_of, class_of, with_object};
-ghost use Rattle.es3_heap.specs.Properties.{own, lookup, get, can_put, put, define, with_props, lengthened, written};
-ghost use Rattle.es3_heap.specs.Making.{proto_id, first_objects, new_objects, made, made_function, array_object, error_object, count_at, with_tag, raised, named};
+ghost use Rattle.es3_heap.specs.Properties.{own, lookup, get, can_put, put, define, can_delete, delete, with_props, lengthened, written};
+ghost use Rattle.es3_heap.specs.Enumerating.{own_keys, shadowed, added_keys, keys};
+ghost use Rattle.es3_heap.specs.Making.{proto_id, first_objects, new_objects, made, made_function, array_object, error_object, count_at, raised, with_tag, awaits_name, tagged, named};
 ghost use Rattle.es3_heap.specs.Reading.{property, kind_of, maker_of};
 
 use crate::object::{Callable, Object};
@@ -199,6 +200,8 @@ impl Heap {
     pub fn put(&mut self, o: ObjId, k: &Units, v: Value) -> Result<bool, Memory>
         ensures answer { IfOk result (λ b. b ≡ can_put self.old o k.now) }
         ensures store { OnOk result (self.new ≡ put self.old o k.now v) }
+        ensures kept { OnErr result (self.new ≡ self.old) }
+        ensures live { length self.new.list ≡ length self.old.list }
     {
         if !self.can_put(o, k) {
             return Ok(false);
@@ -219,8 +222,9 @@ impl Heap {
 
     /// Writes a value to an own property that may be written.
     fn write(&mut self, o: ObjId, k: &Units, v: Value) -> Result<(), Memory>
-        ensures { OnOk result (self.new ≡ with_props self.old o (object_at self.old o)
+        ensures ok { OnOk result (self.new ≡ with_props self.old o (object_at self.old o)
             (lengthened (class_of (object_at self.old o)) k.now (written k.now v (props_of (object_at self.old o))))) }
+        ensures err { OnErr result (self.new ≡ self.old) }
     {
         let at = o.number() as usize;
         if at >= self.objects.len() {
@@ -232,7 +236,9 @@ impl Heap {
 
     /// Gives a property this value and these attributes, whatever was there.
     pub fn define(&mut self, o: ObjId, k: &Units, v: Value, a: Attrs) -> Result<(), Memory>
-        ensures { OnOk result (self.new ≡ define self.old o k.now v a) }
+        ensures store { OnOk result (self.new ≡ define self.old o k.now v a) }
+        ensures kept { OnErr result (self.new ≡ self.old) }
+        ensures live { length self.new.list ≡ length self.old.list }
     {
         let at = o.number() as usize;
         if at >= self.objects.len() {
@@ -242,8 +248,87 @@ impl Heap {
         slots::define(&mut object.slots, self.alloc, k, v, a)
     }
 
-    /// Gives an object a name for the log.
-    pub fn set_tag(&mut self, o: ObjId, t: Tag)
+    /// Takes an own property away (ES3 8.6.2.5). The answer is false exactly where it is DontDelete, and then it stays.
+    pub fn delete(&mut self, o: ObjId, k: &Units) -> bool
+        ensures answer { result ≡ can_delete self.old o k.now }
+        ensures store { self.new ≡ delete self.old o k.now }
+        ensures live { length self.new.list ≡ length self.old.list }
+    {
+        let at = o.number() as usize;
+        if at >= self.objects.len() {
+            return true;
+        }
+        let object = &mut self.objects[at];
+        slots::delete(&mut object.slots, k)
+    }
+
+    /// All own keys of an object, whatever their attributes, in the order in which the properties were made.
+    pub fn own_keys(&self, o: ObjId) -> Result<Vec<Units>, Memory>
+        ensures { IfOk result (λ v. v.items ≡ own_keys self.now o) }
+    {
+        let mut keys = Vec::new(self.alloc);
+        for slot in self.slots(o) {
+            let key = slot.key.copy(self.alloc)?;
+            keys.push(key)?;
+        }
+        Ok(keys)
+    }
+
+    /// Whether one of some objects has an own property of a key.
+    fn is_shadowed(&self, below: &[ObjId], k: &Units) -> bool
+        ensures { result ≡ shadowed self.now below.now k.now }
+    {
+        for o in below {
+            if self.own(*o, k).is_some() {
+                return true;
+            }
+        }
+        false
+    }
+
+    /// Appends the keys that an object adds to those of the objects below it in a chain.
+    fn push_keys(&self, keys: &mut Vec<Units>, below: &[ObjId], o: ObjId) -> Result<(), Memory>
+        ensures { OnOk result (keys.new.items ≡ keys.old.items ++ added_keys self.now below.now o) }
+    {
+        for slot in self.slots(o) {
+            if !slot.attrs.dont_enum && !self.is_shadowed(below, &slot.key) {
+                keys.push(slot.key.copy(self.alloc)?)?;
+            }
+        }
+        Ok(())
+    }
+
+    /// The keys that `for in` visits (ES3 12.6.4): those of the object without DontEnum, in the order in which the properties
+    /// were made, then those of the prototypes above it, but none that an object below has.
+    pub fn keys(&self, o: ObjId) -> Result<Vec<Units>, Memory>
+        ensures { IfOk result (λ v. v.items ≡ keys self.now o) }
+    {
+        let mut keys = Vec::new(self.alloc);
+        let mut below = Vec::new(self.alloc);
+        let mut above = Some(o);
+        for _step in 0..self.objects.len() {
+            let Some(here) = above else {
+                return Ok(keys);
+            };
+            self.push_keys(&mut keys, &below, here)?;
+            below.push(here)?;
+            above = self.proto_of(here);
+        }
+        Ok(keys)
+    }
+
+    /// Whether there is an object of that number that has no name yet.
+    fn awaits_name(&self, o: ObjId) -> bool
+        ensures { result ≡ awaits_name (object_at self.now o) }
+    {
+        match self.object(o) {
+            Some(object) => matches!(object.tag, Tag::None),
+            None => false,
+        }
+    }
+
+    /// Gives an object a name, whatever it had.
+    fn write_tag(&mut self, o: ObjId, t: Tag)
         ensures { self.new ≡ with_tag self.old o (object_at self.old o) t }
     {
         let at = o.number() as usize;
@@ -253,18 +338,33 @@ impl Heap {
         }
     }
 
-    /// Gives an object the next name of a module. A count stands still at 2^32 - 1.
-    pub fn name_next(&mut self, o: ObjId, by: u32)
-        ensures { self.new ≡ named self.old o by }
+    /// Gives an object its name for the log. A name is set once: an object that has one keeps it.
+    pub fn set_tag(&mut self, o: ObjId, t: Tag)
+        ensures store { self.new ≡ tagged self.old o t }
+        ensures live { length self.new.list ≡ length self.old.list }
     {
-        let number = next_number(&mut self.counts, by);
-        self.set_tag(o, Tag::Made(by, number));
+        if self.awaits_name(o) {
+            self.write_tag(o, t);
+        }
+    }
+
+    /// Gives an object that has no name the next one of a module. A count stands still at 2^32 - 1.
+    pub fn name_next(&mut self, o: ObjId, by: u32)
+        ensures store { self.new ≡ named self.old o by }
+        ensures live { length self.new.list ≡ length self.old.list }
+    {
+        if self.awaits_name(o) {
+            let number = next_number(&mut self.counts, by);
+            self.write_tag(o, Tag::Made(by, number));
+        }
     }
 
     /// A new object, the last; there is no memory for 2^32 - 1 objects.
     fn push(&mut self, object: Object) -> Result<ObjId, Memory>
         ensures id { IfOk result (λ o. o ≡ length self.old.list) }
         ensures store { OnOk result (self.new ≡ with_object self.old object) }
+        ensures kept { OnErr result (self.new ≡ self.old) }
+        ensures live { length self.old.list ≤ length self.new.list }
     {
         let count = self.objects.len();
         if count >= MOST_OBJECTS {
@@ -274,12 +374,14 @@ impl Heap {
         Ok(ObjId::new(count as u32))
     }
 
-    /// A new object that is no function, without properties.
+    /// A new object that is no function; an array has the length 0, and the others have no properties.
     pub fn make(&mut self, class: Class, proto: Option<ObjId>) -> Result<ObjId, Memory>
         ensures id { IfOk result (λ o. o ≡ length self.old.list) }
         ensures store { OnOk result (self.new ≡ made class proto self.old) }
+        ensures kept { OnErr result (self.new ≡ self.old) }
+        ensures live { length self.old.list ≤ length self.new.list }
     {
-        let object = Object::bare(self.alloc, class, proto, None);
+        let object = Object::plain(self.alloc, &self.length_key, class, proto)?;
         self.push(object)
     }
 
@@ -287,6 +389,8 @@ impl Heap {
     pub fn make_func(&mut self, kind: FuncKind, maker: u32) -> Result<ObjId, Memory>
         ensures id { IfOk result (λ o. o ≡ length self.old.list) }
         ensures store { OnOk result (self.new ≡ made_function kind maker self.old) }
+        ensures kept { OnErr result (self.new ≡ self.old) }
+        ensures live { length self.old.list ≤ length self.new.list }
     {
         let callable = Some(Callable { kind, maker });
         let object = Object::bare(
@@ -302,6 +406,8 @@ impl Heap {
     pub fn make_array(&mut self, items: Vec<Value>) -> Result<ObjId, Memory>
         ensures id { IfOk result (λ o. o ≡ length self.old.list) }
         ensures store { OnOk result (self.new ≡ with_object self.old (array_object items.items)) }
+        ensures kept { OnErr result (self.new ≡ self.old) }
+        ensures live { length self.old.list ≤ length self.new.list }
     {
         let object = Object::array(self.alloc, &self.length_key, items)?;
         self.push(object)
@@ -311,6 +417,8 @@ impl Heap {
     pub fn make_error(&mut self, proto: Proto, name: Units, message: Units) -> Result<ObjId, Memory>
         ensures id { IfOk result (λ o. o ≡ length self.old.list) }
         ensures store { OnOk result (self.new ≡ with_object self.old (error_object proto name message)) }
+        ensures kept { OnErr result (self.new ≡ self.old) }
+        ensures live { length self.old.list ≤ length self.new.list }
     {
         let object = Object::error(self.alloc, proto, name, message)?;
         self.push(object)

@@ -1,9 +1,9 @@
 //! An object of the store (ES3 8.6), and the ways in which one is made and written to.
 
-ghost use Rattle.std.specs.Prelude.{◌≡◌, ◌<◌, ◌^◌, IfOk, OnOk, codes, pos, vec_len, ◌++◌, ◌∷◌, []};
+ghost use Rattle.std.specs.Prelude.{◌≡◌, ◌<◌, ◌^◌, IfOk, OnOk, OnErr, codes, pos, vec_len, ◌++◌, ◌∷◌, []};
 ghost use Rattle.caja_units.specs.Index.{array_index, number_units};
 ghost use Rattle.es3_heap.specs.Properties.{find, value_of, length_of, at_least, lengthened, written};
-ghost use Rattle.es3_heap.specs.Making.{bare, array_object, error_object, item_properties, proto_id};
+ghost use Rattle.es3_heap.specs.Making.{bare, plain_object, length_property, array_object, error_object, item_properties, proto_id};
 
 use crate::slots;
 use crate::slots::Slot;
@@ -78,23 +78,35 @@ fn length_of(slots: &[Slot], length_key: &Units) -> u64
 }
 
 /// Makes the length of an array greater than the index that was written (ES3 15.4.5.1).
-fn lengthen(
-    slots: &mut Vec<Slot>,
-    alloc: Global,
-    length_key: &Units,
-    key: &Units,
-) -> Result<(), Memory>
+fn lengthen(slots: &mut Vec<Slot>, length_key: &Units, key: &Units)
     requires { length_key.now ≡ codes "length" }
-    ensures { OnOk result (slots.new.items ≡ at_least (array_index key.now) slots.old.items) }
+    ensures { slots.new.items ≡ at_least (array_index key.now) slots.old.items }
 {
     let Some(index) = key.canonical_index() else {
-        return Ok(());
+        return;
     };
     if u64::from(index) < length_of(slots, length_key) {
-        return Ok(());
+        return;
     }
     let count = whole(u64::from(index) + 1);
-    slots::write(slots, alloc, length_key, Value::Num(count))
+    slots::revalue(slots, length_key, Value::Num(count));
+}
+
+/// The length that an array begins with, its only property.
+fn length_slots(alloc: Global, length_key: &Units, count: u32) -> Result<Vec<Slot>, Memory>
+    requires { length_key.now ≡ codes "length" }
+    ensures { IfOk result (λ v. v.items ≡ length_property count ∷ []) }
+{
+    let key = length_key.copy(alloc)?;
+    let value = Value::Num(whole(u64::from(count)));
+    let slots = vec![in alloc;
+        Slot {
+            key,
+            value,
+            attrs: Attrs::FIXED
+        },
+    ]?;
+    Ok(slots)
 }
 
 /// The properties of an array's items, from index 0 on, behind its length.
@@ -132,6 +144,29 @@ impl Object {
         }
     }
 
+    /// An object that is no function; an array has the length 0.
+    pub fn plain(
+        alloc: Global,
+        length_key: &Units,
+        class: Class,
+        proto: Option<ObjId>,
+    ) -> Result<Object, Memory>
+        requires { length_key.now ≡ codes "length" }
+        ensures { IfOk result (λ o. o ≡ plain_object class proto) }
+    {
+        let slots = match class {
+            Class::Array => length_slots(alloc, length_key, 0)?,
+            _ => Vec::new(alloc),
+        };
+        Ok(Object {
+            class,
+            proto,
+            callable: None,
+            tag: Tag::None,
+            slots,
+        })
+    }
+
     /// An array of these items (ES3 11.1.4, 15.4.2.1). There is no memory for 2^32 items or more.
     pub fn array(alloc: Global, length_key: &Units, items: Vec<Value>) -> Result<Object, Memory>
         requires { length_key.now ≡ codes "length" }
@@ -141,15 +176,7 @@ impl Object {
         if count > u32::MAX as usize {
             return Err(Memory);
         }
-        let key = length_key.copy(alloc)?;
-        let value = Value::Num(whole(count as u64));
-        let mut slots = vec![in alloc;
-            Slot {
-                key,
-                value,
-                attrs: Attrs::FIXED
-            },
-        ]?;
+        let mut slots = length_slots(alloc, length_key, count as u32)?;
         item_slots(alloc, items, &mut slots)?;
         Ok(Object {
             class: Class::Array,
@@ -197,12 +224,13 @@ impl Object {
         value: Value,
     ) -> Result<(), Memory>
         requires { length_key.now ≡ codes "length" }
-        ensures { OnOk result (self.new ≡ record self.old { props = lengthened self.old.class key.now (written key.now value self.old.props) }) }
+        ensures ok { OnOk result (self.new ≡ record self.old { props = lengthened self.old.class key.now (written key.now value self.old.props) }) }
+        ensures err { OnErr result (self.new ≡ self.old) }
     {
         slots::write(&mut self.slots, alloc, key, value)?;
-        match self.class {
-            Class::Array => lengthen(&mut self.slots, alloc, length_key, key),
-            _ => Ok(()),
+        if self.class == Class::Array {
+            lengthen(&mut self.slots, length_key, key);
         }
+        Ok(())
     }
 }

@@ -1,9 +1,9 @@
 //! The properties of an object, in the order in which they were made (ES3 8.6.1).
 
-ghost use Rattle.std.specs.Prelude.{◌≡◌, ◌++◌, ◌∷◌, [], OnOk, position};
+ghost use Rattle.std.specs.Prelude.{◌≡◌, ◌++◌, ◌∷◌, [], OnOk, OnErr, position};
 ghost use Rattle.std.specs.Option.{option_copied};
 ghost use Rattle.caja_units.specs.Units.{same_units};
-ghost use Rattle.es3_heap.specs.Properties.{find, written, defined};
+ghost use Rattle.es3_heap.specs.Properties.{find, written, revalued, defined, may_delete, without};
 ghost use Rattle.es3_heap.specs.Reading.{property};
 
 use crate::value::{Attrs, Value};
@@ -54,7 +54,8 @@ fn push(
     value: Value,
     attrs: Attrs,
 ) -> Result<(), Memory>
-    ensures { OnOk result (slots.new.items ≡ slots.old.items ++ property key.now value attrs ∷ []) }
+    ensures ok { OnOk result (slots.new.items ≡ slots.old.items ++ property key.now value attrs ∷ []) }
+    ensures err { OnErr result (slots.new.items ≡ slots.old.items) }
 {
     let key = key.copy(alloc)?;
     slots.push(Slot { key, value, attrs })?;
@@ -63,7 +64,8 @@ fn push(
 
 /// Writes a value to the property of a key, or makes a new one without attributes, the last.
 pub fn write(slots: &mut Vec<Slot>, alloc: Global, key: &Units, value: Value) -> Result<(), Memory>
-    ensures { OnOk result (slots.new.items ≡ written key.now value slots.old.items) }
+    ensures ok { OnOk result (slots.new.items ≡ written key.now value slots.old.items) }
+    ensures err { OnErr result (slots.new.items ≡ slots.old.items) }
 {
     match place(slots, key) {
         Some(at) => {
@@ -75,6 +77,16 @@ pub fn write(slots: &mut Vec<Slot>, alloc: Global, key: &Units, value: Value) ->
     }
 }
 
+/// Writes a value to the property of a key, where there is one.
+pub fn revalue(slots: &mut Vec<Slot>, key: &Units, value: Value)
+    ensures { slots.new.items ≡ revalued key.now value slots.old.items }
+{
+    if let Some(at) = place(slots, key) {
+        let slot = &mut slots[at];
+        slot.value = value;
+    }
+}
+
 /// Gives the property of a key this value and these attributes, or makes a new one, the last.
 pub fn define(
     slots: &mut Vec<Slot>,
@@ -83,7 +95,8 @@ pub fn define(
     value: Value,
     attrs: Attrs,
 ) -> Result<(), Memory>
-    ensures { OnOk result (slots.new.items ≡ defined key.now value attrs slots.old.items) }
+    ensures ok { OnOk result (slots.new.items ≡ defined key.now value attrs slots.old.items) }
+    ensures err { OnErr result (slots.new.items ≡ slots.old.items) }
 {
     match place(slots, key) {
         Some(at) => {
@@ -94,4 +107,19 @@ pub fn define(
         }
         None => push(slots, alloc, key, value, attrs),
     }
+}
+
+/// Takes the property of a key away, unless it is DontDelete (ES3 8.6.2.5). The answer is false exactly there.
+pub fn delete(slots: &mut Vec<Slot>, key: &Units) -> bool
+    ensures answer { result ≡ may_delete (find key.now slots.old.items) }
+    ensures left { slots.new.items ≡ without key.now slots.old.items }
+{
+    let Some(at) = place(slots, key) else {
+        return true;
+    };
+    if slots[at].attrs.dont_delete {
+        return false;
+    }
+    slots.remove(at);
+    true
 }

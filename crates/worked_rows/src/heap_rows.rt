@@ -1,6 +1,7 @@
 use caja_num::Whole;
-use caja_units::Units;
+use caja_units::{Memory, Units};
 use es3_heap::{Attrs, Class, FuncKind, Heap, Proto, Tag, Value};
+use std::alloc::Global;
 use std::test::Fail;
 
 fn number(v: i64) -> Value {
@@ -58,8 +59,15 @@ fn objects_of_a_module_are_numbered(rt: HostRuntime) -> Result<(), Fail> {
     heap.name_next(second, 3);
     assert_eq!(rt; heap.tag(first), Tag::Made(3, 0));
     assert_eq!(rt; heap.tag(second), Tag::Made(3, 1));
-    heap.set_tag(first, Tag::Built(7));
-    assert_eq!(rt; heap.tag(first), Tag::Built(7));
+    let third = heap.make(Class::Object, None)?;
+    heap.set_tag(third, Tag::Built(7));
+    assert_eq!(rt; heap.tag(third), Tag::Built(7));
+    heap.set_tag(third, Tag::Built(8));
+    heap.name_next(third, 3);
+    assert_eq!(rt; heap.tag(third), Tag::Built(7));
+    let fourth = heap.make(Class::Object, None)?;
+    heap.name_next(fourth, 3);
+    assert_eq!(rt; heap.tag(fourth), Tag::Made(3, 2));
     Ok(())
 }
 
@@ -97,5 +105,91 @@ fn a_function_and_an_error_are_told_from_objects(rt: HostRuntime) -> Result<(), 
     assert_eq!(rt; heap.class(error), Class::Error);
     assert_eq!(rt; heap.proto_of(error), Some(heap.proto(Proto::RangeError)));
     assert!(rt; is_text(heap.get(error, &name), &range));
+    Ok(())
+}
+
+/// Whether two lists of keys are the same.
+fn are_keys(keys: &[Units], expected: &[&str], alloc: Global) -> Result<bool, Memory> {
+    if keys.len() != expected.len() {
+        return Ok(false);
+    }
+    for (key, text) in keys.iter().zip(expected.iter()) {
+        if !key.same(&Units::from_ascii(alloc, text.as_bytes())?) {
+            return Ok(false);
+        }
+    }
+    Ok(true)
+}
+
+#[test]
+fn a_deleted_property_lets_the_prototype_be_seen(rt: HostRuntime) -> Result<(), Fail> {
+    let alloc = rt.alloc();
+    let x = Units::from_ascii(alloc, b"x")?;
+    let mut heap = Heap::new(alloc)?;
+    let above = heap.make(Class::Object, None)?;
+    let below = heap.make(Class::Object, Some(above))?;
+    assert!(rt; heap.put(above, &x, number(1))?);
+    assert!(rt; heap.put(below, &x, number(2))?);
+    assert!(rt; heap.delete(below, &x));
+    assert_eq!(rt; in_number(heap.get(below, &x)), Some(1));
+    assert!(rt; heap.delete(below, &x));
+    assert!(rt; are_keys(&heap.keys(below)?, &["x"], alloc)?);
+    assert!(rt; are_keys(&heap.own_keys(below)?, &[], alloc)?);
+    assert!(rt; are_keys(&heap.own_keys(above)?, &["x"], alloc)?);
+    assert_eq!(rt; heap.proto_of(below), Some(above));
+    assert_eq!(rt; heap.proto_of(above), None);
+    assert_eq!(rt; heap.maker(below), None);
+    Ok(())
+}
+
+#[test]
+fn a_property_that_is_kept_is_not_deleted(rt: HostRuntime) -> Result<(), Fail> {
+    let alloc = rt.alloc();
+    let x = Units::from_ascii(alloc, b"x")?;
+    let mut heap = Heap::new(alloc)?;
+    let object = heap.make(Class::Object, None)?;
+    heap.define(object, &x, number(1), Attrs::KEPT)?;
+    assert!(rt; !heap.delete(object, &x));
+    assert_eq!(rt; in_number(heap.get(object, &x)), Some(1));
+    Ok(())
+}
+
+#[test]
+fn keys_are_visited_once_from_the_object_upwards(rt: HostRuntime) -> Result<(), Fail> {
+    let alloc = rt.alloc();
+    let mut heap = Heap::new(alloc)?;
+    let above = heap.make(Class::Object, None)?;
+    let below = heap.make(Class::Object, Some(above))?;
+    for name in ["a", "b", "c", "1"] {
+        let key = Units::from_ascii(alloc, name.as_bytes())?;
+        assert!(rt; heap.put(above, &key, number(1))?);
+    }
+    let hidden = Units::from_ascii(alloc, b"c")?;
+    heap.define(below, &hidden, number(2), Attrs::HIDDEN)?;
+    for name in ["z", "b"] {
+        let key = Units::from_ascii(alloc, name.as_bytes())?;
+        assert!(rt; heap.put(below, &key, number(2))?);
+    }
+    assert!(rt; are_keys(&heap.keys(below)?, &["z", "b", "a", "1"], alloc)?);
+    assert!(rt; are_keys(&heap.own_keys(below)?, &["c", "z", "b"], alloc)?);
+    Ok(())
+}
+
+#[test]
+fn the_length_of_an_array_is_fixed(rt: HostRuntime) -> Result<(), Fail> {
+    let alloc = rt.alloc();
+    let length = Units::from_ascii(alloc, b"length")?;
+    let two = Units::from_ascii(alloc, b"2")?;
+    let mut heap = Heap::new(alloc)?;
+    let array = heap.make(Class::Array, Some(heap.proto(Proto::Array)))?;
+    assert_eq!(rt; in_number(heap.get(array, &length)), Some(0));
+    assert!(rt; !heap.put(array, &length, number(5))?);
+    assert!(rt; !heap.delete(array, &length));
+    assert!(rt; heap.put(array, &two, number(5))?);
+    assert_eq!(rt; heap.own(array, &length).map(|p| p.1), Some(Attrs::FIXED));
+    assert_eq!(rt; in_number(heap.get(array, &length)), Some(3));
+    assert!(rt; heap.delete(array, &two));
+    assert_eq!(rt; in_number(heap.get(array, &length)), Some(3));
+    assert!(rt; are_keys(&heap.keys(array)?, &[], alloc)?);
     Ok(())
 }

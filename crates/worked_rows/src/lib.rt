@@ -5,6 +5,8 @@
 #[cfg(test)]
 mod cajole_rows;
 #[cfg(test)]
+mod comparison_rows;
+#[cfg(test)]
 mod control_rows;
 #[cfg(test)]
 mod convert_rows;

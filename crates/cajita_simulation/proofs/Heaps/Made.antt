@@ -34,10 +34,10 @@ with_named h o m = grown h (tagged o (next_name h m)) (slice_set h.counts m (rai
 pub replaced_new : (h : Objects) (o x : Object) → replaced (with_object h o) (length h.list) x ≡ with_object h x
 replaced_new h o x = ap (λ list. let g : Objects = record { list = list; counts = h.counts } in g) (set-append_seam h.list o [] x)
 
-pub named_new : (h : Objects) (o : Object) (m : ℕ) → named (with_object h o) (length h.list) m ≡ with_named h o m
-named_new h o m =
+pub named_new : (h : Objects) (o : Object) (m : ℕ) → o.tag ≡ tag.None → named (with_object h o) (length h.list) m ≡ with_named h o m
+named_new h o m bare =
     let x = tagged o (next_name h m) in
-    rw (object_at-with_object h o) (ap (λ list. let g : Objects = record { list = list; counts = slice_set h.counts m (raised (count_at (slice_get h.counts m))) } in g) (set-append_seam h.list o [] x))
+    rw (object_at-with_object h o, bare) (ap (λ list. let g : Objects = record { list = list; counts = slice_set h.counts m (raised (count_at (slice_get h.counts m))) } in g) (set-append_seam h.list o [] x))
 
 pub defined_new : (h : Objects) (o : Object) (k : List ℕ) (v : Value) (a : Attrs) → define (with_object h o) (length h.list) k v a ≡ with_object h (with_properties o (defined k v a o.props))
 defined_new h o k v a = rw (object_at-with_object h o) (replaced_new h o (with_properties o (defined k v a o.props)))

@@ -19,7 +19,7 @@ use Rattle.cajita_simulation.proofs.Heaps.Pairs.{pairs_defined, with_pairs_new, 
 -- a new error with the next name of the module
 pub thrown_new : (message : List ℕ) (by : ℕ) (h : Objects) → thrown message by h ≡ record { reply = throw_reply (Obj (length h.list)); heap = with_named h (error_object proto.TypeError (codes "TypeError") message) by }
 thrown_new message by h =
-    ap (λ (heap : Objects). let row : Row = record { reply = throw_reply (Obj (length h.list)); heap = heap } in row) (named_new h (error_object proto.TypeError (codes "TypeError") message) by)
+    ap (λ (heap : Objects). let row : Row = record { reply = throw_reply (Obj (length h.list)); heap = heap } in row) (named_new h (error_object proto.TypeError (codes "TypeError") message) by refl)
 
 -- a record of these pairs
 abbrev pub record_object : List (List ℕ × Value) → Object
@@ -31,7 +31,7 @@ pub initialize_map_new : (pairs : List (List ℕ × Value)) (by : ℕ) (h : Obje
 initialize_map_new pairs by h few =
     let g = with_object h (array_object (in_turn pairs)) in
     let o = bare class.Object (Some (proto_id proto.Object)) None in
-    rw (object_at-with_object h (array_object (in_turn pairs)), array_items_new h (in_turn pairs) few, keyed_texts g pairs, with_pairs_new pairs g o, named_new g (record_object pairs) by) refl
+    rw (object_at-with_object h (array_object (in_turn pairs)), array_items_new h (in_turn pairs) few, keyed_texts g pairs, with_pairs_new pairs g o, named_new g (record_object pairs) by refl) refl
 
 -- undefined and null have no members
 abbrev pub HasMembers : Value → Type 0

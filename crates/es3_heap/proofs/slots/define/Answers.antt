@@ -7,6 +7,6 @@ use Rattle.es3_heap.proofs.slots.define.Goals as goal
 pub returns-in-Some : goal.returns-in-Some
 returns-in-Some c = grind (arith, common_steps, set-defined)
 
-pub returns-in-None : goal.returns-in-None
-returns-in-None c =
-    on_ok_weaker c.push.result (λ is. is ∙ push-defined c.args.key.now c.args.value c.args.attrs c.args.slots.now.items (cc)) c.push.ensures
+pub returns-in-None-clause-ok : goal.returns-in-None-clause-ok
+returns-in-None-clause-ok c =
+    on_ok_weaker c.push.result (λ is. is ∙ push-defined c.args.key.now c.args.value c.args.attrs c.args.slots.now.items (cc)) c.push.ensures.ok

@@ -11,4 +11,4 @@ named-error h g o by name text kind message made last same_name same_text = rw (
 
 pub returns-clause-store : goal.returns-clause-store
 returns-clause-store c =
-    c.name_next.ensures ∙ named-error c.args.h.now _ _ c.args.by _ _ _ _ c.in_ok-error.ensures.store c.in_ok-error.ensures.id c.in_ok-name.ensures c.in_ok-message.ensures
+    c.name_next.ensures.store ∙ named-error c.args.h.now _ _ c.args.by _ _ _ _ c.in_ok-error.ensures.store c.in_ok-error.ensures.id c.in_ok-name.ensures c.in_ok-message.ensures

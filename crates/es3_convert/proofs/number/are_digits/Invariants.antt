@@ -1,0 +1,7 @@
+use Rattle.std.proofs.Common.{◌≡◌, drop}
+use Rattle.std.specs.List.{list_all}
+use Rattle.es3_tokens.specs.Characters.{is_digit}
+use Rattle.es3_convert.proofs.number.are_digits.Given as goal
+
+abbrev pub invariant-loop-unit : goal.invariant-loop-unit
+invariant-loop-unit l = list_all is_digit l.units ≡ list_all is_digit (drop l.unit-index l.units)
