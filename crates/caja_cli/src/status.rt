@@ -6,7 +6,7 @@ ghost use Rattle.caja_cli.specs.Codes.{code_of};
 /// How a call of the program ended.
 #[derive(Clone, Copy, Debug, PartialEq, Eq)]
 pub enum Status {
-    /// The whole output was written, and the page came to its end.
+    /// The whole output was written; where the command runs a page, that came to its end.
     Done,
     /// The words are no command.
     Usage,

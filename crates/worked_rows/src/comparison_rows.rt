@@ -29,7 +29,7 @@ enum Sample {
 use Plain::{Null, Num, Text, Truth, Undefined};
 use Sample::{Array, Function, Is, Record};
 
-fn plain(alloc: Global, p: Plain) -> Result<Value, Memory> {
+fn primitive(alloc: Global, p: Plain) -> Result<Value, Memory> {
     Ok(match p {
         Undefined => Value::Undefined,
         Null => Value::Null,
@@ -42,9 +42,9 @@ fn plain(alloc: Global, p: Plain) -> Result<Value, Memory> {
     })
 }
 
-fn value(alloc: Global, heap: &mut Heap, s: Sample) -> Result<Value, Memory> {
+fn made(alloc: Global, heap: &mut Heap, s: Sample) -> Result<Value, Memory> {
     match s {
-        Is(p) => plain(alloc, p),
+        Is(p) => primitive(alloc, p),
         Record => {
             let above = heap.proto(Proto::Object);
             Ok(Value::Obj(heap.make(Class::Object, Some(above))?))
@@ -53,7 +53,7 @@ fn value(alloc: Global, heap: &mut Heap, s: Sample) -> Result<Value, Memory> {
         Array(items) => {
             let mut values = Vec::new(alloc);
             for item in items {
-                values.push(plain(alloc, *item)?)?;
+                values.push(primitive(alloc, *item)?)?;
             }
             Ok(Value::Obj(heap.make_array(values)?))
         }
@@ -111,7 +111,7 @@ fn a_number_is_whole_and_in_range_or_a_fault(rt: HostRuntime) -> Result<(), Fail
     let alloc = rt.alloc();
     let mut heap = Heap::new(alloc)?;
     for (sample, expected) in &NUMBERS {
-        let v = value(alloc, &mut heap, *sample)?;
+        let v = made(alloc, &mut heap, *sample)?;
         match to_number(alloc, &heap, &v) {
             Ok(n) => assert_eq!(rt; Some(n.get()), *expected, "{sample:?}"),
             Err(stop) => {
@@ -143,7 +143,7 @@ fn a_value_is_true_or_false(rt: HostRuntime) -> Result<(), Fail> {
     let alloc = rt.alloc();
     let mut heap = Heap::new(alloc)?;
     for (sample, expected) in &TRUTHS {
-        let v = value(alloc, &mut heap, *sample)?;
+        let v = made(alloc, &mut heap, *sample)?;
         assert_eq!(rt; to_bool(&v), *expected, "{sample:?}");
     }
     Ok(())
@@ -161,7 +161,10 @@ static TEXTS: [(Sample, &str); 12] = [
     (Function, "[object Function]"),
     (Array(&[]), ""),
     (Array(&[Undefined]), ""),
-    (Array(&[Null, Num(1), Undefined, Truth(true), Text("")]), ",1,,true,"),
+    (
+        Array(&[Null, Num(1), Undefined, Truth(true), Text("")]),
+        ",1,,true,",
+    ),
 ];
 
 #[test]
@@ -169,7 +172,7 @@ fn a_value_has_a_text(rt: HostRuntime) -> Result<(), Fail> {
     let alloc = rt.alloc();
     let mut heap = Heap::new(alloc)?;
     for (sample, expected) in &TEXTS {
-        let v = value(alloc, &mut heap, *sample)?;
+        let v = made(alloc, &mut heap, *sample)?;
         let mut bytes = Vec::new(alloc);
         to_text(alloc, &heap, &v)?.push_utf8(&mut bytes)?;
         assert_eq!(rt; bytes.as_slice(), expected.as_bytes(), "{sample:?}");
@@ -222,8 +225,8 @@ fn values_are_equal_as_numbers_texts_or_objects(rt: HostRuntime) -> Result<(), F
     let alloc = rt.alloc();
     let mut heap = Heap::new(alloc)?;
     for (left, right, expected) in &EQUALS {
-        let a = value(alloc, &mut heap, *left)?;
-        let b = value(alloc, &mut heap, *right)?;
+        let a = made(alloc, &mut heap, *left)?;
+        let b = made(alloc, &mut heap, *right)?;
         match loose_equal(alloc, &heap, &a, &b) {
             Ok(answer) => assert_eq!(rt; Some(answer), *expected, "{left:?} == {right:?}"),
             Err(stop) => {
@@ -256,11 +259,11 @@ fn values_of_two_types_are_never_strictly_equal(rt: HostRuntime) -> Result<(), F
     let alloc = rt.alloc();
     let mut heap = Heap::new(alloc)?;
     for (left, right, expected) in &SAMES {
-        let a = value(alloc, &mut heap, *left)?;
-        let b = value(alloc, &mut heap, *right)?;
+        let a = made(alloc, &mut heap, *left)?;
+        let b = made(alloc, &mut heap, *right)?;
         assert_eq!(rt; strict_equal(&a, &b), *expected, "{left:?} === {right:?}");
     }
-    let object = value(alloc, &mut heap, Record)?;
+    let object = made(alloc, &mut heap, Record)?;
     assert!(rt; strict_equal(&object, &object.copy(alloc)?));
     Ok(())
 }
@@ -293,8 +296,8 @@ fn two_texts_are_compared_by_units_and_others_by_number(rt: HostRuntime) -> Resu
     let alloc = rt.alloc();
     let mut heap = Heap::new(alloc)?;
     for (left, right, expected) in &LESSES {
-        let a = value(alloc, &mut heap, *left)?;
-        let b = value(alloc, &mut heap, *right)?;
+        let a = made(alloc, &mut heap, *left)?;
+        let b = made(alloc, &mut heap, *right)?;
         match less(alloc, &heap, &a, &b) {
             Ok(answer) => assert_eq!(rt; Some(answer), *expected, "{left:?} < {right:?}"),
             Err(stop) => {

@@ -33,11 +33,11 @@ fn with_object(alloc: Global) -> Result<(Heap, Value), Memory> {
     Ok((heap, Value::Obj(object)))
 }
 
-/// Arrays in one another, so many that the innermost, which is empty, is `deep` arrays deep.
+/// Arrays in one another, each between null and undefined, so many that the innermost, which is empty, is `deep` arrays deep.
 fn nested(alloc: Global, heap: &mut Heap, deep: usize) -> Result<Value, Memory> {
     let mut value = Value::Obj(heap.make_array(Vec::new(alloc))?);
     for _around in 1..deep {
-        value = Value::Obj(heap.make_array(vec![in alloc; value]?)?);
+        value = Value::Obj(heap.make_array(vec![in alloc; Value::Null, value, Value::Undefined]?)?);
     }
     Ok(value)
 }
@@ -82,7 +82,8 @@ fn arrays_are_nested_at_most_32_deep(rt: HostRuntime) -> Result<(), Fail> {
     let alloc = rt.alloc();
     let mut heap = Heap::new(alloc)?;
     let most = nested(alloc, &mut heap, 32)?;
-    assert!(rt; to_text(alloc, &heap, &most)?.is_empty());
+    let commas = Units::from_ascii(alloc, &[b','; 62])?;
+    assert!(rt; to_text(alloc, &heap, &most)?.same(&commas));
     let more = nested(alloc, &mut heap, 33)?;
     assert_eq!(rt; to_text(alloc, &heap, &more).err(), Some(Stop::Depth));
     Ok(())
