@@ -1,5 +1,5 @@
 -- A new object, its name in the log, and the properties that it is given while it is the last.
-use Rattle.std.proofs.Common.{◌≡◌, ℕ, List, [], ◌∷◌, ◌++◌, length, ap}
+use Rattle.std.proofs.Common.{◌≡◌, ℕ, true, List, [], ◌∷◌, ◌++◌, length, ap}
 use Rattle.std.specs.Prelude.{slice_get, slice_set}
 use Rattle.std.proofs.Math.Seq.{set-append_seam}
 use Rattle.es3_heap.specs.declared.value.Value.{Value}
@@ -8,7 +8,7 @@ use Rattle.es3_heap.specs.declared.value.Tag.{Tag}
 use Rattle.es3_heap.specs.declared.value.Tag.TheVariants as tag
 use Rattle.es3_heap.specs.Objects.{Property, Object, Objects, with_object, replaced}
 use Rattle.es3_heap.specs.Properties.{defined, define}
-use Rattle.es3_heap.specs.Making.{count_at, raised, named}
+use Rattle.es3_heap.specs.Making.{count_at, raised, is_untagged, named}
 use Rattle.es3_heap.proofs.Laws.{object_at-with_object}
 
 -- the object with another name, and with other properties
@@ -37,7 +37,8 @@ replaced_new h o x = ap (λ list. let g : Objects = record { list = list; counts
 pub named_new : (h : Objects) (o : Object) (m : ℕ) → o.tag ≡ tag.None → named (with_object h o) (length h.list) m ≡ with_named h o m
 named_new h o m bare =
     let x = tagged o (next_name h m) in
-    rw (object_at-with_object h o, bare) (ap (λ list. let g : Objects = record { list = list; counts = slice_set h.counts m (raised (count_at (slice_get h.counts m))) } in g) (set-append_seam h.list o [] x))
+    let free : is_untagged o.tag ≡ true = ap is_untagged bare in
+    rw (object_at-with_object h o, free) (ap (λ list. let g : Objects = record { list = list; counts = slice_set h.counts m (raised (count_at (slice_get h.counts m))) } in g) (set-append_seam h.list o [] x))
 
 pub defined_new : (h : Objects) (o : Object) (k : List ℕ) (v : Value) (a : Attrs) → define (with_object h o) (length h.list) k v a ≡ with_object h (with_properties o (defined k v a o.props))
 defined_new h o k v a = rw (object_at-with_object h o) (replaced_new h o (with_properties o (defined k v a o.props)))
