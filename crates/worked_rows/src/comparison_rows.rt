@@ -29,17 +29,26 @@ enum Sample {
 use Plain::{Null, Num, Text, Truth, Undefined};
 use Sample::{Array, Function, Is, Record};
 
+/// The value of a row's text, which is short.
+fn text_value(alloc: Global, text: &str) -> Result<Value, Memory> {
+    let bytes = text.as_bytes();
+    if bytes.len() > 100 {
+        return Err(Memory);
+    }
+    match Units::from_utf8(alloc, bytes) {
+        Ok(units) => Ok(Value::Text(units)),
+        Err(_fault) => Err(Memory),
+    }
+}
+
 fn primitive(alloc: Global, p: Plain) -> Result<Value, Memory> {
-    Ok(match p {
-        Undefined => Value::Undefined,
-        Null => Value::Null,
-        Truth(b) => Value::Bool(b),
-        Num(n) => Whole::new(n).map_or(Value::Undefined, Value::Num),
-        Text(text) => match Units::from_utf8(alloc, text.as_bytes()) {
-            Ok(units) => Value::Text(units),
-            Err(_) => Value::Undefined,
-        },
-    })
+    match p {
+        Undefined => Ok(Value::Undefined),
+        Null => Ok(Value::Null),
+        Truth(b) => Ok(Value::Bool(b)),
+        Num(n) => Ok(Whole::new(n).map_or(Value::Undefined, Value::Num)),
+        Text(text) => text_value(alloc, text),
+    }
 }
 
 fn made(alloc: Global, heap: &mut Heap, s: Sample) -> Result<Value, Memory> {
