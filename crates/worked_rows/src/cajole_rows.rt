@@ -16,15 +16,24 @@ fn answer(alloc: Global, source: &str) -> Result<(usize, &'static str, u8, u32),
     })
 }
 
+/// A source and what becomes of it.
+type Row = (&'static str, (usize, &'static str, u8, u32));
+
+static ROWS: [Row; 7] = [
+    ("", (86, "", 0, 0)),
+    ("if (1) ;", (0, "rule", 0, 0)),
+    ("if (a) b;", (0, "rule", 10, 4)),
+    ("1; foo_;", (0, "rule", 10, 3)),
+    ("1; foo__;", (0, "rule", 1, 3)),
+    ("1; 2.3;", (0, "lex", 6, 3)),
+    ("1; 2 3;", (0, "read", 1, 5)),
+];
+
 #[test]
 fn a_module_has_a_text_and_another_source_a_stage(rt: HostRuntime) -> Result<(), Fail> {
-    let alloc = rt.alloc();
-    assert_eq!(rt; answer(alloc, "")?, (86, "", 0, 0));
-    assert_eq!(rt; answer(alloc, "if (1) ;")?, (0, "rule", 0, 0));
-    assert_eq!(rt; answer(alloc, "if (a) b;")?, (0, "rule", 10, 4));
-    assert_eq!(rt; answer(alloc, "1; foo_;")?, (0, "rule", 10, 3));
-    assert_eq!(rt; answer(alloc, "1; foo__;")?, (0, "rule", 1, 3));
-    assert_eq!(rt; answer(alloc, "1; 2.3;")?, (0, "lex", 6, 3));
-    assert_eq!(rt; answer(alloc, "1; 2 3;")?, (0, "read", 1, 5));
+    for (source, wanted) in ROWS.iter() {
+        let found = answer(rt.alloc(), source)?;
+        assert!(rt; found == *wanted, "{source}");
+    }
     Ok(())
 }

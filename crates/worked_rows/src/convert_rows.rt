@@ -1,20 +1,15 @@
 //! Conversions of values, and sums, each call once where it succeeds.
 
+use crate::samples::made;
 use caja_num::Whole;
-use caja_units::{Memory, Units};
-use es3_convert::{add, number_text, to_primitive, to_text};
-use es3_heap::{Class, Heap, Proto, Stop, Value};
+use caja_units::Units;
+use es3_convert::{add, number_text, out_of_memory, to_primitive, to_text};
+use es3_heap::{Heap, Stop, Value};
 use std::alloc::Global;
 use std::test::Fail;
 
-const LARGEST: i64 = 9_007_199_254_740_991;
-
-fn number(v: i64) -> Value {
-    Whole::new(v).map_or(Value::Undefined, Value::Num)
-}
-
-fn ascii(alloc: Global, bytes: &[u8]) -> Result<Value, Memory> {
-    Ok(Value::Text(Units::from_ascii(alloc, bytes)?))
+fn ascii(alloc: Global, bytes: &[u8]) -> Result<Units, Stop> {
+    Units::from_ascii(alloc, bytes).map_err(out_of_memory)
 }
 
 /// Whether two values that are no objects are the same.
@@ -26,85 +21,116 @@ fn is_same(a: &Value, b: &Value) -> bool {
     }
 }
 
-/// A store with an empty object.
-fn with_object(alloc: Global) -> Result<(Heap, Value), Memory> {
-    let mut heap = Heap::new(alloc)?;
-    let object = heap.make(Class::Object, Some(heap.proto(Proto::Object)))?;
-    Ok((heap, Value::Obj(object)))
+/// An array whose items are null, the value and undefined.
+fn around(alloc: Global, heap: &mut Heap, value: Value) -> Result<Value, Stop> {
+    let items = Vec::from_array(alloc, [Value::Null, value, Value::Undefined]);
+    let array = heap.make_array(items.map_err(|_| Stop::Memory)?);
+    array.map(Value::Obj).map_err(out_of_memory)
 }
 
 /// Arrays in one another, each between null and undefined, so many that the innermost, which is empty, is `deep` arrays deep.
-fn nested(alloc: Global, heap: &mut Heap, deep: usize) -> Result<Value, Memory> {
-    let mut value = Value::Obj(heap.make_array(Vec::new(alloc))?);
+fn nested(alloc: Global, heap: &mut Heap, deep: usize) -> Result<Value, Stop> {
+    let mut value = made(alloc, heap, "[]")?;
     for _around in 1..deep {
-        value = Value::Obj(heap.make_array(vec![in alloc; Value::Null, value, Value::Undefined]?)?);
+        value = around(alloc, heap, value)?;
     }
     Ok(value)
 }
 
+fn has_digits(alloc: Global, v: i64, digits: &str) -> Result<bool, Stop> {
+    let n = Whole::new(v).ok_or(Stop::Number)?;
+    let expected = ascii(alloc, digits.as_bytes())?;
+    let text = number_text(alloc, n).map_err(out_of_memory)?;
+    Ok(text.same(&expected))
+}
+
 #[test]
 fn a_number_has_decimal_digits_and_a_sign(rt: HostRuntime) -> Result<(), Fail> {
-    let rows = [(-7, "-7"), (0, "0"), (LARGEST, "9007199254740991")];
-    for (v, digits) in rows {
-        let n = Whole::new(v).ok_or(Stop::Number)?;
-        let expected = Units::from_ascii(rt.alloc(), digits.as_bytes())?;
-        assert!(rt; number_text(rt.alloc(), n)?.same(&expected), "{v}");
-    }
+    assert!(rt; has_digits(rt.alloc(), -7, "-7")?);
+    assert!(rt; has_digits(rt.alloc(), 0, "0")?);
+    assert!(rt; has_digits(rt.alloc(), 9_007_199_254_740_991, "9007199254740991")?);
     Ok(())
 }
 
 #[test]
 fn null_gives_nothing_to_the_text_of_an_array(rt: HostRuntime) -> Result<(), Fail> {
-    let alloc = rt.alloc();
-    let mut heap = Heap::new(alloc)?;
-    let array = Value::Obj(heap.make_array(vec![in alloc; number(1), Value::Null]?)?);
-    let primitive = to_primitive(alloc, &heap, &array)?;
-    assert!(rt; is_same(&primitive, &ascii(alloc, b"1,")?));
+    let mut heap = Heap::new(rt.alloc())?;
+    let array = made(rt.alloc(), &mut heap, "[1,null]")?;
+    let primitive = to_primitive(rt.alloc(), &heap, &array)?;
+    assert!(rt; is_same(&primitive, &Value::Text(ascii(rt.alloc(), b"1,")?)));
     Ok(())
+}
+
+/// Whether the text of the value is this one.
+fn has_text(alloc: Global, heap: &Heap, v: &Value, bytes: &[u8]) -> Result<bool, Stop> {
+    let text = to_text(alloc, heap, v)?;
+    Ok(text.same(&ascii(alloc, bytes)?))
+}
+
+/// Gives the object a conversion of its own.
+fn put_conversion(alloc: Global, heap: &mut Heap, object: &Value) -> Result<bool, Stop> {
+    let key = ascii(alloc, b"toString")?;
+    match object {
+        Value::Obj(o) => heap.put(*o, &key, Value::Undefined).map_err(out_of_memory),
+        _ => Ok(false),
+    }
 }
 
 #[test]
 fn an_object_with_a_conversion_of_its_own_stops_the_run(rt: HostRuntime) -> Result<(), Fail> {
-    let alloc = rt.alloc();
-    let (mut heap, object) = with_object(alloc)?;
-    let expected = Units::from_ascii(alloc, b"[object Object]")?;
-    assert!(rt; to_text(alloc, &heap, &object)?.same(&expected));
-    if let Value::Obj(o) = object {
-        let key = Units::from_ascii(alloc, b"toString")?;
-        assert!(rt; heap.put(o, &key, Value::Undefined)?);
-    }
-    assert_eq!(rt; to_text(alloc, &heap, &object).err(), Some(Stop::Convert));
+    let mut heap = Heap::new(rt.alloc())?;
+    let object = made(rt.alloc(), &mut heap, "{}")?;
+    assert!(rt; has_text(rt.alloc(), &heap, &object, b"[object Object]")?);
+    assert!(rt; put_conversion(rt.alloc(), &mut heap, &object)?);
+    let text = to_text(rt.alloc(), &heap, &object);
+    assert_eq!(rt; text.err(), Some(Stop::Convert));
     Ok(())
 }
 
 #[test]
 fn arrays_are_nested_at_most_32_deep(rt: HostRuntime) -> Result<(), Fail> {
-    let alloc = rt.alloc();
-    let mut heap = Heap::new(alloc)?;
-    let most = nested(alloc, &mut heap, 32)?;
-    let commas = Units::from_ascii(alloc, &[b','; 62])?;
-    assert!(rt; to_text(alloc, &heap, &most)?.same(&commas));
-    let more = nested(alloc, &mut heap, 33)?;
-    assert_eq!(rt; to_text(alloc, &heap, &more).err(), Some(Stop::Depth));
+    let mut heap = Heap::new(rt.alloc())?;
+    let most = nested(rt.alloc(), &mut heap, 32)?;
+    assert!(rt; has_text(rt.alloc(), &heap, &most, &[b','; 62])?);
+    let more = nested(rt.alloc(), &mut heap, 33)?;
+    let text = to_text(rt.alloc(), &heap, &more);
+    assert_eq!(rt; text.err(), Some(Stop::Depth));
     Ok(())
+}
+
+/// Values to which 1 is added, and the sums.
+static SUMS: [(&str, &str); 4] = [
+    ("2", "3"),
+    ("{}", "'[object Object]1'"),
+    ("true", "2"),
+    ("null", "1"),
+];
+
+/// Those for which there is no sum.
+static NO_SUMS: [&str; 2] = ["undefined", "9007199254740991"];
+
+/// The value and 1.
+fn and_one(alloc: Global, heap: &mut Heap, sample: &str) -> Result<Value, Stop> {
+    let v = made(alloc, heap, sample)?;
+    let one = made(alloc, heap, "1")?;
+    add(alloc, heap, &v, &one)
+}
+
+fn is_sum(alloc: Global, heap: &mut Heap, sample: &str, sum: &str) -> Result<bool, Stop> {
+    let found = and_one(alloc, heap, sample)?;
+    let wanted = made(alloc, heap, sum)?;
+    Ok(is_same(&found, &wanted))
 }
 
 #[test]
 fn a_sum_is_a_number_or_a_text(rt: HostRuntime) -> Result<(), Fail> {
-    let alloc = rt.alloc();
-    let (heap, object) = with_object(alloc)?;
-    let one = number(1);
-    for (a, sum) in [
-        (number(2), number(3)),
-        (object, ascii(alloc, b"[object Object]1")?),
-        (Value::Bool(true), number(2)),
-        (Value::Null, number(1)),
-    ] {
-        assert!(rt; is_same(&add(alloc, &heap, &a, &one)?, &sum), "{a:?} + 1");
+    let mut heap = Heap::new(rt.alloc())?;
+    for (sample, sum) in SUMS.iter() {
+        assert!(rt; is_sum(rt.alloc(), &mut heap, sample, sum)?, "{sample} + 1");
     }
-    for a in [Value::Undefined, number(LARGEST)] {
-        let fault = add(alloc, &heap, &a, &one).err();
-        assert_eq!(rt; fault, Some(Stop::Number), "{a:?} + 1");
+    for sample in NO_SUMS.iter() {
+        let fault = and_one(rt.alloc(), &mut heap, sample).err();
+        assert_eq!(rt; fault, Some(Stop::Number), "{sample} + 1");
     }
     Ok(())
 }

@@ -39,6 +39,10 @@ mod rule_tables;
 #[cfg(test)]
 mod runner_rows;
 #[cfg(test)]
+mod runs;
+#[cfg(test)]
+mod samples;
+#[cfg(test)]
 mod source_rows;
 #[cfg(test)]
 mod statement_rows;

@@ -28,32 +28,42 @@ fn next(alloc: Global, source: &str, at: usize, nest: u32) -> Result<String, Fai
     }
 }
 
+/// A source, the first token, the limit of nesting, and what comes of it.
+type Row = (&'static str, usize, u32, &'static str);
+
+static ROWS: [Row; 18] = [
+    ("a+++b", 0, 9, "4"),
+    ("a + )", 0, 9, "1"),
+    ("a + (b", 0, 9, "1"),
+    ("a, b; c", 0, 9, "3"),
+    ("a ? b", 0, 9, "1"),
+    ("x = a ? b : c d", 0, 9, "7"),
+    ("; a.b(c)[d] ;", 1, 9, "10"),
+    ("new a.b c", 0, 9, "4"),
+    ("a++ ++", 0, 9, "2"),
+    (")", 0, 9, "Syntax(0)"),
+    ("", 0, 9, "Syntax(0)"),
+    ("(a", 0, 9, "Syntax(2)"),
+    ("++(a + b)", 0, 9, "Syntax(9)"),
+    ("a + b", 0, 2, "3"),
+    ("a + b + c", 0, 2, "3"),
+    ("~ ~ a", 0, 2, "TooDeep(0)"),
+    ("((((((a", 0, 2, "TooDeep(0)"),
+    ("a", 0, 0, "TooDeep(0)"),
+];
+
+fn holds(alloc: Global, row: &Row) -> Result<bool, Fail> {
+    let (source, at, nest, wanted) = *row;
+    if nest == u32::MAX {
+        return Ok(false);
+    }
+    Ok(next(alloc, source, at, nest)?.as_str() == wanted)
+}
+
 #[test]
 fn the_longest_expression_ends_before_the_token_behind_it(rt: HostRuntime) -> Result<(), Fail> {
-    let alloc = rt.alloc();
-    // The source, the first token, the limit of nesting, and what comes of it.
-    let rows: [(&str, usize, u32, &str); 18] = [
-        ("a+++b", 0, 9, "4"),
-        ("a + )", 0, 9, "1"),
-        ("a + (b", 0, 9, "1"),
-        ("a, b; c", 0, 9, "3"),
-        ("a ? b", 0, 9, "1"),
-        ("x = a ? b : c d", 0, 9, "7"),
-        ("; a.b(c)[d] ;", 1, 9, "10"),
-        ("new a.b c", 0, 9, "4"),
-        ("a++ ++", 0, 9, "2"),
-        (")", 0, 9, "Syntax(0)"),
-        ("", 0, 9, "Syntax(0)"),
-        ("(a", 0, 9, "Syntax(2)"),
-        ("++(a + b)", 0, 9, "Syntax(9)"),
-        ("a + b", 0, 2, "3"),
-        ("a + b + c", 0, 2, "3"),
-        ("~ ~ a", 0, 2, "TooDeep(0)"),
-        ("((((((a", 0, 2, "TooDeep(0)"),
-        ("a", 0, 0, "TooDeep(0)"),
-    ];
-    for (source, at, nest, wanted) in rows {
-        assert_eq!(rt; next(alloc, source, at, nest)?.as_str(), wanted, "{source}");
+    for row in ROWS.iter() {
+        assert!(rt; holds(rt.alloc(), row)?, "{}", row.0);
     }
     Ok(())
 }

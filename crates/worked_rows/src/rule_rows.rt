@@ -1,8 +1,7 @@
 //! Sources and the first rule of Cajita that each breaks, or what its module imports and declares.
 
-use crate::rule_tables::{DECLARATIONS, KEYS_AND_FORMS, LABELS, NAMES, Row, SEVERAL};
-use caja_cli::{Status, caja};
-use caja_io::{MemSink, MemSource};
+use crate::rule_tables::{DECLARATIONS, KEYS_AND_FORMS, LABELS, NAMES, SEVERAL};
+use crate::runs::check_refusals;
 use caja_units::{Memory, Units};
 use cajita_tree::Module;
 use es3_lexer::tokens;
@@ -49,13 +48,19 @@ fn joined(alloc: Global, names: &[Units]) -> Result<Vec<u8>, Memory> {
     Ok(text)
 }
 
-/// The number and the byte of the first fault, and its text; zeros for a module.
-fn fault(alloc: Global, source: &str) -> Result<(u8, u32, Vec<u8>), Fail> {
+/// What a source with these grants is.
+fn checked(alloc: Global, source: &str, grants: &str) -> Result<Result<Module, RuleError>, Fail> {
+    let grants = names(alloc, grants)?;
     let program = read(alloc, source)?;
-    match check(alloc, &program, &[]) {
-        Ok(_) => Ok((0, 0, Vec::new(alloc))),
+    Ok(check(alloc, &program, &grants))
+}
+
+/// The number and the byte of the first fault of a source, and its text; zeros for a module.
+fn fault(alloc: Global, source: &str, grants: &str) -> Result<(u8, u32, Vec<u8>), Fail> {
+    let mut bytes = Vec::new(alloc);
+    match checked(alloc, source, grants)? {
+        Ok(_) => Ok((0, 0, bytes)),
         Err(RuleError::Fault(number, at, text)) => {
-            let mut bytes = Vec::new(alloc);
             text.push_utf8(&mut bytes)?;
             Ok((number, at, bytes))
         }
@@ -63,20 +68,19 @@ fn fault(alloc: Global, source: &str) -> Result<(u8, u32, Vec<u8>), Fail> {
     }
 }
 
-fn module(alloc: Global, source: &str, grants: &str) -> Result<Module, Fail> {
-    let program = read(alloc, source)?;
-    match check(alloc, &program, &names(alloc, grants)?) {
-        Ok(module) => Ok(module),
-        Err(_) => Err("no module".into()),
-    }
+/// Whether the first fault of a source has this number and place.
+fn has_fault(alloc: Global, source: &str, wanted: &str) -> Result<bool, Fail> {
+    let (number, at, _) = fault(alloc, source, "")?;
+    let found = format!(in alloc; "{number} {at}")?;
+    Ok(found.as_str() == wanted)
 }
 
-/// The first source whose first fault isn't the one of its row is the failure.
-fn check_rows(alloc: Global, rows: &[Row]) -> Result<(), Fail> {
-    for (source, number, at) in rows {
-        let (found, place, _) = fault(alloc, source)?;
-        if found != *number || place != *at {
-            return Err((*source).into());
+/// The first row whose source has another first fault is the failure.
+fn check_rows(alloc: Global, table: &'static str) -> Result<(), Fail> {
+    for row in table.lines() {
+        let (source, wanted) = row.split_once(" ⇒ ").unwrap_or((row, ""));
+        if !row.is_empty() && !has_fault(alloc, source, wanted)? {
+            return Err(row.into());
         }
     }
     Ok(())
@@ -84,61 +88,49 @@ fn check_rows(alloc: Global, rows: &[Row]) -> Result<(), Fail> {
 
 #[test]
 fn keys_and_forms_are_refused_where_they_stand(rt: HostRuntime) -> Result<(), Fail> {
-    check_rows(rt.alloc(), &KEYS_AND_FORMS)
+    check_rows(rt.alloc(), KEYS_AND_FORMS)
 }
 
 #[test]
 fn declarations_are_refused_where_they_stand(rt: HostRuntime) -> Result<(), Fail> {
-    check_rows(rt.alloc(), &DECLARATIONS)
+    check_rows(rt.alloc(), DECLARATIONS)
 }
 
 #[test]
 fn names_are_refused_where_they_stand(rt: HostRuntime) -> Result<(), Fail> {
-    check_rows(rt.alloc(), &NAMES)
+    check_rows(rt.alloc(), NAMES)
 }
 
 #[test]
 fn jumps_and_labels_are_refused_where_they_stand(rt: HostRuntime) -> Result<(), Fail> {
-    check_rows(rt.alloc(), &LABELS)
+    check_rows(rt.alloc(), LABELS)
 }
 
 #[test]
 fn the_earlier_place_and_then_the_smaller_number_counts(rt: HostRuntime) -> Result<(), Fail> {
-    check_rows(rt.alloc(), &SEVERAL)
+    check_rows(rt.alloc(), SEVERAL)
 }
 
-/// A module that breaks a rule, and the whole output for it.
-static PAGES: [(&str, &str); 13] = [
-    ("var a; a.b__;", "refused main rule 1 9\n"),
-    ("with ({}) ;", "refused main rule 2 0\n"),
-    ("eval;", "refused main rule 3 0\n"),
-    ("this;", "refused main rule 4 0\n"),
-    ("function f() {} var f;", "refused main rule 5 20\n"),
-    ("try {} catch (e) { var e; }", "refused main rule 6 14\n"),
-    ("function f() {} f = 1;", "refused main rule 7 16\n"),
-    ("({toString: 1});", "refused main rule 8 2\n"),
-    ("({a: 1, a: 2});", "refused main rule 9 8\n"),
-    ("x;", "refused main rule 10 0\n"),
-    ("break;", "refused main rule 11 0\n"),
-    ("var x; delete x;", "refused main rule 12 7\n"),
-    (
-        "function f() { arguments = 1; }",
-        "refused main rule 13 15\n",
-    ),
-];
+/// Modules that break a rule, and the whole output for each.
+static PAGES: &str = "
+var a; a.b__; ⇒ refused main rule 1 9
+with ({}) ; ⇒ refused main rule 2 0
+eval; ⇒ refused main rule 3 0
+this; ⇒ refused main rule 4 0
+function f() {} var f; ⇒ refused main rule 5 20
+try {} catch (e) { var e; } ⇒ refused main rule 6 14
+function f() {} f = 1; ⇒ refused main rule 7 16
+({toString: 1}); ⇒ refused main rule 8 2
+({a: 1, a: 2}); ⇒ refused main rule 9 8
+x; ⇒ refused main rule 10 0
+break; ⇒ refused main rule 11 0
+var x; delete x; ⇒ refused main rule 12 7
+function f() { arguments = 1; } ⇒ refused main rule 13 15
+";
 
 #[test]
 fn each_rule_refuses_a_page(rt: HostRuntime) -> Result<(), Fail> {
-    let alloc = rt.alloc();
-    let words = vec![in alloc; String::from_str(alloc, "solo")?]?;
-    for (source, output) in PAGES.iter() {
-        let mut source = MemSource::new(source.as_bytes().to_vec(alloc)?, 4096, Vec::new(alloc));
-        let mut sink = MemSink::new(4096, vec![in alloc; 0; 64]?, Vec::new(alloc));
-        let status = caja(&words, &mut source, &mut sink, alloc);
-        assert_eq!(rt; sink.written(), output.as_bytes(), "{output}");
-        assert!(rt; status == Status::Refused);
-    }
-    Ok(())
+    check_refusals(rt.alloc(), "solo", PAGES)
 }
 
 /// A source, and the text of its first fault.
@@ -157,16 +149,24 @@ static TEXTS: [(&str, &str); 10] = [
 
 #[test]
 fn a_fault_has_the_text_of_the_word_at_its_place(rt: HostRuntime) -> Result<(), Fail> {
-    let alloc = rt.alloc();
     for (source, text) in TEXTS.iter() {
-        let (_, _, found) = fault(alloc, source)?;
-        assert_eq!(rt; found.as_slice(), text.as_bytes(), "{source}");
+        let (_, _, found) = fault(rt.alloc(), source, "")?;
+        assert!(rt; found.as_slice() == text.as_bytes(), "{source}");
     }
     Ok(())
 }
 
+fn module(alloc: Global, source: &str, grants: &str) -> Result<Module, Fail> {
+    match checked(alloc, source, grants)? {
+        Ok(module) => Ok(module),
+        Err(_) => Err("no module".into()),
+    }
+}
+
 /// A source, the names that it is granted, those that it imports, and those that its body declares by `var`.
-static MODULES: [(&str, &str, &str, &str); 12] = [
+type ModuleRow = (&'static str, &'static str, &'static str, &'static str);
+
+static MODULES: [ModuleRow; 12] = [
     ("1;", "", "", ""),
     ("Math; Error; Math;", "", "Math Error", ""),
     ("b; a; say; b;", "a b c", "b a say", ""),
@@ -191,65 +191,71 @@ static MODULES: [(&str, &str, &str, &str); 12] = [
     ),
 ];
 
+/// Whether the module imports and declares these names.
+fn has_names(alloc: Global, row: &ModuleRow) -> Result<bool, Fail> {
+    let (source, grants, imports, vars) = *row;
+    let found = module(alloc, source, grants)?;
+    let imported = joined(alloc, &found.imports)?;
+    let declared = joined(alloc, &found.body.vars)?;
+    Ok(imported.as_slice() == imports.as_bytes() && declared.as_slice() == vars.as_bytes())
+}
+
 #[test]
 fn a_module_imports_in_order_of_first_use(rt: HostRuntime) -> Result<(), Fail> {
-    let alloc = rt.alloc();
-    for (source, grants, imports, vars) in MODULES.iter() {
-        let found = module(alloc, source, grants)?;
-        assert_eq!(rt;
-            joined(alloc, &found.imports)?.as_slice(),
-            imports.as_bytes(),
-            "{source}"
-        );
-        assert_eq!(rt;
-            joined(alloc, &found.body.vars)?.as_slice(),
-            vars.as_bytes(),
-            "{source}"
-        );
+    for row in MODULES.iter() {
+        assert!(rt; has_names(rt.alloc(), row)?, "{}", row.0);
     }
     Ok(())
+}
+
+/// Whether the first fault of a source that is granted words of their own has this number, and its place is the first byte.
+fn stays_fault(alloc: Global, source: &str, number: u8) -> Result<bool, Fail> {
+    let (found, at, _) = fault(alloc, source, "arguments eval")?;
+    Ok(found == number && at == 0)
 }
 
 #[test]
 fn granted_words_of_their_own_stay_faults(rt: HostRuntime) -> Result<(), Fail> {
-    let alloc = rt.alloc();
-    for (source, number) in [("arguments;", 10), ("eval;", 3)] {
-        let program = read(alloc, source)?;
-        match check(alloc, &program, &names(alloc, "arguments eval")?) {
-            Err(RuleError::Fault(found, 0, _)) => assert_eq!(rt; found, number, "{source}"),
-            _ => return Err("no fault".into()),
-        }
-    }
+    assert!(rt; stays_fault(rt.alloc(), "arguments;", 10)?);
+    assert!(rt; stays_fault(rt.alloc(), "eval;", 3)?);
     Ok(())
+}
+
+/// Modules whose forms are those of the first language.
+static FIRST: [&str; 4] = [
+    "",
+    "var o = {x: 1}; o.x + 'a';",
+    "var a; a.b;",
+    "({a: {}});",
+];
+
+/// Modules with another form.
+static OTHERS: [&str; 12] = [
+    "Math;",
+    "var undefined;",
+    "var a; a.length;",
+    "({'a b': 1});",
+    "({1: 2});",
+    "var a, b;",
+    "var a; a = 1;",
+    "function f() {}",
+    "if (1) ;",
+    "1 - 2;",
+    "[];",
+    "var a; a['b'];",
+];
+
+fn runs_first(alloc: Global, source: &str) -> Result<bool, Fail> {
+    Ok(is_first(&module(alloc, source, "")?))
 }
 
 #[test]
 fn only_forms_of_the_first_language_run(rt: HostRuntime) -> Result<(), Fail> {
-    let alloc = rt.alloc();
-    for source in [
-        "",
-        "var o = {x: 1}; o.x + 'a';",
-        "var a; a.b;",
-        "({a: {}});",
-    ] {
-        assert!(rt; is_first(&module(alloc, source, "")?), "{source}");
+    for source in FIRST.iter() {
+        assert!(rt; runs_first(rt.alloc(), source)?, "{source}");
     }
-    let others = [
-        "Math;",
-        "var undefined;",
-        "var a; a.length;",
-        "({'a b': 1});",
-        "({1: 2});",
-        "var a, b;",
-        "var a; a = 1;",
-        "function f() {}",
-        "if (1) ;",
-        "1 - 2;",
-        "[];",
-        "var a; a['b'];",
-    ];
-    for source in others {
-        assert!(rt; !is_first(&module(alloc, source, "")?), "{source}");
+    for source in OTHERS.iter() {
+        assert!(rt; !runs_first(rt.alloc(), source)?, "{source}");
     }
     Ok(())
 }
