@@ -78,49 +78,69 @@ fn value_of(answer: Guarded) -> Value {
     }
 }
 
+/// What the key `x` reads in a record of these keys and values.
+fn x_of(alloc: Global, heap: &mut Heap, all: &[(&str, i64)]) -> Result<Option<i64>, Memory> {
+    let x = text(alloc, b"x")?;
+    let items = pairs(alloc, heap, all)?;
+    let record = value_of(initialize_map(alloc, heap, 2, &items));
+    Ok(number_of(read_public(alloc, heap, 2, &record, &x)))
+}
+
 #[test]
 fn a_record_has_the_last_value_of_each_key(rt: HostRuntime) -> Result<(), Fail> {
-    let alloc = rt.alloc();
-    let x = text(alloc, b"x")?;
-    let mut heap = Heap::new(alloc)?;
-    let once = pairs(alloc, &mut heap, &[("x", 1)])?;
-    let twice = pairs(alloc, &mut heap, &[("x", 1), ("x", 2)])?;
-    for (items, value) in [(once, 1), (twice, 2)] {
-        let record = value_of(initialize_map(alloc, &mut heap, 2, &items));
-        let answer = read_public(alloc, &mut heap, 2, &record, &x);
-        assert_eq!(rt; number_of(answer), Some(value));
-    }
+    let mut heap = Heap::new(rt.alloc())?;
+    let once = x_of(rt.alloc(), &mut heap, &[("x", 1)])?;
+    assert_eq!(rt; once, Some(1));
+    let twice = x_of(rt.alloc(), &mut heap, &[("x", 1), ("x", 2)])?;
+    assert_eq!(rt; twice, Some(2));
     Ok(())
+}
+
+/// Whether the record has no public property of this name.
+fn lacks(alloc: Global, heap: &mut Heap, record: &Value, name: &str) -> Result<bool, Memory> {
+    let key = text(alloc, name.as_bytes())?;
+    Ok(is_undefined(read_public(alloc, heap, 2, record, &key)))
 }
 
 #[test]
 fn what_is_absent_or_hidden_reads_as_undefined(rt: HostRuntime) -> Result<(), Fail> {
-    let alloc = rt.alloc();
-    let mut heap = Heap::new(alloc)?;
-    let items = pairs(alloc, &mut heap, &[("x", 1), ("x__", 2)])?;
-    let record = value_of(guard_row(alloc, &mut heap, 5, 2, &[items]));
-    for name in ["y", "x__"] {
-        let key = text(alloc, name.as_bytes())?;
-        let answer = read_public(alloc, &mut heap, 2, &record, &key);
-        assert!(rt; is_undefined(answer), "{name}");
-    }
+    let mut heap = Heap::new(rt.alloc())?;
+    let items = pairs(rt.alloc(), &mut heap, &[("x", 1), ("x__", 2)])?;
+    let record = value_of(guard_row(rt.alloc(), &mut heap, 5, 2, &[items]));
+    assert!(rt; lacks(rt.alloc(), &mut heap, &record, "y")?);
+    assert!(rt; lacks(rt.alloc(), &mut heap, &record, "x__")?);
     Ok(())
+}
+
+/// The number of a guard's row, that of the error that it throws, and the message.
+static ERRORS: [(u32, u32, &str); 3] = [
+    (7, 0, "no object"),
+    (5, 1, "bad argument"),
+    (4, 2, "not a function"),
+];
+
+/// Whether a guard throws this error.
+fn throws(
+    alloc: Global,
+    heap: &mut Heap,
+    row: u32,
+    number: u32,
+    message: &str,
+) -> Result<bool, Memory> {
+    let expected = Units::from_ascii(alloc, message.as_bytes())?;
+    let answer = guard_row(alloc, heap, row, 3, &[]);
+    let (tag, thrown) = error_of(alloc, heap, answer)?;
+    Ok(tag == Tag::Made(3, number) && is_text(&thrown, &expected))
 }
 
 #[test]
 fn an_error_of_a_guard_is_named_for_the_running_module(rt: HostRuntime) -> Result<(), Fail> {
-    let alloc = rt.alloc();
-    let mut heap = Heap::new(alloc)?;
-    for (row, number, message) in [
-        (7, 0, "no object"),
-        (5, 1, "bad argument"),
-        (4, 2, "not a function"),
-    ] {
-        let answer = guard_row(alloc, &mut heap, row, 3, &[]);
-        let (tag, thrown) = error_of(alloc, &heap, answer)?;
-        let expected = Units::from_ascii(alloc, message.as_bytes())?;
-        assert_eq!(rt; tag, Tag::Made(3, number), "{message}");
-        assert!(rt; is_text(&thrown, &expected), "{message}");
+    let mut heap = Heap::new(rt.alloc())?;
+    for (row, number, message) in ERRORS.iter() {
+        assert!(rt;
+            throws(rt.alloc(), &mut heap, *row, *number, message)?,
+            "{message}"
+        );
     }
     Ok(())
 }

@@ -109,7 +109,10 @@ static LIMITS: [(&str, usize, &str); 4] = [
 #[test]
 fn limit_comes_first(rt: HostRuntime) -> Result<(), Fail> {
     for (source, limit, wanted) in LIMITS.iter() {
-        assert!(rt; is_cut(rt.alloc(), source.as_bytes(), *limit, wanted)?, "{source}");
+        assert!(rt;
+            is_cut(rt.alloc(), source.as_bytes(), *limit, wanted)?,
+            "{source}"
+        );
     }
     assert!(rt; is_cut(rt.alloc(), &[b'#', 0xFF], 1, "TooLong(0)")?);
     Ok(())

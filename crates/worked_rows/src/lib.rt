@@ -19,13 +19,19 @@ mod guard_rows;
 #[cfg(test)]
 mod heap_rows;
 #[cfg(test)]
+mod io_rows;
+#[cfg(test)]
 mod lexer_rows;
 #[cfg(test)]
 mod lexer_tables;
 #[cfg(test)]
+mod lists;
+#[cfg(test)]
 mod loader_rows;
 #[cfg(test)]
 mod machine_rows;
+#[cfg(test)]
+mod number_rows;
 #[cfg(test)]
 mod page_rows;
 #[cfg(test)]
@@ -50,3 +56,5 @@ mod statement_rows;
 mod statement_tables;
 #[cfg(test)]
 mod tree_rows;
+#[cfg(test)]
+mod unit_rows;

@@ -3,6 +3,7 @@
 ghost use Rattle.es3_heap.specs.declared.value.Value.TheVariants.{Undefined};
 ghost use Rattle.es3_meaning.specs.Natives.{throw_reply};
 
+use crate::lists::alone;
 use caja_num::Whole;
 use caja_units::{Memory, Units};
 use es3_control::Touch;
@@ -52,16 +53,20 @@ impl Natives for Silent {
     }
 }
 
+/// A machine that is about to run a program.
+fn started(alloc: Global, heap: &mut Heap, body: Vec<Stmt>) -> Result<Machine, Memory> {
+    let above = heap.proto(Proto::Object);
+    let globals = heap.make(Class::Object, Some(above))?;
+    let mut machine = Machine::new(alloc, globals)?;
+    machine.start_program(Program { body }, 0)?;
+    Ok(machine)
+}
+
 /// Runs a program in a new store.
 fn run(alloc: Global, body: Vec<Stmt>, steps: u64) -> Result<(Completion, u64), Stop> {
-    let mut h = Heap::new(alloc).map_err(out_of_memory)?;
-    let above = h.proto(Proto::Object);
-    let globals = h.make(Class::Object, Some(above)).map_err(out_of_memory)?;
-    let mut machine = Machine::new(alloc, globals).map_err(out_of_memory)?;
-    machine
-        .start_program(Program { body }, 0)
-        .map_err(out_of_memory)?;
-    machine.run(&mut h, &mut Silent, steps)
+    let mut heap = Heap::new(alloc).map_err(out_of_memory)?;
+    let mut machine = started(alloc, &mut heap, body).map_err(out_of_memory)?;
+    machine.run(&mut heap, &mut Silent, steps)
 }
 
 fn name(alloc: Global, text: &str) -> Result<Name, Memory> {
@@ -69,12 +74,21 @@ fn name(alloc: Global, text: &str) -> Result<Name, Memory> {
     Ok(Name { text, at: 0 })
 }
 
+fn named(alloc: Global, text: &str) -> Result<Expr, Memory> {
+    Ok(Expr::Name(name(alloc, text)?))
+}
+
+fn number(v: i64) -> Expr {
+    match Whole::new(v) {
+        Some(n) => Expr::Num(n),
+        None => Expr::Null,
+    }
+}
+
 /// `1 + 2`.
-fn sum(alloc: Global) -> Result<Vec<Stmt>, Fail> {
-    let one = Expr::Num(Whole::new(1).ok_or("1")?);
-    let two = Expr::Num(Whole::new(2).ok_or("2")?);
-    let sum = make_binary(alloc, BinOp::Add, one, two)?;
-    Ok(vec![in alloc; Stmt::Expr(sum)]?)
+fn sum(alloc: Global) -> Result<Vec<Stmt>, Memory> {
+    let sum = make_binary(alloc, BinOp::Add, number(1), number(2))?;
+    alone(alloc, Stmt::Expr(sum))
 }
 
 /// Whether a run came to a number.
@@ -87,8 +101,7 @@ fn is_number(completion: &Completion, number: i64) -> bool {
 
 #[test]
 fn a_sum_of_two_numbers_takes_four_steps(rt: HostRuntime) -> Result<(), Fail> {
-    let alloc = rt.alloc();
-    let (completion, taken) = run(alloc, sum(alloc)?, 4)?;
+    let (completion, taken) = run(rt.alloc(), sum(rt.alloc())?, 4)?;
     assert_eq!(rt; taken, 4);
     assert!(rt; is_number(&completion, 3));
     Ok(())
@@ -96,80 +109,86 @@ fn a_sum_of_two_numbers_takes_four_steps(rt: HostRuntime) -> Result<(), Fail> {
 
 #[test]
 fn steps_are_spent_where_one_is_wanted(rt: HostRuntime) -> Result<(), Fail> {
-    let alloc = rt.alloc();
-    match run(alloc, sum(alloc)?, 3) {
-        Err(stop) => assert_eq!(rt; stop, Stop::Steps),
-        Ok(_) => assert!(rt; false),
-    }
+    let stop = run(rt.alloc(), sum(rt.alloc())?, 3).err();
+    assert_eq!(rt; stop, Some(Stop::Steps));
     Ok(())
+}
+
+/// A function without a name that returns a value.
+fn returning(alloc: Global, params: Vec<Name>, value: Expr) -> Result<Expr, Memory> {
+    let body = alone(alloc, make_return(Some(value), 0))?;
+    let function = Func {
+        name: None,
+        params,
+        body,
+        at: 0,
+    };
+    Ok(make_function(alloc, function)?)
+}
+
+/// `function (x) { return x; }`
+fn identity(alloc: Global) -> Result<Expr, Memory> {
+    let params = alone(alloc, name(alloc, "x")?)?;
+    let x = named(alloc, "x")?;
+    returning(alloc, params, x)
+}
+
+/// `(function (x) { return x; })("a")`
+fn identity_of_a(alloc: Global) -> Result<Vec<Stmt>, Memory> {
+    let arguments = alone(alloc, Expr::Text(Units::from_ascii(alloc, b"a")?))?;
+    let call = make_call(alloc, identity(alloc)?, arguments)?;
+    alone(alloc, Stmt::Expr(call))
+}
+
+/// Whether a run came to a text.
+fn is_text(completion: &Completion, text: &Units) -> bool {
+    match completion {
+        Completion::Normal(Value::Text(found)) => found.same(text),
+        _ => false,
+    }
 }
 
 #[test]
 fn a_call_gives_what_the_function_returns(rt: HostRuntime) -> Result<(), Fail> {
-    let alloc = rt.alloc();
-    let body = vec![in alloc; make_return(Some(Expr::Name(name(alloc, "x")?)), 0)]?;
-    let params = vec![in alloc; name(alloc, "x")?]?;
-    let function = make_function(
-        alloc,
-        Func {
-            name: None,
-            params,
-            body,
-            at: 0,
-        },
-    )?;
-    let text = Units::from_ascii(alloc, b"a")?;
-    let call = make_call(alloc, function, vec![in alloc; Expr::Text(text)]?)?;
-    let (completion, _taken) = run(alloc, vec![in alloc; Stmt::Expr(call)]?, 100)?;
-    match completion {
-        Completion::Normal(Value::Text(text)) => assert!(rt;
-            text.same(&Units::from_ascii(alloc, b"a")?)
-        ),
-        _other => assert!(rt; false),
-    }
+    let a = Units::from_ascii(rt.alloc(), b"a")?;
+    let (completion, _taken) = run(rt.alloc(), identity_of_a(rt.alloc())?, 100)?;
+    assert!(rt; is_text(&completion, &a));
     Ok(())
+}
+
+/// `f()`
+fn call_of_f(alloc: Global) -> Result<Expr, Memory> {
+    let f = named(alloc, "f")?;
+    Ok(make_call(alloc, f, Vec::new(alloc))?)
+}
+
+/// `f = function () { return f(); }`
+fn endless(alloc: Global) -> Result<Expr, Memory> {
+    let again = call_of_f(alloc)?;
+    let function = returning(alloc, Vec::new(alloc), again)?;
+    let f = named(alloc, "f")?;
+    Ok(make_assign(alloc, None, f, function)?)
+}
+
+/// `f = function () { return f(); }; f();`
+fn endless_calls(alloc: Global) -> Result<Vec<Stmt>, Memory> {
+    let mut body = alone(alloc, Stmt::Expr(endless(alloc)?))?;
+    body.push(Stmt::Expr(call_of_f(alloc)?))?;
+    Ok(body)
 }
 
 #[test]
 fn a_function_that_calls_itself_stops_by_depth(rt: HostRuntime) -> Result<(), Fail> {
-    let alloc = rt.alloc();
-    let again = make_call(alloc, Expr::Name(name(alloc, "f")?), Vec::new(alloc))?;
-    let function = make_function(
-        alloc,
-        Func {
-            name: None,
-            params: Vec::new(alloc),
-            body: vec![in alloc; make_return(Some(again), 0)]?,
-            at: 0,
-        },
-    )?;
-    let define = make_assign(alloc, None, Expr::Name(name(alloc, "f")?), function)?;
-    let call = make_call(alloc, Expr::Name(name(alloc, "f")?), Vec::new(alloc))?;
-    match run(
-        alloc,
-        vec![in alloc; Stmt::Expr(define), Stmt::Expr(call)]?,
-        100_000,
-    ) {
-        Err(stop) => assert_eq!(rt; stop, Stop::Depth),
-        Ok(_) => assert!(rt; false),
-    }
+    let stop = run(rt.alloc(), endless_calls(rt.alloc())?, 100_000).err();
+    assert_eq!(rt; stop, Some(Stop::Depth));
     Ok(())
 }
 
 #[test]
 fn an_unbound_name_throws(rt: HostRuntime) -> Result<(), Fail> {
-    let alloc = rt.alloc();
-    let (completion, taken) = run(
-        alloc,
-        vec![in alloc; Stmt::Expr(Expr::Name(name(alloc, "x")?))]?,
-        100,
-    )?;
+    let body = alone(rt.alloc(), Stmt::Expr(named(rt.alloc(), "x")?))?;
+    let (completion, taken) = run(rt.alloc(), body, 100)?;
     assert_eq!(rt; taken, 2);
-    match completion {
-        Completion::Thrown(Value::Obj(_)) => Ok(()),
-        _other => {
-            assert!(rt; false);
-            Ok(())
-        }
-    }
+    assert!(rt; matches!(&completion, Completion::Thrown(Value::Obj(_))));
+    Ok(())
 }

@@ -117,7 +117,14 @@ fn is_limit(alloc: Global, row: &LimitRow) -> Result<bool, Fail> {
 #[test]
 fn the_limit_is_exact(rt: HostRuntime) -> Result<(), Fail> {
     for row in LIMITS.iter() {
-        assert!(rt; is_limit(rt.alloc(), row)?, "{}{}{}{}", row.0, row.1, row.2, row.3);
+        assert!(rt;
+            is_limit(rt.alloc(), row)?,
+            "{}{}{}{}",
+            row.0,
+            row.1,
+            row.2,
+            row.3
+        );
     }
     Ok(())
 }

@@ -5,6 +5,7 @@ ghost use Rattle.es3_tree.specs.Tree as tree;
 ghost use Rattle.es3_tree.specs.View.{expr, stmt, func, program};
 ghost use Rattle.es3_tree.specs.Measure.{nest, count};
 
+use crate::lists::alone;
 use caja_units::Units;
 use es3_tree::{
     BinOp, Case, Expr, First, Func, Loop, Name, Program, Stmt, UnOp, VarItem, depth, make_and,
@@ -34,7 +35,7 @@ fn variable(alloc: Global) -> Result<Expr, Fail>
 fn call(alloc: Global) -> Result<Expr, Fail>
     ensures { IfOk result (λ x. (nest tree.expr (expr x) ≡ 2) × (count tree.expr (expr x) ≡ 3)) }
 {
-    let arguments = Vec::from_array(alloc, [variable(alloc)?])?;
+    let arguments = alone(alloc, variable(alloc)?)?;
     Ok(make_call(alloc, variable(alloc)?, arguments)?)
 }
 
@@ -50,7 +51,7 @@ fn walk(alloc: Global) -> Result<Stmt, Fail>
 fn attempt(alloc: Global) -> Result<Stmt, Fail>
     ensures { IfOk result (λ s. (nest tree.stmt (stmt s) ≡ 4) × (count tree.stmt (stmt s) ≡ 5)) }
 {
-    let body = Vec::from_array(alloc, [Stmt::Expr(call(alloc)?)])?;
+    let body = alone(alloc, Stmt::Expr(call(alloc)?))?;
     Ok(make_try(body, Some((letter(alloc)?, Vec::new(alloc))), None))
 }
 
@@ -65,10 +66,11 @@ fn branch(alloc: Global) -> Result<Stmt, Fail>
 fn declared(alloc: Global) -> Result<Stmt, Fail>
     ensures { IfOk result (λ s. (nest tree.stmt (stmt s) ≡ 7) × (count tree.stmt (stmt s) ≡ 12)) }
 {
-    let params = Vec::from_array(alloc, [letter(alloc)?])?;
-    let body = Vec::from_array(alloc, [branch(alloc)?])?;
+    let params = alone(alloc, letter(alloc)?)?;
+    let name = Some(letter(alloc)?);
+    let body = alone(alloc, branch(alloc)?)?;
     Ok(make_declaration(Func {
-        name: Some(letter(alloc)?),
+        name,
         params,
         body,
         at: 0,
@@ -78,9 +80,8 @@ fn declared(alloc: Global) -> Result<Stmt, Fail>
 fn script(alloc: Global) -> Result<Program, Fail>
     ensures { IfOk result (λ p. (nest tree.program (program p) ≡ 7) × (count tree.program (program p) ≡ 12)) }
 {
-    Ok(Program {
-        body: Vec::from_array(alloc, [declared(alloc)?])?,
-    })
+    let body = alone(alloc, declared(alloc)?)?;
+    Ok(Program { body })
 }
 
 #[test]
@@ -131,23 +132,21 @@ fn heads(alloc: Global) -> Result<Stmt, Fail> {
         name: letter(alloc)?,
         value: None,
     };
-    let start = make_first_var(Vec::from_array(alloc, [item])?);
+    let start = make_first_var(alone(alloc, item)?);
     Ok(make_for(alloc, start, None, None, make_continue(None, 0))?)
 }
 
+// The cases of a `switch` without a test.
+fn cases(alloc: Global, body: Vec<Stmt>) -> Result<Stmt, Fail> {
+    let cases = alone(alloc, Case { test: None, body })?;
+    Ok(make_switch(Expr::Null, cases))
+}
+
 fn lists(alloc: Global) -> Result<Stmt, Fail> {
-    let body = Vec::from_array(
-        alloc,
-        [
-            make_return(None, 0),
-            make_var(Vec::new(alloc)),
-            make_block(Vec::new(alloc)),
-        ],
-    )?;
-    Ok(make_switch(
-        Expr::Null,
-        Vec::from_array(alloc, [Case { test: None, body }])?,
-    ))
+    let mut body = alone(alloc, make_return(None, 0))?;
+    body.push(make_var(Vec::new(alloc)))?;
+    body.push(make_block(Vec::new(alloc)))?;
+    cases(alloc, body)
 }
 
 #[test]
