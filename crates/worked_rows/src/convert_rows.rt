@@ -1,8 +1,9 @@
 //! Conversions of values, and sums, each call once where it succeeds.
 
+use crate::lists::alone;
 use crate::samples::made;
 use caja_num::Whole;
-use caja_units::Units;
+use caja_units::{Memory, Units};
 use es3_convert::{add, number_text, out_of_memory, to_primitive, to_text};
 use es3_heap::{Heap, Stop, Value};
 use std::alloc::Global;
@@ -22,17 +23,18 @@ fn is_same(a: &Value, b: &Value) -> bool {
 }
 
 /// An array whose items are null, the value and undefined.
-fn around(alloc: Global, heap: &mut Heap, value: Value) -> Result<Value, Stop> {
-    let items = Vec::from_array(alloc, [Value::Null, value, Value::Undefined]);
-    let array = heap.make_array(items.map_err(|_| Stop::Memory)?);
-    array.map(Value::Obj).map_err(out_of_memory)
+fn around(alloc: Global, heap: &mut Heap, value: Value) -> Result<Value, Memory> {
+    let mut items = alone(alloc, Value::Null)?;
+    items.push(value)?;
+    items.push(Value::Undefined)?;
+    Ok(Value::Obj(heap.make_array(items)?))
 }
 
 /// Arrays in one another, each between null and undefined, so many that the innermost, which is empty, is `deep` arrays deep.
 fn nested(alloc: Global, heap: &mut Heap, deep: usize) -> Result<Value, Stop> {
     let mut value = made(alloc, heap, "[]")?;
     for _around in 1..deep {
-        value = around(alloc, heap, value)?;
+        value = around(alloc, heap, value).map_err(out_of_memory)?;
     }
     Ok(value)
 }

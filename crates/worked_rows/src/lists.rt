@@ -9,5 +9,7 @@ use std::alloc::Global;
 pub fn alone<T: Drop>(alloc: Global, item: T) -> Result<Vec<T>, Memory>
     ensures { IfOk result (λ v. v.items ≡ item ∷ []) }
 {
-    Ok(Vec::from_array(alloc, [item])?)
+    let mut list = Vec::new(alloc);
+    list.push(item)?;
+    Ok(list)
 }

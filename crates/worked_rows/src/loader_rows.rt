@@ -1,5 +1,6 @@
 //! What the natives of an opened page answer.
 
+use crate::lists::alone;
 use caja_units::Memory;
 use es3_control::natives::{Answer, Natives};
 use es3_heap::{FuncKind, Value};
@@ -17,7 +18,7 @@ fn calls(alloc: Global, is_function: bool) -> Result<bool, Memory> {
     } = open(alloc)?;
     let function = heap.make_func(FuncKind::Code(0), 0)?;
     let callee = if is_function { function } else { imports };
-    let args = vec![in alloc; Value::Obj(callee)]?;
+    let args = alone(alloc, Value::Obj(callee))?;
     let mut natives = PageNatives { runtime, imports };
     match natives.call(alloc, &mut heap, 0, 0, &Value::Undefined, &args) {
         Answer::Invoke(_, _, _, _) => Ok(true),
