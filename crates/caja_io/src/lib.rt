@@ -17,6 +17,3 @@ pub use sink::{Sink, write_all};
 pub use source::{Source, read_all};
 pub use std_sink::StdSink;
 pub use std_source::StdSource;
-
-#[cfg(test)]
-mod tests;

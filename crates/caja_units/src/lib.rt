@@ -11,8 +11,6 @@ ghost use Rattle.caja_units.specs.Index.{array_index};
 mod decode;
 mod print;
 mod search;
-#[cfg(test)]
-mod tests;
 
 use std::alloc::{AllocError, AllocFailed, Global};
 use std::marker::Model;
