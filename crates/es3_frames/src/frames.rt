@@ -177,3 +177,30 @@ pub enum State {
     /// This token.
     Await(Punct, After),
 }
+
+// A drop of an enum in place is a case of the proof for each of its variants, and of theirs; in these calls it is one step.
+
+fn let_go<T: Drop>(value: T) {
+    let _ = value;
+}
+
+impl Body {
+    /// Lets it go.
+    pub fn let_go(self) {
+        let_go(self);
+    }
+}
+
+impl Frame {
+    /// Lets it go.
+    pub fn let_go(self) {
+        let_go(self);
+    }
+}
+
+impl State {
+    /// Lets it go.
+    pub fn let_go(self) {
+        let_go(self);
+    }
+}

@@ -39,7 +39,10 @@ fn close(alloc: Global, frame: Frame, part: Part) -> Result<Option<Part>, Memory
 {
     match frame {
         Frame::Waiting(waiting) => filled(alloc, waiting, part),
-        Frame::Bracket(_) | Frame::Root(_) | Frame::Outer(_) | Frame::List(_, _) => Ok(None),
+        frame => {
+            frame.let_go();
+            Ok(None)
+        }
     }
 }
 
@@ -64,7 +67,10 @@ fn phrase(alloc: Global, stack: Stack, state: State) -> Result<Option<Expr>, Mem
 {
     match state {
         State::Have(part) | State::Past(part) => finished(alloc, stack, part),
-        _ => Ok(None),
+        state => {
+            state.let_go();
+            Ok(None)
+        }
     }
 }
 
@@ -109,10 +115,12 @@ fn longest(alloc: Global, tokens: &[Token], end: u32, nest: u32) -> Result<usize
             None => return best.ok_or(ReadError::Syntax(token.start)),
         }
         if !is_within(&state, &stack, brackets, nest) {
+            state.let_go();
             return best.ok_or(ReadError::TooDeep(0));
         }
         best = better(is_phrase(&state, &stack), before + 1, best);
     }
+    state.let_go();
     best.ok_or(ReadError::Syntax(end))
 }
 

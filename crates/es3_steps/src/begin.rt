@@ -196,7 +196,10 @@ fn as_list(frame: Frame) -> Option<(Body, Stmts)>
 {
     match frame {
         Frame::List(body, statements) => Some((body, statements)),
-        Frame::Waiting(_) | Frame::Bracket(_) | Frame::Root(_) | Frame::Outer(_) => None,
+        frame => {
+            frame.let_go();
+            None
+        }
     }
 }
 
@@ -227,12 +230,10 @@ fn after_clause(
             let clauses = clauses.with(test, statements)?;
             clause(alloc, stack, value, clauses, token)
         }
-        Body::Program
-        | Body::Block
-        | Body::Function(_, _)
-        | Body::Try
-        | Body::Catch(_, _)
-        | Body::Finally(_, _) => Ok(None),
+        body => {
+            body.let_go();
+            Ok(None)
+        }
     }
 }
 

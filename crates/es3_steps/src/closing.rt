@@ -11,6 +11,7 @@ ghost use Rattle.es3_frames.specs.Lists.{clause_of};
 ghost use Rattle.es3_frames.specs.Views.{bracket_of, frame_of, next_of, root_of, spot_of, stack_of, state_of, outer_of};
 
 use crate::lists::{after_field, after_item};
+use crate::opens::opens;
 use crate::variables::after_variable;
 use caja_units::Memory;
 use es3_expr::is_target;
@@ -28,6 +29,7 @@ fn at(token: &Token, punct: Punct, state: State) -> Option<State>
     if is_punct(&token.kind, punct) {
         Some(state)
     } else {
+        state.let_go();
         None
     }
 }
@@ -45,10 +47,11 @@ fn within(
         ≡ when (is (punct_spec (punct_number punct)) (spot_of token.now)) (state_of state (frame_of frame ∷ stack_of stack.old))) }
 {
     if !is_punct(&token.kind, punct) {
+        frame.let_go();
+        state.let_go();
         return Ok(None);
     }
-    stack.push(frame)?;
-    Ok(Some(state))
+    opens(stack, frame, state)
 }
 
 /// The key of a member ends (ES3 11.2.1).
@@ -214,13 +217,8 @@ pub fn closes(
         Frame::Bracket(bracket) => bracket_closes(alloc, stack, bracket, part, token),
         Frame::Root(root) => root_closes(alloc, stack, root, part, token),
         frame => {
-            let_go(frame);
+            frame.let_go();
             Ok(None)
         }
     }
-}
-
-// A drop in a function of its own: elsewhere each variant would be a case of the proof.
-fn let_go(frame: Frame) {
-    let _ = frame;
 }

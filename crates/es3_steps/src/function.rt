@@ -18,6 +18,7 @@ ghost use Rattle.es3_grammar.specs.Plain.{deep};
 ghost use Rattle.es3_grammar.specs.Sums.{capped};
 ghost use Rattle.es3_frames.specs.Views.{head_of, next_of, spot_of, stack_of, state_of};
 
+use crate::opens::longer;
 use caja_units::Memory;
 use es3_frames::frames::{After, Body, Frame, Head, State};
 use es3_frames::parts::{Done, Part, Stmts, above};
@@ -123,8 +124,7 @@ fn declare(stack: &mut Stack, function: Func, depth: u32) -> Result<State, Memor
     match stack.pop() {
         Some(Frame::List(body, list)) => {
             let tree = make_declaration(function);
-            let list = list.with(Done { tree, depth })?;
-            stack.push(Frame::List(body, list))?;
+            stack.push(longer(body, list, Done { tree, depth })?)?;
         }
         Some(frame) => stack.push(frame)?,
         None => {}

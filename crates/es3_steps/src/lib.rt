@@ -8,6 +8,7 @@ mod closing;
 pub mod function;
 pub mod heads;
 pub mod lists;
+mod opens;
 pub mod operand;
 pub mod resume;
 pub mod settle;

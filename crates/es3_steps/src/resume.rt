@@ -8,6 +8,7 @@ ghost use Rattle.es3_steps.specs.Resumed.{resumed};
 ghost use Rattle.es3_frames.specs.Views.{frame_of, next_of, outer_of, spot_of, stack_of};
 
 use crate::begin::begin;
+use crate::opens::{longer, opens};
 use caja_units::Memory;
 use es3_frames::frames::{After, Frame, Outer, Root, State};
 use es3_frames::parts::{Done, Part};
@@ -89,11 +90,11 @@ fn within(alloc: Global, frame: Frame, done: Done, token: &Token) -> Result<Resu
 {
     match frame {
         Frame::Outer(outer) => after_outer(alloc, outer, done, token),
-        Frame::List(body, statements) => {
-            let statements = statements.with(done)?;
-            Ok(Resumed::Begins(Frame::List(body, statements)))
+        Frame::List(body, statements) => Ok(Resumed::Begins(longer(body, statements, done)?)),
+        frame => {
+            frame.let_go();
+            Ok(Resumed::Refused)
         }
-        Frame::Waiting(_) | Frame::Bracket(_) | Frame::Root(_) => Ok(Resumed::Refused),
     }
 }
 
@@ -112,10 +113,7 @@ pub fn resume(
     while let Some(frame) = stack.pop() {
         match within(alloc, frame, whole, token)? {
             Resumed::Whole(done) => whole = done,
-            Resumed::Opens(frame, state) => {
-                stack.push(frame)?;
-                return Ok(Some(state));
-            }
+            Resumed::Opens(frame, state) => return opens(stack, frame, state),
             Resumed::Begins(frame) => {
                 stack.push(frame)?;
                 return begin(alloc, stack, token);

@@ -127,7 +127,9 @@ fn arguments(alloc: Global, stack: &mut Stack, callee: Part) -> State
     ensures { state_of result (stack_of stack.new) ≡ arguments_spec (expr callee.tree) (stack_of stack.old) }
 {
     if stack.behind_new() {
-        let _new = stack.pop();
+        if let Some(new) = stack.pop() {
+            new.let_go();
+        }
         State::Listed(Opened::New(callee), Exprs::new(alloc))
     } else {
         State::Listed(Opened::Call(callee), Exprs::new(alloc))

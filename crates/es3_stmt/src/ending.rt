@@ -6,7 +6,7 @@ ghost use Rattle.es3_grammar.specs.Frames.{Stack as Frames, a_program, body as l
 ghost use Rattle.es3_grammar.specs.Machine.{all_of as all_of_spec, ending as ending_spec, program_at as program_at_spec};
 ghost use Rattle.es3_grammar.specs.Within.{reading_of};
 ghost use Rattle.es3_stmt.specs.Endings.{ended, closed};
-ghost use Rattle.es3_frames.specs.Views.{frame_of, outer_of, stack_of, state_of};
+ghost use Rattle.es3_frames.specs.Views.{body_of, frame_of, outer_of, stack_of, state_of};
 
 use caja_units::Memory;
 use es3_frames::frames::{Body, Frame, Outer, State};
@@ -40,13 +40,40 @@ fn script(stack: &Stack, statements: Stmts) -> Option<Program>
     }
 }
 
+/// A program, if the list of statements is its, and nothing is open round it.
+fn list_script(stack: &Stack, body: Body, statements: Stmts) -> Option<Program>
+    ensures { ended result
+        ≡ reading_of (program_at_spec (list_frame (body_of body) (map stmt statements.list.items) ∷ stack_of stack.now)) }
+{
+    match body {
+        Body::Program => script(stack, statements),
+        body => {
+            body.let_go();
+            None
+        }
+    }
+}
+
+/// A program, if the frame is a list of its statements, and nothing is open round it.
+fn frame_script(stack: &Stack, frame: Frame) -> Option<Program>
+    ensures { ended result ≡ reading_of (program_at_spec (frame_of frame ∷ stack_of stack.now)) }
+{
+    match frame {
+        Frame::List(body, statements) => list_script(stack, body, statements),
+        frame => {
+            frame.let_go();
+            None
+        }
+    }
+}
+
 /// A program, if a list of its statements is innermost and nothing is open round it.
 fn program_at(mut stack: Stack) -> Option<Program>
     ensures { ended result ≡ reading_of (program_at_spec (stack_of stack)) }
 {
     match stack.pop() {
-        Some(Frame::List(Body::Program, statements)) => script(&stack, statements),
-        _ => None,
+        Some(frame) => frame_script(&stack, frame),
+        None => None,
     }
 }
 
@@ -68,6 +95,22 @@ fn close_outer(alloc: Global, outer: Outer, done: Done) -> Result<Closed, Memory
     }))
 }
 
+/// What a list of statements makes of the last one within it: a program's is whole, another wants its `}`.
+#[tactic(auto, unfolding(es3_grammar::specs::Machine::all_of))]
+fn close_list(body: Body, statements: Stmts, done: Done) -> Result<Closed, Memory>
+    ensures { IfOk result (λ r. (k : Frames) →
+        closed r k
+        ≡ reading_of (all_of_spec (list_frame (body_of body) (map stmt statements.list.items) ∷ k) (stmt done.tree))) }
+{
+    match body {
+        Body::Program => Ok(Closed::Program(statements.with(done)?)),
+        body => {
+            body.let_go();
+            Ok(Closed::Open)
+        }
+    }
+}
+
 #[tactic(auto, unfolding(es3_grammar::specs::Machine::all_of))]
 fn close(alloc: Global, frame: Frame, done: Done) -> Result<Closed, Memory>
     ensures { IfOk result (λ r. (k : Frames) →
@@ -75,8 +118,11 @@ fn close(alloc: Global, frame: Frame, done: Done) -> Result<Closed, Memory>
 {
     match frame {
         Frame::Outer(outer) => close_outer(alloc, outer, done),
-        Frame::List(Body::Program, statements) => Ok(Closed::Program(statements.with(done)?)),
-        _ => Ok(Closed::Open),
+        Frame::List(body, statements) => close_list(body, statements, done),
+        frame => {
+            frame.let_go();
+            Ok(Closed::Open)
+        }
     }
 }
 
@@ -106,6 +152,9 @@ pub fn ending(alloc: Global, stack: Stack, state: State) -> Result<Option<Progra
         State::Caught(tried, name, handler) => {
             all_of(alloc, stack, Done::caught(tried, name, handler))
         }
-        _ => Ok(None),
+        state => {
+            state.let_go();
+            Ok(None)
+        }
     }
 }

@@ -62,6 +62,7 @@ pub fn read_program(alloc: Global, tokens: &Tokens, nest: u32) -> Result<Program
             None => return Err(ReadError::Syntax(token.start)),
         }
         if !is_within(&state, &stack, brackets, nest) {
+            state.let_go();
             return Err(ReadError::TooDeep(0));
         }
     }
