@@ -9,24 +9,24 @@ use Rattle.es3_printed.specs.Safe.{is_safe}
 use Rattle.es3_printed.specs.Back.{IsSpelled}
 use Rattle.es3_printed.proofs.ReadBack.{read_back, safe_where_spelled, spelled_where_read}
 use Rattle.page_cajole.specs.Source as s
-use Rattle.page_cajole.specs.Source.{Source, Spells, source_of, longest_source}
+use Rattle.page_cajole.specs.Source.{Source, Spells, source_of, source_limits}
 use Rattle.page_cajole.specs.Formatted.{text, text_of, formatted, IsFormatted}
 use Rattle.page_cajole.proofs.Spelled as spelled
 
-spelled_tree : (source : List ℕ) (p : Placed t.program) → Spells source p → IsSpelled (plain t.program p)
-spelled_tree source p h = spelled_where_read longest_source source h.spelled_by p h.cut h.within.spelled
+spelled_tree : (source : List ℕ) (p : Placed t.program) → Spells source_limits source p → IsSpelled (plain t.program p)
+spelled_tree source p h = spelled_where_read source_limits.longest source h.spelled_by p h.cut h.within.spelled
 
 -- a text is that of a program
 abbrev IsTextOf : List ℕ → List ℕ → Type 0
-IsTextOf source w = (p : Placed t.program) × Spells source p × (w ≡ printed (plain t.program p))
+IsTextOf source w = (p : Placed t.program) × Spells source_limits source p × (w ≡ printed (plain t.program p))
 
-text_spelled : (source w : List ℕ) (r : Source) → source_of source ≡ r → text_of r ≡ text w → IsTextOf source w
+text_spelled : (source w : List ℕ) (r : Source) → source_of source_limits source ≡ r → text_of r ≡ text w → IsTextOf source w
 text_spelled source w (s.uncut number at) is e = absurd cc
 text_spelled source w (s.unread number at) is e = absurd cc
-text_spelled source w (s.spelled p) is e = (p, spelled.spelled_where_read source p is, cc)
+text_spelled source w (s.spelled p) is e = (p, spelled.spelled_where_read source_limits source p is, cc)
 
 text_of_spelled : (source w : List ℕ) → formatted source ≡ text w → IsTextOf source w
-text_of_spelled source w e = text_spelled source w (source_of source) refl e
+text_of_spelled source w e = text_spelled source w (source_of source_limits source) refl e
 
 safe_text : (source w : List ℕ) → formatted source ≡ text w → IsTrue (is_safe w)
 safe_text source w e =
@@ -35,8 +35,8 @@ safe_text source w e =
 
 pub is_formatted : (source : List ℕ) → IsFormatted source
 is_formatted source = record {
-  one = spelled.one_tree source;
-  where_spelled = λ p h. ap text_of (spelled.read_where_spelled source p h);
+  one = spelled.one_tree source_limits source;
+  where_spelled = λ p h. ap text_of (spelled.read_where_spelled source_limits source p h);
   spelled = text_of_spelled source;
   back = λ p h. read_back (plain t.program p) (spelled_tree source p h);
   safe = safe_text source;

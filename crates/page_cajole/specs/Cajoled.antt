@@ -8,7 +8,7 @@ use Rattle.scope_rules.specs.Language.{is_first}
 use Rattle.scope_rules.specs.Faults.{Fault, faults, first}
 use Rattle.scope_rules.specs.Resolve.{module_of}
 use Rattle.cajita_rewrite.specs.Rewrite.{program_of}
-use Rattle.page_cajole.specs.Source.{Source, source_of}
+use Rattle.page_cajole.specs.Source.{Source, source_of, source_limits}
 use Rattle.page_cajole.specs.Source as s
 
 pub data Outcome : Type 0 where
@@ -47,4 +47,4 @@ outcome_of (s.unread number at) = unread number at
 outcome_of (s.spelled program) = outcome_of_body (statements program)
 
 abbrev pub outcome : List ℕ → Outcome
-outcome source = outcome_of (source_of source)
+outcome source = outcome_of (source_of source_limits source)

@@ -7,7 +7,7 @@ use Rattle.es3_printed.specs.Tokens.{printed}
 use Rattle.es3_printed.specs.Safe.{is_safe}
 use Rattle.es3_printed.specs.Back.{IsReadBack}
 use Rattle.page_cajole.specs.Source as s
-use Rattle.page_cajole.specs.Source.{Source, source_of, Spells}
+use Rattle.page_cajole.specs.Source.{Source, source_of, source_limits, Spells}
 use Rattle.page_cajole.specs.declared.formatting.FormatAnswer.{FormatAnswer}
 use Rattle.page_cajole.specs.declared.formatting.FormatAnswer.TheVariants as answer
 
@@ -24,7 +24,7 @@ text_of (s.unread number at) = unread number at
 text_of (s.spelled p) = text (printed (plain t.program p))
 
 abbrev pub formatted : List ℕ → Formatted
-formatted source = text_of (source_of source)
+formatted source = text_of (source_of source_limits source)
 
 -- what an answer says
 abbrev pub told : FormatAnswer → Formatted
@@ -34,8 +34,8 @@ told (answer.Unread number at) = unread number at
 
 -- a source is formatted to the text of the one program that it spells; that text is read as the same program, apart from places, and may stand in a page
 pub record IsFormatted (source : List ℕ) : Type 0 where
-  pub one : (p q : Placed t.program) → Spells source p → Spells source q → p ≡ q
-  pub where_spelled : (p : Placed t.program) → Spells source p → formatted source ≡ text (printed (plain t.program p))
-  pub spelled : (w : List ℕ) → formatted source ≡ text w → (p : Placed t.program) × Spells source p × (w ≡ printed (plain t.program p))
-  pub back : (p : Placed t.program) → Spells source p → IsReadBack (plain t.program p)
+  pub one : (p q : Placed t.program) → Spells source_limits source p → Spells source_limits source q → p ≡ q
+  pub where_spelled : (p : Placed t.program) → Spells source_limits source p → formatted source ≡ text (printed (plain t.program p))
+  pub spelled : (w : List ℕ) → formatted source ≡ text w → (p : Placed t.program) × Spells source_limits source p × (w ≡ printed (plain t.program p))
+  pub back : (p : Placed t.program) → Spells source_limits source p → IsReadBack (plain t.program p)
   pub safe : (w : List ℕ) → formatted source ≡ text w → IsTrue (is_safe w)

@@ -2,3 +2,4 @@ pub mod Source
 pub mod Cajoled
 pub mod Answers
 pub mod Formatted
+pub mod Text

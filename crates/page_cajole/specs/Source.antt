@@ -8,13 +8,15 @@ use Rattle.es3_tokens.specs.Cut as cut
 use Rattle.es3_grammar.specs.Spots.{spots}
 use Rattle.es3_grammar.specs.Limit.{Within}
 use Rattle.es3_grammar.specs.Answers.{Answer, read, syntax, deep, answer}
+use Rattle.page_cajole.specs.declared.source.Limits.{Limits}
 
--- the longest source, in bytes, and how deep a program nests: 512 KiB, and 128
-abbrev pub longest_source : ℕ
-longest_source = 524288
+-- how long a source may be, in bytes, and how deep its program may nest: 512 KiB and 128 where it is cajoled or printed
+abbrev pub source_limits : Limits
+source_limits = record { longest = 524288; deepest = 128 }
 
-abbrev pub deepest : ℕ
-deepest = 128
+-- 16 MiB and 1,024 where it runs as it stands
+abbrev pub text_limits : Limits
+text_limits = record { longest = 16777216; deepest = 1024 }
 
 -- the numbers of the refusals of tokens
 abbrev pub lex_number : lex.Refusal → ℕ
@@ -41,15 +43,15 @@ of_tokens (read p) = spelled p
 of_tokens (syntax at) = unread 1 at
 of_tokens deep = unread 2 0
 
-abbrev pub of_cut : ℕ → cut.Answer → Source
-of_cut end (Err r) = uncut (lex_number r.0) r.1
-of_cut end (Ok ts) = of_tokens (answer deepest end ts)
+abbrev pub of_cut : ℕ → ℕ → cut.Answer → Source
+of_cut deepest end (Err r) = uncut (lex_number r.0) r.1
+of_cut deepest end (Ok ts) = of_tokens (answer deepest end ts)
 
-abbrev pub source_of : List ℕ → Source
-source_of source = of_cut (length source) (cut.cut longest_source source)
+abbrev pub source_of : Limits → List ℕ → Source
+source_of l source = of_cut l.deepest (length source) (cut.cut l.longest source)
 
--- the source is cut into these tokens, and they spell the program within the limit
-pub record Spells (source : List ℕ) (p : Placed t.program) : Type 0 where
+-- the source is cut into these tokens, and they spell the program within the limits
+pub record Spells (l : Limits) (source : List ℕ) (p : Placed t.program) : Type 0 where
   pub spelled_by : List tokens.Placed
-  pub cut : cut.cut longest_source source ≡ Ok spelled_by
-  pub within : Within deepest p (spots spelled_by)
+  pub cut : cut.cut l.longest source ≡ Ok spelled_by
+  pub within : Within l.deepest p (spots spelled_by)

@@ -3,7 +3,7 @@
 ghost use Rattle.std.specs.Prelude.{◌≡◌, IfOk};
 ghost use Rattle.page_cajole.specs.Formatted.{formatted, told};
 
-use crate::source::{SourceRead, read_source};
+use crate::source::{SOURCE_LIMITS, SourceRead, read_source};
 use caja_units::Memory;
 use es3_printer::print_program;
 use std::alloc::Global;
@@ -29,7 +29,7 @@ pub enum FormatAnswer {
 pub fn format(alloc: Global, source: &[u8]) -> Result<FormatAnswer, Memory>
     ensures { IfOk result (λ f. told f ≡ formatted source.now) }
 {
-    match read_source(alloc, source)? {
+    match read_source(alloc, source, SOURCE_LIMITS)? {
         SourceRead::Spelled(program) => Ok(FormatAnswer::Text(print_program(alloc, &program)?)),
         SourceRead::Uncut(number, at) => Ok(FormatAnswer::Uncut(number, at)),
         SourceRead::Unread(number, at) => Ok(FormatAnswer::Unread(number, at)),

@@ -1,4 +1,5 @@
-//! From a source to the cajoled program that stands for it, and its text, or to its own printed text, or to the stage that refuses it.
+//! From a source to the cajoled program that stands for it, and its text, or to its own printed text, or to its own program, which runs as it stands; or
+//! to the stage that refuses it.
 #![tactic(auto)]
 
 ghost use Rattle.std.specs.Prelude.{◌≡◌, ℕ, List, IfOk, true};
@@ -15,6 +16,7 @@ ghost use Rattle.page_cajole.specs.Formatted.{IsFormatted};
 
 mod formatting;
 mod source;
+mod text;
 
 use caja_units::Memory;
 use cajita_rewrite::rewrite;
@@ -23,8 +25,9 @@ use es3_printer::print_program;
 use es3_tree::Program;
 pub use formatting::{FormatAnswer, format};
 use scope_rules::{RuleError, check, is_first};
-use source::{SourceRead, read_source};
+use source::{SOURCE_LIMITS, SourceRead, read_source};
 use std::alloc::Global;
+pub use text::{TextAnswer, read_text};
 
 /// A cajoled module: the program that stands for it, and that program's text in bytes of ASCII.
 #[derive(Drop)]
@@ -80,7 +83,7 @@ fn judge(alloc: Global, program: &Program) -> Result<Answer, Memory>
 pub fn cajole(alloc: Global, source: &[u8]) -> Result<Answer, Memory>
     ensures { IfOk result (λ a. Answers a (outcome source.now)) }
 {
-    match read_source(alloc, source)? {
+    match read_source(alloc, source, SOURCE_LIMITS)? {
         SourceRead::Spelled(program) => judge(alloc, &program),
         SourceRead::Uncut(number, at) => Ok(Answer::Uncut(number, at)),
         SourceRead::Unread(number, at) => Ok(Answer::Unread(number, at)),

@@ -1,11 +1,11 @@
 //! From a source to the program that it spells.
 
-ghost use Rattle.std.specs.Prelude.{◌≡◌, ℕ, IfOk, map};
+ghost use Rattle.std.specs.Prelude.{◌≡◌, ℕ, ◌-◌, ◌<◌, ◌^◌, IfOk, map};
 ghost use Rattle.es3_grammar.specs.Answers.{answer};
 ghost use Rattle.es3_lexer.specs.Answers.{Refuses, refusal_of};
 ghost use Rattle.es3_lexer.specs.Views.{placed_of};
 ghost use Rattle.es3_tokens.specs.Cut as cut;
-ghost use Rattle.page_cajole.specs.Source.{source_of, deepest, of_cut, of_tokens};
+ghost use Rattle.page_cajole.specs.Source.{source_of, of_cut, of_tokens};
 ghost use Rattle.page_cajole.specs.Answers.{read_as};
 
 use caja_units::Memory;
@@ -14,11 +14,24 @@ use es3_stmt::{ReadError, read_program};
 use es3_tree::Program;
 use std::alloc::Global;
 
-/// The longest source, in bytes: 512 KiB.
-const LONGEST_SOURCE: usize = 512 * 1024;
+/// How long a source may be, in bytes, and how deep its program may nest.
+#[derive(Clone, Copy)]
+pub struct Limits {
+    pub longest: usize,
+    pub deepest: u32,
+}
 
-/// How deep a program nests.
-const DEEPEST: u32 = 128;
+/// The limits of a source that is cajoled or printed: 512 KiB, and 128.
+pub const SOURCE_LIMITS: Limits = Limits {
+    longest: 512 * 1024,
+    deepest: 128,
+};
+
+/// The limits of a text that runs as it stands: 16 MiB, and 1,024.
+pub const TEXT_LIMITS: Limits = Limits {
+    longest: 16 * 1024 * 1024,
+    deepest: 1024,
+};
 
 /// What a source spells, or the number of what refuses it in its stage, and the byte of the source where that is, from 0.
 #[derive(Drop)]
@@ -31,7 +44,7 @@ pub enum SourceRead {
 }
 
 fn lex_refusal(refusal: LexError) -> Result<SourceRead, Memory>
-    ensures { IfOk result (λ r. (a : cut.Answer) → Refuses (refusal_of refusal) a → (end : ℕ) → read_as r ≡ of_cut end a) }
+    ensures { IfOk result (λ r. (a : cut.Answer) → Refuses (refusal_of refusal) a → (deepest end : ℕ) → read_as r ≡ of_cut deepest end a) }
 {
     Ok(match refusal {
         LexError::NotUtf8(at) => SourceRead::Uncut(1, at),
@@ -48,10 +61,11 @@ fn lex_refusal(refusal: LexError) -> Result<SourceRead, Memory>
     })
 }
 
-fn read_tokens(alloc: Global, list: &Tokens) -> Result<SourceRead, Memory>
+fn read_tokens(alloc: Global, list: &Tokens, deepest: u32) -> Result<SourceRead, Memory>
+    requires { deepest < 2 ^ 32 - 1 }
     ensures { IfOk result (λ r. read_as r ≡ of_tokens (answer deepest list.now.end (map placed_of list.now.list.items))) }
 {
-    Ok(match read_program(alloc, list, DEEPEST) {
+    Ok(match read_program(alloc, list, deepest) {
         Ok(program) => SourceRead::Spelled(program),
         Err(ReadError::Syntax(at)) => SourceRead::Unread(1, at),
         Err(ReadError::TooDeep(at)) => SourceRead::Unread(2, at),
@@ -59,15 +73,17 @@ fn read_tokens(alloc: Global, list: &Tokens) -> Result<SourceRead, Memory>
     })
 }
 
-/// The program that a source spells, or what refuses it.
-pub fn read_source(alloc: Global, source: &[u8]) -> Result<SourceRead, Memory>
-    ensures { IfOk result (λ r. read_as r ≡ source_of source.now) }
+/// The program that a source spells within its limits, or what refuses it.
+pub fn read_source(alloc: Global, source: &[u8], limits: Limits) -> Result<SourceRead, Memory>
+    requires longest { limits.longest < 2 ^ 32 }
+    requires deepest { limits.deepest < 2 ^ 32 - 1 }
+    ensures { IfOk result (λ r. read_as r ≡ source_of limits source.now) }
 {
-    if source.len() > LONGEST_SOURCE {
+    if source.len() > limits.longest {
         return Ok(SourceRead::Uncut(10, 0));
     }
-    match tokens(alloc, source, LONGEST_SOURCE) {
-        Ok(list) => read_tokens(alloc, &list),
+    match tokens(alloc, source, limits.longest) {
+        Ok(list) => read_tokens(alloc, &list, limits.deepest),
         Err(refusal) => lex_refusal(refusal),
     }
 }

@@ -8,7 +8,7 @@ use Rattle.scope_rules.specs.Language.{is_first}
 use Rattle.scope_rules.specs.Faults.{Fault, faults, first}
 use Rattle.scope_rules.specs.Resolve.{module_of}
 use Rattle.cajita_rewrite.specs.Rewrite.{program_of}
-use Rattle.page_cajole.specs.Source.{Source, uncut, unread, spelled, Spells, source_of, longest_source}
+use Rattle.page_cajole.specs.Source.{Source, uncut, unread, spelled, Spells, source_of, source_limits}
 use Rattle.page_cajole.specs.Cajoled.{outside, cajoled, judged, outcome_of}
 use Rattle.es3_printed.specs.Back.{IsSpelled, IsReadBack}
 use Rattle.es3_printed.proofs.ReadBack.{read_back, spelled_where_read}
@@ -35,14 +35,14 @@ judged_program None (Some x) p e =
       | false ↦ λ is h. absurd cc
     ] in cases refl e
 
-read_means : (input : List ℕ) (read : Source) (p : t.Tree t.program) → source_of input ≡ read → outcome_of read ≡ cajoled p → Meant input p
+read_means : (input : List ℕ) (read : Source) (p : t.Tree t.program) → source_of source_limits input ≡ read → outcome_of read ≡ cajoled p → Meant input p
 read_means input (uncut number at) p is e = absurd cc
 read_means input (unread number at) p is e = absurd cc
 read_means input (spelled (placed.script body)) p is e =
     let j = judged_program (first (faults [] body)) (module_of [] body) p e in
-    let s : Spells input (placed.script body) = source.spelled_where_read input (placed.script body) is in
+    let s : Spells source_limits input (placed.script body) = source.spelled_where_read source_limits input (placed.script body) is in
     let text : IsSpelled (program_of j.its_module) =
-    rewritten_is_spelled [] body j.its_module (spelled_where_read longest_source input s.spelled_by (placed.script body) s.cut s.within.spelled) j.found j.one in
+    rewritten_is_spelled [] body j.its_module (spelled_where_read source_limits.longest input s.spelled_by (placed.script body) s.cut s.within.spelled) j.found j.one in
     record {
       its_module = j.its_module;
       spelled = record { tree = placed.script body; spelled = s; resolved = j.found };
@@ -52,4 +52,4 @@ read_means input (spelled (placed.script body)) p is e =
     }
 
 pub meant : (input : List ℕ) → IsMeant input
-meant input = record { where_accepted = λ p e. read_means input (source_of input) p refl e }
+meant input = record { where_accepted = λ p e. read_means input (source_of source_limits input) p refl e }

@@ -6,14 +6,14 @@ use Rattle.cajita_tree.specs.Tree as c
 use Rattle.scope_rules.specs.Resolve.{module_of}
 use Rattle.cajita_rewrite.specs.Rewrite.{program_of}
 use Rattle.es3_printed.specs.Back.{IsReadBack}
-use Rattle.page_cajole.specs.Source.{Spells}
+use Rattle.page_cajole.specs.Source.{Spells, source_limits}
 use Rattle.page_cajole.specs.Cajoled.{statements, outcome, cajoled}
 use Rattle.page_meaning.specs.Means.{SourceMeans}
 
 -- the source spells a program, whose module is this one: it is granted no names
 pub record SpellsModule (input : List ℕ) (m : c.Tree c.program) : Type 0 where
   pub tree : Placed t.program
-  pub spelled : Spells input tree
+  pub spelled : Spells source_limits input tree
   pub resolved : module_of [] (statements tree) ≡ Some m
 
 -- the program stands for the module that the source spells, what is written of it is read as that very program, and what its page shows is what that

@@ -1,5 +1,5 @@
 -- The log of a page: how values are shown, a line for the load of a module, and how the page ended.
-use Rattle.std.specs.Prelude.{ℕ, Bool, List, [], ◌∷◌, ◌++◌, codes, if◌then◌else◌}
+use Rattle.std.specs.Prelude.{ℕ, List, [], ◌∷◌, ◌++◌, codes, if◌then◌else◌}
 use Rattle.plans.specs.Plans.{Fault, number_fault, depth_fault, convert_fault, over, stopped, out}
 use Rattle.caja_units.specs.Index.{number_units}
 use Rattle.caja_units.specs.Number.{number_text}
@@ -18,7 +18,7 @@ use Rattle.es3_meaning.specs.Meaning.{Run}
 use Rattle.es3_control.specs.declared.natives.Completion.{Completion}
 use Rattle.es3_control.specs.declared.natives.Completion.TheVariants.{Normal, Thrown}
 use Rattle.es3_machine.specs.Machine.{completed}
-use Rattle.module_loader.specs.Page.{Kept, module_run}
+use Rattle.module_loader.specs.Page.{module_run}
 use Rattle.page_runner.specs.declared.End.{End}
 use Rattle.page_runner.specs.declared.End.TheVariants.{Done, Number, Depth, Convert, Steps}
 
@@ -76,13 +76,13 @@ end_of number_fault = Number
 end_of depth_fault = Depth
 end_of convert_fault = Convert
 
--- the log of a run, and how it ended: a load that a fault or the want of a step cut off has no line
-abbrev pub run_log : Run Kept → List ℕ
+-- the log of a run, and how it ended, whatever natives keep: a load that a fault or the want of a step cut off has no line
+abbrev pub run_log : {S : Type 0} → Run S → List ℕ
 run_log (over c s z n) = completion_line s.heap (completed c)
 run_log (stopped f s z n) = []
 run_log (out s z n) = []
 
-abbrev pub run_end : Run Kept → End
+abbrev pub run_end : {S : Type 0} → Run S → End
 run_end (over c s z n) = Done
 run_end (stopped f s z n) = end_of f
 run_end (out s z n) = Steps
