@@ -7,8 +7,10 @@ use Rattle.std.proofs.lemmas.Bool.{lt-ltb, le-ltb}
 use Rattle.std.proofs.lemmas.Fmt.{decimal_digit}
 use Rattle.caja_units.specs.Index.{number_units}
 use Rattle.page_runner.specs.Log.{main_name, line_end}
+use Rattle.caja_io.specs.Source.{IsEmptied}
 use Rattle.caja_io.specs.Sink.{Appends, AppendsPart}
-use Rattle.caja_cli.specs.Output.{output, command_of, command_output, refusal, longest_input}
+use Rattle.caja_cli.specs.Words.{command_of}
+use Rattle.caja_cli.specs.Output.{output, command_output, refusal, longest_input}
 use Rattle.caja_cli.specs.Answered.{IsLeft, Wrote, WrotePart}
 use Rattle.caja_cli.specs.declared.command.Command.{Command}
 use Rattle.caja_cli.specs.declared.status.Status.{Status}
@@ -27,11 +29,11 @@ too_long_line =
     ap (λ (n : List ℕ). refused_at n (number_units 0)) (decimal_digit 1 (omega arith))
     ∙ ap (refused_at (49 ∷ [])) (decimal_digit 0 (omega arith))
 
-output-too_long : (words : List (List ℕ)) (c : Command) (input : List ℕ) → command_of words ≡ Some c → longest_input < length input → output words input ≡ (refusal (codes "input") 1 0, Refused)
-output-too_long words c input command far = rw (command, lt-ltb longest_input (length input) far) refl
+output-too_long : (words : List (List ℕ)) (c : Command) (input : List ℕ) → command_of words ≡ Some c → longest_input c < length input → output words input ≡ (refusal (codes "input") 1 0, Refused)
+output-too_long words c input command far = rw (command, lt-ltb (longest_input c) (length input) far) refl
 
-output-read : (words : List (List ℕ)) (c : Command) (input : List ℕ) → command_of words ≡ Some c → length input ≤ longest_input → output words input ≡ command_output c input
-output-read words c input command near = rw (command, le-ltb longest_input (length input) near) refl
+output-read : (words : List (List ℕ)) (c : Command) (input : List ℕ) → command_of words ≡ Some c → length input ≤ longest_input c → output words input ≡ command_output c input
+output-read words c input command near = rw (command, le-ltb (longest_input c) (length input) near) refl
 
 -- an input of more bytes than n: what was left where the source tells it, and else any
 pub record Longer (n : ℕ) (left : Option (List ℕ)) : Type 0 where
@@ -47,29 +49,40 @@ is_left : (left : Option (List ℕ)) (input : List ℕ) → IfSome left (λ all.
 is_left (Some all) input e = sym e
 is_left None input _ = tt
 
-pub wrote-too_long : (words : List (List ℕ)) (c : Command) (status : Status) (left left' written written' : Option (List ℕ)) → command_of words ≡ Some c → IfSome left (λ all. longest_input < length all) → Appends written written' too_long_text → status ≡ Refused → Wrote words status left left' written written'
-wrote-too_long words c status left left' written written' command far bytes refused =
-    let l = longer longest_input left far in
+pub wrote-too_long : (words : List (List ℕ)) (c : Command) (status : Status) (left left' written written' : Option (List ℕ)) → (limit : ℕ) → command_of words ≡ Some c → limit ≡ longest_input c → IfSome left (λ all. limit < length all) → Appends written written' too_long_text → status ≡ Refused → Wrote words status left left' written written'
+wrote-too_long words c status left left' written written' limit command same far bytes refused =
+    let l = longer (longest_input c) left (subst (λ (n : ℕ). IfSome left (λ all. n < length all)) same far) in
     let e = output-too_long words c l.input command l.far in
-    let beyond : longest_input < length l.input = l.far in
+    let beyond : longest_input c < length l.input = l.far in
     record {
       input = l.input;
       of_source = λ _. l.of_source;
-      read = λ _ near. absurd (omega (arith, beyond, near));
+      read = λ d is near. let same : d ≡ c = cc in absurd (let close : length l.input ≤ longest_input c = subst (λ (e : Command). length l.input ≤ longest_input e) same near in omega (arith, beyond, close));
       bytes = subst (λ (o : List ℕ × Status). Appends written written' o.0) (sym e) (subst (λ (b : List ℕ). Appends written written' b) (sym too_long_line) bytes);
       result = ap (λ (o : List ℕ × Status). o.1) e ∙ sym refused;
     }
 
-pub wrote_part-too_long : (words : List (List ℕ)) (c : Command) (left written written' : Option (List ℕ)) → command_of words ≡ Some c → IfSome left (λ all. longest_input < length all) → AppendsPart written written' too_long_text → WrotePart words left written written'
-wrote_part-too_long words c left written written' command far part =
-    let l = longer longest_input left far in
+pub wrote_part-too_long : (words : List (List ℕ)) (c : Command) (left written written' : Option (List ℕ)) → (limit : ℕ) → command_of words ≡ Some c → limit ≡ longest_input c → IfSome left (λ all. limit < length all) → AppendsPart written written' too_long_text → WrotePart words left written written'
+wrote_part-too_long words c left written written' limit command same far part =
+    let l = longer (longest_input c) left (subst (λ (n : ℕ). IfSome left (λ all. n < length all)) same far) in
     record {
       input = l.input;
       of_source = λ _. l.of_source;
       bytes = subst (λ (o : List ℕ × Status). AppendsPart written written' o.0) (sym (output-too_long words c l.input command l.far)) (subst (λ (b : List ℕ). AppendsPart written written' b) (sym too_long_line) part);
     }
 
-pub wrote_part-read : (words : List (List ℕ)) (c : Command) (left written written' : Option (List ℕ)) (all input text bytes : List ℕ) → command_of words ≡ Some c → IfSome left (λ told. all ≡ told) → length all ≤ longest_input → input ≡ all → text ≡ (command_output c input).0 → bytes ≡ text → AppendsPart written written' bytes → WrotePart words left written written'
+pub wrote-read : (words : List (List ℕ)) (c : Command) (status : Status) (left left' written written' : Option (List ℕ)) (all input text bytes : List ℕ) (given_status : Status) → command_of words ≡ Some c → IfSome left (λ told. all ≡ told) → length all ≤ longest_input c → IsEmptied left left' → input ≡ all → text ≡ (command_output c input).0 → bytes ≡ text → given_status ≡ (command_output c input).1 → Appends written written' bytes → status ≡ given_status → Wrote words status left left' written written'
+wrote-read words c status left left' written written' all input text bytes given_status command told near emptied same defined given ends appends is =
+    let o : (command_output c input) ≡ output words all = ap (command_output c) same ∙ sym (output-read words c all command near) in
+    record {
+      input = all;
+      of_source = λ _. is_left left all told;
+      read = λ d also close. emptied;
+      bytes = subst (λ (b : List ℕ). Appends written written' b) (given ∙ defined ∙ ap (λ (r : List ℕ × Status). r.0) o) appends;
+      result = sym (is ∙ ends ∙ ap (λ (r : List ℕ × Status). r.1) o);
+    }
+
+pub wrote_part-read : (words : List (List ℕ)) (c : Command) (left written written' : Option (List ℕ)) (all input text bytes : List ℕ) → command_of words ≡ Some c → IfSome left (λ told. all ≡ told) → length all ≤ longest_input c → input ≡ all → text ≡ (command_output c input).0 → bytes ≡ text → AppendsPart written written' bytes → WrotePart words left written written'
 wrote_part-read words c left written written' all input text bytes command told near same defined given part =
     let e : text ≡ (output words all).0 = defined ∙ ap (λ (i : List ℕ). (command_output c i).0) same ∙ sym (ap (λ (o : List ℕ × Status). o.0) (output-read words c all command near)) in
     record {

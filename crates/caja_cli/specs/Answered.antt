@@ -1,8 +1,10 @@
 -- When the program gives which answer.
-use Rattle.std.specs.Prelude.{◌≡◌, ℕ, ◌≤◌, List, Option, IfSome, IsTrue, length}
+use Rattle.std.specs.Prelude.{◌≡◌, ℕ, ◌≤◌, List, Option, Some, IfSome, IsTrue, length}
 use Rattle.caja_io.specs.Source.{IsEmptied}
 use Rattle.caja_io.specs.Sink.{Appends, AppendsPart}
+use Rattle.caja_cli.specs.Words.{command_of}
 use Rattle.caja_cli.specs.Output.{output, is_command, longest_input}
+use Rattle.caja_cli.specs.declared.command.Command.{Command}
 use Rattle.caja_cli.specs.declared.status.Status.{Status}
 use Rattle.caja_cli.specs.declared.status.Status.TheVariants.{ReadFault, WriteFault, Memory, NoRoom}
 
@@ -12,7 +14,7 @@ IsLeft left input = IfSome left (λ all. all ≡ input)
 
 -- the source was read to its end, but where the words are no command or the input is too long
 abbrev pub IsRead : List (List ℕ) → List ℕ → Option (List ℕ) → Option (List ℕ) → Type 0
-IsRead words input old new = IsTrue (is_command words) → length input ≤ longest_input → IsEmptied old new
+IsRead words input old new = (c : Command) → command_of words ≡ Some c → length input ≤ longest_input c → IsEmptied old new
 
 -- the answer is none of the four that speak of the source, the sink or memory
 abbrev pub IsAnswer : Status → Type 0

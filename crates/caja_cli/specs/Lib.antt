@@ -1,3 +1,5 @@
 pub mod Codes
+pub mod Words
 pub mod Output
 pub mod Answered
+pub mod Run

@@ -1,32 +1,39 @@
 -- What the program writes for its words and its input, and the status that it ends with.
-use Rattle.std.specs.Prelude.{ℕ, ◌++◌, Bool, true, false, List, [], ◌∷◌, Option, Some, None, length, nat_lt, codes, if◌then◌else◌}
-use Rattle.std.specs.Str.{bytes_eq}
+use Rattle.std.specs.Prelude.{ℕ, ◌+◌, ◌++◌, Bool, true, false, List, Option, Some, None, length, nat_lt, codes, if◌then◌else◌}
 use Rattle.caja_units.specs.Index.{number_units}
 use Rattle.es3_tree.specs.Tree as t
 use Rattle.es3_printed.specs.Tokens.{printed}
 use Rattle.page_cajole.specs.Cajoled.{Outcome, uncut, unread, broken, cajoled, outcome}
 use Rattle.page_cajole.specs.Formatted.{Formatted, formatted}
 use Rattle.page_cajole.specs.Formatted as f
+use Rattle.page_cajole.specs.Text.{Text, text_outcome}
+use Rattle.page_cajole.specs.Text as x
 use Rattle.page_runner.specs.declared.End.{End}
 use Rattle.page_runner.specs.declared.End.TheVariants as the_end
 use Rattle.page_runner.specs.Log.{main_name, line_end, page_log, page_end}
+use Rattle.page_runner.specs.Text.{text_log, text_end}
+use Rattle.caja_cli.specs.Words.{command_of}
 use Rattle.caja_cli.specs.declared.command.Command.{Command}
-use Rattle.caja_cli.specs.declared.command.Command.TheVariants.{Solo, Format}
+use Rattle.caja_cli.specs.declared.command.Command.TheVariants.{Solo, Format, Run}
 use Rattle.caja_cli.specs.declared.status.Status.{Status}
 use Rattle.caja_cli.specs.declared.status.Status.TheVariants as status
 
--- the longest input, in bytes: 4 MiB
-abbrev pub longest_input : ℕ
-longest_input = 4194304
+-- the longest input, in bytes: 64 MiB of `run`, and 4 MiB of the others
+abbrev pub longest_input : Command → ℕ
+longest_input (Run n) = 67108864
+longest_input c = 4194304
 
 -- the steps of a page: 64 ES3 steps for each of 1,000,000 direct ones
 abbrev pub page_steps : ℕ
 page_steps = 64000000
 
--- the command that the words are
-abbrev pub command_of : List (List ℕ) → Option Command
-command_of (w ∷ []) = if bytes_eq w (codes "solo") then Some Solo else if bytes_eq w (codes "format") then Some Format else None
-command_of words = None
+-- the most bytes that are read for the words: one more than the longest input of their command, and none where they are no command
+abbrev pub most_of : Option Command → ℕ
+most_of None = 0
+most_of (Some c) = longest_input c + 1
+
+abbrev pub most_read : List (List ℕ) → ℕ
+most_read words = most_of (command_of words)
 
 abbrev pub is_some : Option Command → Bool
 is_some None = false
@@ -77,14 +84,25 @@ format_output (f.uncut number place) = (refusal (codes "lex") number place, stat
 format_output (f.unread number place) = (refusal (codes "read") number place, status.Refused)
 format_output (f.text w) = (w ++ line_end, status.Done)
 
+-- the log of the interpreter's meaning of a program with n steps, and how that ends
+abbrev pub run_parts : t.Tree t.program → ℕ → List ℕ
+run_parts p n = text_log p n ++ end_line (text_end p n)
+
+abbrev pub run_output : ℕ → Text → List ℕ × Status
+run_output n (x.uncut number place) = (refusal (codes "lex") number place, status.Refused)
+run_output n (x.unread number place) = (refusal (codes "read") number place, status.Refused)
+run_output n (x.misplaced place) = (refusal (codes "label") 1 place, status.Refused)
+run_output n (x.runs p) = (run_parts p n, end_status (text_end p n))
+
 -- what a command makes of an input that isn't too long
 abbrev pub command_output : Command → List ℕ → List ℕ × Status
 command_output Solo input = source_output (outcome input)
 command_output Format input = format_output (formatted input)
+command_output (Run n) input = run_output n (text_outcome input)
 
 abbrev pub input_output : Option Command → List ℕ → List ℕ × Status
 input_output None input = (codes "usage" ++ line_end, status.Usage)
-input_output (Some c) input = if nat_lt longest_input (length input) then (refusal (codes "input") 1 0, status.Refused) else command_output c input
+input_output (Some c) input = if nat_lt (longest_input c) (length input) then (refusal (codes "input") 1 0, status.Refused) else command_output c input
 
 -- what is written, and the status
 abbrev pub output : List (List ℕ) → List ℕ → List ℕ × Status

@@ -1,18 +1,21 @@
 //! The top call of Caja: words, an input, an output and a status.
 #![tactic(auto)]
 
-ghost use Rattle.std.specs.Prelude.{◌≡◌, ◌≢◌, ◌+◌, ◌≤◌, map, string_bytes, false, IfOk, IsTrue, ℕ, List};
+ghost use Rattle.std.specs.Prelude.{◌≡◌, ◌≢◌, ◌≤◌, map, string_bytes, false, IfOk, IsTrue, ℕ, List};
 ghost use Rattle.caja_io.specs.Count.{Rose};
 ghost use Rattle.caja_io.specs.Source.{TakesUpTo};
 ghost use Rattle.caja_io.specs.Sink.{Appends, AppendsPart};
-ghost use Rattle.caja_cli.specs.Output.{is_command, command_output, longest_input};
+ghost use Rattle.caja_cli.specs.Output.{is_command, command_output, most_read};
 ghost use Rattle.page_cajole.specs.Formatted.{IsFormatted};
 ghost use Rattle.page_meaning.specs.Meant.{IsMeant};
 ghost use Rattle.caja_cli.specs.Answered.{IsAnswer, Wrote, WrotePart};
+ghost use Rattle.caja_cli.specs.Run.{IsRun};
 
 mod command;
+mod ending;
 mod formatting;
 mod refusal;
+mod run;
 mod solo;
 mod status;
 
@@ -22,15 +25,13 @@ use command::{Command, command_of};
 pub use status::Status;
 use std::alloc::Global;
 
-/// The longest input, in bytes: 4 MiB.
-const LONGEST_INPUT: usize = 4_194_304;
-
 /// Reads the words and then the whole input, does what the words say, and gives all that is written to the sink at once.
 ///
 /// The words are those behind the program's name. With `solo` the input is the source of a module, and the output is its cajoled
 /// text and the log of its load. With `format` the input is a source of ECMAScript 3, and the output its printed text and a line
-/// end. Where the words are no command, nothing is read, and the line `usage` is written.
-#[tactic(auto, using(page_meaning::proofs::Meant::meant, page_cajole::proofs::Formats::is_formatted))]
+/// end. With `run` it is a text of ECMAScript 3 that runs as it stands, and the output its log. Where the words are no command, nothing is read, and the
+/// line `usage` is written.
+#[tactic(auto, using(page_meaning::proofs::Meant::meant, page_cajole::proofs::Formats::is_formatted, crate::proofs::Runs::is_run))]
 pub fn caja<S: Source, K: Sink>(
     words: &[String],
     source: &mut S,
@@ -47,6 +48,9 @@ pub fn caja<S: Source, K: Sink>(
     // What is formatted is the one program that the input spells, and the text is read as it again.
     ensures formatted { (input : List ℕ) → IsFormatted input }
 
+    // What is written for a text that runs is what the one program that the input spells means.
+    ensures run { (input : List ℕ) → IsRun input }
+
     // Each of the other four, and its cause.
     ensures read_fault { result ≡ Status.ReadFault
         → IsTrue (is_command (map string_bytes words.now)) × Rose (S.faults source.old) (S.faults source.new) × (sink.new ≡ sink.old) }
@@ -58,14 +62,14 @@ pub fn caja<S: Source, K: Sink>(
         → IsTrue (is_command (map string_bytes words.now)) × (sink.new ≡ sink.old) }
 
     // With any answer: what was read is the first of what was left, and nothing is read where the words are no command.
-    ensures takes { TakesUpTo (longest_input + 1) (S.left source.old) (S.left source.new) }
+    ensures takes { TakesUpTo (most_read (map string_bytes words.now)) (S.left source.old) (S.left source.new) }
     ensures unread { is_command (map string_bytes words.now) ≡ false → source.new ≡ source.old }
     ensures faults_never_fall { S.faults source.old ≤ S.faults source.new }
 {
     let Some(command) = command_of(words) else {
         return finish(sink, b"usage\n", Status::Usage);
     };
-    match read_all(alloc, source, LONGEST_INPUT) {
+    match read_all(alloc, source, command.longest_input()) {
         Err(InputFault::Failed) => Status::ReadFault,
         Err(InputFault::Memory) => Status::Memory,
         Err(InputFault::TooLong) => finish(sink, b"refused main input 1 0\n", Status::Refused),
@@ -85,6 +89,7 @@ fn perform(alloc: Global, command: Command, input: &[u8]) -> Result<(Vec<u8>, St
     match command {
         Command::Solo => solo::solo(alloc, input),
         Command::Format => formatting::format_source(alloc, input),
+        Command::Run(steps) => run::run(alloc, input, steps),
     }
 }
 

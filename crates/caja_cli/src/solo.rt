@@ -4,14 +4,15 @@ ghost use Rattle.std.specs.Prelude.{◌≡◌, IfOk};
 ghost use Rattle.page_cajole.specs.Cajoled.{outcome};
 ghost use Rattle.es3_tree.specs.View.{program};
 ghost use Rattle.es3_printed.specs.Tokens.{printed};
-ghost use Rattle.caja_cli.specs.Output.{source_output, solo_parts, end_line as end_line_of, end_status as end_status_of, module_part, page_steps};
+ghost use Rattle.caja_cli.specs.Output.{source_output, solo_parts, end_status as end_status_of, module_part, page_steps};
 ghost use Rattle.page_runner.specs.Log.{page_log, page_end};
 
+use crate::ending::{end_line, end_status};
 use crate::refusal::refused;
 use crate::status::Status;
 use caja_units::Memory;
 use page_cajole::{Answer, CajoledModule, cajole};
-use page_runner::{End, run_page};
+use page_runner::run_page;
 use std::alloc::Global;
 
 /// The ES3 steps of a page: 64 for each of 1,000,000 direct ones.
@@ -55,30 +56,4 @@ fn begin(alloc: Global, text: &[u8]) -> Result<Vec<u8>, Memory>
     output.extend_from_slice(text)?;
     output.push(b'\n')?;
     Ok(output)
-}
-
-/// The last line.
-fn end_line(end: End) -> &'static [u8]
-    ensures { result.now ≡ end_line_of end }
-{
-    match end {
-        End::Done => b"end done\n",
-        End::Number => b"end number\n",
-        End::Depth => b"end depth\n",
-        End::Convert => b"end convert\n",
-        End::Steps => b"end steps\n",
-    }
-}
-
-/// The status of a page that ended so.
-fn end_status(end: End) -> Status
-    ensures { result ≡ end_status_of end }
-{
-    match end {
-        End::Done => Status::Done,
-        End::Number => Status::Number,
-        End::Depth => Status::Depth,
-        End::Convert => Status::Convert,
-        End::Steps => Status::Steps,
-    }
 }

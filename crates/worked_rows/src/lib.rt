@@ -43,6 +43,8 @@ mod rule_rows;
 #[cfg(test)]
 mod rule_tables;
 #[cfg(test)]
+mod run_rows;
+#[cfg(test)]
 mod runner_rows;
 #[cfg(test)]
 mod runs;

@@ -6,10 +6,13 @@ use caja_units::Memory;
 use std::alloc::Global;
 use std::test::Fail;
 
-/// The words of a command.
+/// The words of a command, which spaces part.
 pub fn words(alloc: Global, command: &str) -> Result<Vec<String>, Memory> {
-    let word = String::from_str(alloc, command)?;
-    Ok(vec![in alloc; word]?)
+    let mut words = Vec::new(alloc);
+    for word in command.split_whitespace() {
+        words.push(String::from_str(alloc, word)?)?;
+    }
+    Ok(words)
 }
 
 /// A source of which no read fails.

@@ -1,0 +1,111 @@
+//! Texts that run as they stand, and the words of `run`.
+
+use crate::runs::{is_line, run};
+use caja_cli::Status;
+use caja_units::Memory;
+use std::alloc::Global;
+use std::test::Fail;
+
+/// Words, a text, and what the text gives. The statement and the number in `1;` take a step each.
+static DONE: &str = "
+run ⇒  ⇒ return undefined
+run ⇒ 1; ⇒ return 1
+run ⇒ undefined; ⇒ return undefined
+run ⇒ x; ⇒ throw error ? TypeError \"unbound\"
+run ⇒ var add = function (a, b) { return a + b; }; add(1, 2); ⇒ return 3
+run --steps 2 ⇒ 1; ⇒ return 1
+run --steps=3 ⇒ 1; ⇒ return 1
+run --steps 10000000 ⇒ 1; ⇒ return 1
+";
+
+/// Words, a text, and the one line that is written.
+static REFUSED: &str = "
+run ⇒ break; ⇒ refused main label 1 0
+run ⇒ 1; a: a: ; ⇒ refused main label 1 6
+run ⇒ a = /b/; ⇒ refused main lex 9 4
+run ⇒ a + b = c; ⇒ refused main read 1 6
+";
+
+static STEPS: &str = "
+run --steps 1 ⇒ 1; ⇒ end steps
+run --steps=00000001 ⇒ 1; ⇒ end steps
+";
+
+static NUMBER: &str = "
+run ⇒ 9007199254740991 + 1; ⇒ end number
+";
+
+static USAGE: &str = "
+run --steps 0 ⇒ 1; ⇒ usage
+run --steps 10000001 ⇒ 1; ⇒ usage
+run --steps 000000002 ⇒ 1; ⇒ usage
+run --steps 123456789 ⇒ 1; ⇒ usage
+run --steps=+1 ⇒ 1; ⇒ usage
+run --steps= ⇒ 1; ⇒ usage
+run --steps ⇒ 1; ⇒ usage
+run --steps 1 --steps 2 ⇒ 1; ⇒ usage
+run x ⇒ 1; ⇒ usage
+solo --steps 2 ⇒ 1; ⇒ usage
+";
+
+// The words, the text and the last part of a row.
+fn parts(row: &str) -> (&str, &str, &str) {
+    let (words, rest) = row.split_once(" ⇒ ").unwrap_or((row, ""));
+    let (text, wanted) = rest.split_once(" ⇒ ").unwrap_or((rest, ""));
+    (words, text, wanted)
+}
+
+// Whether the text ends, and its log says that its load gave this.
+fn gives(alloc: Global, row: &str) -> Result<bool, Memory> {
+    let (words, text, wanted) = parts(row);
+    let (status, output) = run(alloc, words, text.as_bytes())?;
+    let given = match output.strip_prefix(b"load main ") {
+        Some(line) => line.strip_suffix(b"\nend done\n"),
+        None => None,
+    };
+    Ok(status == Status::Done && given == Some(wanted.as_bytes()))
+}
+
+// Whether the words and the text give this status and this one line.
+fn ends(alloc: Global, row: &str, ended: &Status) -> Result<bool, Memory> {
+    let (words, text, wanted) = parts(row);
+    let (status, output) = run(alloc, words, text.as_bytes())?;
+    Ok(status == *ended && is_line(&output, wanted))
+}
+
+// The first row of the table that ends in another way is the failure.
+fn check_ends(alloc: Global, table: &'static str, ended: Status) -> Result<(), Fail> {
+    for row in table.lines() {
+        if !row.is_empty() && !ends(alloc, row, &ended)? {
+            return Err(row.into());
+        }
+    }
+    Ok(())
+}
+
+#[test]
+fn a_text_runs_as_it_stands(rt: HostRuntime) -> Result<(), Fail> {
+    let alloc = rt.alloc();
+    for row in DONE.lines() {
+        if !row.is_empty() && !gives(alloc, row)? {
+            return Err(row.into());
+        }
+    }
+    Ok(())
+}
+
+#[test]
+fn a_text_with_a_fault_is_refused_at_its_place(rt: HostRuntime) -> Result<(), Fail> {
+    check_ends(rt.alloc(), REFUSED, Status::Refused)
+}
+
+#[test]
+fn steps_and_numbers_that_run_out_end_a_text(rt: HostRuntime) -> Result<(), Fail> {
+    check_ends(rt.alloc(), STEPS, Status::Steps)?;
+    check_ends(rt.alloc(), NUMBER, Status::Number)
+}
+
+#[test]
+fn other_words_of_run_are_usage(rt: HostRuntime) -> Result<(), Fail> {
+    check_ends(rt.alloc(), USAGE, Status::Usage)
+}
