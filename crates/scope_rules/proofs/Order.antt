@@ -1,9 +1,12 @@
 -- The first of some faults: of a list in two parts, and as the lists of a program are gone over.
-use Rattle.std.proofs.Common.{◌≡◌, ℕ, ◌+◌, ◌<◌, List, [], ◌∷◌, ◌++◌, length, get_or, drop, Option, Some, None, Bool, true, false, cond, refl, sym, ap, ◌∙◌, arith}
+use Rattle.std.proofs.Common.{◌≡◌, ℕ, ◌+◌, ◌<◌, List, [], ◌∷◌, ◌++◌, length, get_or, drop, Option, Some, None, Bool, true, false, cond, option_map, refl, sym, ap, subst, ◌∙◌, arith}
+use Rattle.std.specs.Prelude.{Result, Ok}
+use Rattle.caja_units.specs.declared.Memory.{Memory}
 use Rattle.std.proofs.lemmas.Bool.Decides.{nat_tests}
 use Rattle.std.proofs.lemmas.List.{at_drop_more}
 use Rattle.scope_rules.specs.Faults.{Fault, is_before, inserted, ordered, first}
-use Rattle.scope_rules.specs.Found.{first_in, earlier_of}
+use Rattle.scope_rules.specs.declared.found.Found.{Found}
+use Rattle.scope_rules.specs.Found.{fault_of, first_in, earlier_of, IsFirst}
 
 before-before : (a b c : Fault) → is_before b a ≡ true → is_before c b ≡ true → is_before c a ≡ true
 before-before a b c h g = grind (arith, nat_tests)
@@ -80,5 +83,14 @@ none_at_all [] e = refl
 none_at_all (x ∷ fs) e = some-none (first_in fs) x (sym (first-more x (ordered fs)) ∙ e)
 
 -- of the firsts of two lists the earlier one is the first of both
-pub of_parts : (both front behind : Option Fault) (fs gs : List Fault) → both ≡ earlier_of front behind → front ≡ first_in fs → behind ≡ first_in gs → both ≡ first_in (fs ++ gs)
-of_parts both front behind fs gs is f g = is ∙ ap (λ o. earlier_of o behind) f ∙ ap (earlier_of (first_in fs)) g ∙ sym (append_first fs gs)
+pub of_parts : {front behind : Result (Option Found) Memory} (f g both : Option Found) → front ≡ Ok f → behind ≡ Ok g
+    → option_map fault_of both ≡ earlier_of (option_map fault_of f) (option_map fault_of g) → (fs gs : List Fault)
+    → IsFirst front fs → IsFirst behind gs → IsFirst (Ok both) (fs ++ gs)
+of_parts f g both front behind is fs gs a b =
+    let here : option_map fault_of f ≡ first_in fs = (subst (λ r. IsFirst r fs) front a).told in
+    let there : option_map fault_of g ≡ first_in gs = (subst (λ r. IsFirst r gs) behind b).told in
+    record { told = is ∙ ap (λ o. earlier_of o (option_map fault_of g)) here ∙ ap (earlier_of (first_in fs)) there ∙ sym (append_first fs gs) }
+
+-- of the faults of a whole, which are those of its parts
+pub as_one : {r : Result (Option Found) Memory} {whole fs : List Fault} → whole ≡ fs → IsFirst r fs → IsFirst r whole
+as_one {r} e h = subst (IsFirst r) (sym e) h

@@ -6,11 +6,12 @@ use Rattle.std.specs.Global.{Vec, Box}
 use Rattle.es3_tree.specs.declared.Expr.{Expr}
 use Rattle.es3_tree.specs.declared.Stmt.{Stmt}
 use Rattle.es3_tree.specs.declared.Case.{Case}
+use Rattle.es3_tree.specs.declared.First.{First}
 use Rattle.es3_tree.specs.declared.Expr.TheVariants as e
 use Rattle.es3_tree.specs.declared.Stmt.TheVariants as s
 use Rattle.es3_tree.specs.Tree as t
 use Rattle.es3_tree.specs.PlacedView as v
-use Rattle.es3_tree.proofs.PlacedRows.{placed_call, placed_new, placed_switch}
+use Rattle.es3_tree.proofs.PlacedRows.{placed_call, placed_new, placed_for, placed_switch}
 use Rattle.scope_rules.specs.Scope.{Scope}
 use Rattle.scope_rules.specs.Faults.{Fault, word_fault, form_fault, clashes, redeclared, faults_in}
 use Rattle.scope_rules.specs.Views.{declaration_of}
@@ -24,6 +25,12 @@ pub faults_of_call : (around : Scope) {x : Expr} (b : Box Expr) (y : Vec Expr) �
 unfolding faults_in
 faults_of_call around b y (inl h) = ap (λ x. faults_in around t.expr (v.expr x)) h ∙ ap (faults_in around t.expr) (placed_call b y)
 faults_of_call around b y (inr h) = ap (λ x. faults_in around t.expr (v.expr x)) h ∙ ap (faults_in around t.expr) (placed_new b y)
+
+pub faults_of_for : (around : Scope) {x : Stmt} (i : First) (a b : Option Expr) (z : Box Stmt) → x ≡ s.For i a b z
+    → faults_in around t.stmt (v.stmt x)
+    ≡ ((faults_in around t.first (v.first i) ++ faults_in around t.maybe_expr (v.of_maybe_expr a)) ++ faults_in around t.maybe_expr (v.of_maybe_expr b)) ++ faults_in around t.stmt (v.stmt z.value)
+unfolding faults_in
+faults_of_for around i a b z h = ap (λ x. faults_in around t.stmt (v.stmt x)) h ∙ ap (faults_in around t.stmt) (placed_for i a b z)
 
 pub faults_of_with : (around : Scope) {x : Stmt} (y : Expr) (z : Box Stmt) (at : ℕ) → x ≡ s.With y z at
     → faults_in around t.stmt (v.stmt x) ≡ (form_fault 2 at ++ faults_in around t.expr (v.expr y)) ++ faults_in around t.stmt (v.stmt z.value)

@@ -1,12 +1,12 @@
 //! The first of the faults of a module.
 
-ghost use Rattle.std.specs.Prelude.{◌≡◌, ◌++◌, [], map, IfOk, option_map};
+ghost use Rattle.std.specs.Prelude.{◌++◌, [], map};
 ghost use Rattle.es3_tree.specs.Tree as tree;
 ghost use Rattle.es3_tree.specs.PlacedView.{of_stmts};
 ghost use Rattle.scope_rules.specs.Rules.{fixed_names};
 ghost use Rattle.scope_rules.specs.Scope.{in_module};
 ghost use Rattle.scope_rules.specs.Faults.{faults_in, redeclared as redeclared_words};
-ghost use Rattle.scope_rules.specs.Found.{fault_of, first_in};
+ghost use Rattle.scope_rules.specs.Found.{IsFirst};
 ghost use Rattle.scope_rules.specs.Views.{declaration_of};
 
 use crate::declarations::Declaration;
@@ -26,10 +26,12 @@ pub(crate) fn first_fault(
     declarations: &[Declaration<'_>],
     body: &[Stmt],
 ) -> Result<Option<Found>, Memory>
-    ensures { IfOk result (λ f. option_map fault_of f ≡ first_in (redeclared_words [] (map declaration_of declarations.now)
-        ++ faults_in (in_module (map declaration_of declarations.now) (grants.now ++ fixed_names)) tree.stmts (of_stmts body.now))) }
+    ensures { IsFirst result (redeclared_words [] (map declaration_of declarations.now)
+        ++ faults_in (in_module (map declaration_of declarations.now) (grants.now ++ fixed_names)) tree.stmts (of_stmts body.now)) }
 {
-    let again = redeclared(alloc, declarations)?;
     let scope = Scope::Module(declarations, grants);
-    Ok(earlier(again, in_stmts(alloc, &scope, body)?))
+    earlier(
+        redeclared(alloc, declarations),
+        in_stmts(alloc, &scope, body),
+    )
 }

@@ -1,13 +1,13 @@
 //! The faults of the declarations of a body.
 
-ghost use Rattle.std.specs.Prelude.{◌≡◌, [], map, IfOk, option_map};
+ghost use Rattle.std.specs.Prelude.{◌≡◌, [], map};
 ghost use Rattle.std.specs.List.{list_any};
 ghost use Rattle.scope_rules.specs.Faults.{clashes as clash, redeclared as redeclared_words};
-ghost use Rattle.scope_rules.specs.Found.{fault_of, first_in};
+ghost use Rattle.scope_rules.specs.Found.{IsFirst};
 ghost use Rattle.scope_rules.specs.Views.{declaration_of};
 
 use crate::declarations::Declaration;
-use crate::found::{Found, earlier, word_fault};
+use crate::found::{Found, picked, word_fault};
 use caja_units::Memory;
 use std::alloc::Global;
 
@@ -37,13 +37,12 @@ pub(crate) fn redeclared(
     alloc: Global,
     declarations: &[Declaration<'_>],
 ) -> Result<Option<Found>, Memory>
-    ensures { IfOk result (λ f.
-        option_map fault_of f ≡ first_in (redeclared_words [] (map declaration_of declarations.now))) }
+    ensures { IsFirst result (redeclared_words [] (map declaration_of declarations.now)) }
 {
     let mut found = None;
     for (i, declaration) in declarations.iter().enumerate() {
         let is_again = clashes_with_one(declaration, &declarations[..i]);
-        found = earlier(found, word_fault(alloc, 5, declaration.name, is_again)?);
+        found = picked(found, word_fault(alloc, 5, declaration.name, is_again)?);
     }
     Ok(found)
 }

@@ -1,17 +1,17 @@
 //! The faults of expressions: `in_..` finds the first one in a part, in which these names are declared around it.
 
-ghost use Rattle.std.specs.Prelude.{◌≡◌, ◌++◌, [], map, take, IfOk, option_map};
+ghost use Rattle.std.specs.Prelude.{◌≡◌, ◌++◌, []};
 ghost use Rattle.es3_tree.specs.Tree as tree;
 ghost use Rattle.es3_tree.specs.PlacedView as source;
 ghost use Rattle.scope_rules.specs.Rules.{is_among as is_among_them};
 ghost use Rattle.scope_rules.specs.Faults as wanted;
 ghost use Rattle.scope_rules.specs.Faults.{faults_in};
-ghost use Rattle.scope_rules.specs.Found.{fault_of, first_in};
+ghost use Rattle.scope_rules.specs.Found.{IsFirst};
 ghost use Rattle.scope_rules.specs.Views.{scope_of, keys_of};
 
 use crate::faults_of_statements::in_function_expression;
-use crate::faults_of_words::{hidden, reserved, used, written};
-use crate::found::{Found, earlier, form_fault, word_fault};
+use crate::faults_of_words::{member_key, property_key, used, written};
+use crate::found::{Found, earlier, form_fault, picked, word_fault};
 use crate::scope::Scope;
 use caja_units::{Memory, Units};
 use es3_tree::{Expr, Name, UnOp};
@@ -20,8 +20,7 @@ use std::alloc::Global;
 // What a target breaks besides: rule 0 is broken by what no tokens spell.
 #[tactic(auto, using(es3_tree::proofs::PlacedRows::placed_views))]
 fn target(alloc: Global, scope: &Scope<'_>, expression: &Expr) -> Result<Option<Found>, Memory>
-    ensures { IfOk result (λ f.
-        option_map fault_of f ≡ first_in (wanted.target (scope_of scope.now) (source.expr expression.now))) }
+    ensures { IsFirst result (wanted.target (scope_of scope.now) (source.expr expression.now)) }
 {
     match expression {
         Expr::Name(name) => written(alloc, scope, name),
@@ -33,8 +32,7 @@ fn target(alloc: Global, scope: &Scope<'_>, expression: &Expr) -> Result<Option<
 // Rule 12: what is deleted is no member.
 #[tactic(auto, using(es3_tree::proofs::PlacedRows::placed_views))]
 fn deleted(alloc: Global, operator: UnOp, at: u32, operand: &Expr) -> Result<Option<Found>, Memory>
-    ensures { IfOk result (λ f.
-        option_map fault_of f ≡ first_in (wanted.deleted operator at (source.expr operand.now))) }
+    ensures { IsFirst result (wanted.deleted operator at (source.expr operand.now)) }
 {
     match operator {
         UnOp::Delete => match operand {
@@ -59,12 +57,12 @@ fn has_key(fields: &[(Name, Expr)], key: &Units) -> bool
 
 // Rule 9: a key stands before in the same literal.
 fn repeated(alloc: Global, fields: &[(Name, Expr)]) -> Result<Option<Found>, Memory>
-    ensures { IfOk result (λ f. option_map fault_of f ≡ first_in (wanted.repeated [] (source.of_fields fields.now))) }
+    ensures { IsFirst result (wanted.repeated [] (source.of_fields fields.now)) }
 {
     let mut found = None;
     for (i, (key, _)) in fields.iter().enumerate() {
         let here = word_fault(alloc, 9, key, has_key(&fields[..i], &key.text))?;
-        found = earlier(found, here);
+        found = picked(found, here);
     }
     Ok(found)
 }
@@ -77,48 +75,38 @@ pub(crate) fn in_expr(
     scope: &Scope<'_>,
     expression: &Expr,
 ) -> Result<Option<Found>, Memory>
-    ensures { IfOk result (λ f.
-        option_map fault_of f ≡ first_in (faults_in (scope_of scope.now) tree.expr (source.expr expression.now))) }
+    ensures { IsFirst result (faults_in (scope_of scope.now) tree.expr (source.expr expression.now)) }
 {
     match expression {
         Expr::This(at) => form_fault(alloc, 4, *at),
         Expr::Null | Expr::Bool(_) | Expr::Num(_) | Expr::Text(_) => Ok(None),
         Expr::Name(name) => used(alloc, scope, name),
         Expr::Array(elements) => in_exprs(alloc, scope, elements),
-        Expr::Object(fields) => {
-            let inside = in_fields(alloc, scope, fields)?;
-            Ok(earlier(inside, repeated(alloc, fields)?))
-        }
+        Expr::Object(fields) => earlier(in_fields(alloc, scope, fields), repeated(alloc, fields)),
         Expr::Func(function) => in_function_expression(alloc, scope, function),
-        Expr::Dot(object, key) => {
-            let first = in_expr(alloc, scope, object)?;
-            Ok(earlier(first, hidden(alloc, key)?))
-        }
-        Expr::Call(callee, arguments) | Expr::New(callee, arguments) => {
-            let first = in_expr(alloc, scope, callee)?;
-            Ok(earlier(first, in_exprs(alloc, scope, arguments)?))
-        }
-        Expr::Unary(operator, operand, at) => {
-            let here = deleted(alloc, *operator, *at, operand)?;
-            Ok(earlier(here, in_expr(alloc, scope, operand)?))
-        }
+        Expr::Dot(object, key) => earlier(in_expr(alloc, scope, object), member_key(alloc, key)),
+        Expr::Call(callee, arguments) | Expr::New(callee, arguments) => earlier(
+            in_expr(alloc, scope, callee),
+            in_exprs(alloc, scope, arguments),
+        ),
+        Expr::Unary(operator, operand, at) => earlier(
+            deleted(alloc, *operator, *at, operand),
+            in_expr(alloc, scope, operand),
+        ),
         Expr::Step(_, _, operand) => in_target(alloc, scope, operand),
         Expr::Index(left, right)
         | Expr::Binary(_, left, right)
         | Expr::And(left, right)
         | Expr::Or(left, right)
         | Expr::Comma(left, right) => {
-            let first = in_expr(alloc, scope, left)?;
-            Ok(earlier(first, in_expr(alloc, scope, right)?))
+            earlier(in_expr(alloc, scope, left), in_expr(alloc, scope, right))
         }
         Expr::Cond(test, then, otherwise) => {
-            let first = in_expr(alloc, scope, test)?;
-            let front = earlier(first, in_expr(alloc, scope, then)?);
-            Ok(earlier(front, in_expr(alloc, scope, otherwise)?))
+            let front = earlier(in_expr(alloc, scope, test), in_expr(alloc, scope, then));
+            earlier(front, in_expr(alloc, scope, otherwise))
         }
         Expr::Assign(_, left, right) => {
-            let first = in_target(alloc, scope, left)?;
-            Ok(earlier(first, in_expr(alloc, scope, right)?))
+            earlier(in_target(alloc, scope, left), in_expr(alloc, scope, right))
         }
     }
 }
@@ -130,23 +118,23 @@ pub(crate) fn in_target(
     scope: &Scope<'_>,
     expression: &Expr,
 ) -> Result<Option<Found>, Memory>
-    ensures { IfOk result (λ f. option_map fault_of f
-        ≡ first_in (faults_in (scope_of scope.now) tree.expr (source.expr expression.now)
-        ++ wanted.target (scope_of scope.now) (source.expr expression.now))) }
+    ensures { IsFirst result (faults_in (scope_of scope.now) tree.expr (source.expr expression.now)
+        ++ wanted.target (scope_of scope.now) (source.expr expression.now)) }
 {
-    let first = in_expr(alloc, scope, expression)?;
-    Ok(earlier(first, target(alloc, scope, expression)?))
+    earlier(
+        in_expr(alloc, scope, expression),
+        target(alloc, scope, expression),
+    )
 }
 
 #[cycle(faults)]
 #[tactic(auto, unfolding(crate::specs::Faults::faults_in))]
 fn in_exprs(alloc: Global, scope: &Scope<'_>, list: &[Expr]) -> Result<Option<Found>, Memory>
-    ensures { IfOk result (λ f.
-        option_map fault_of f ≡ first_in (faults_in (scope_of scope.now) tree.exprs (source.of_exprs list.now))) }
+    ensures { IsFirst result (faults_in (scope_of scope.now) tree.exprs (source.of_exprs list.now)) }
 {
     let mut found = None;
     for expression in list {
-        found = earlier(found, in_expr(alloc, scope, expression)?);
+        found = picked(found, in_expr(alloc, scope, expression)?);
     }
     Ok(found)
 }
@@ -158,14 +146,12 @@ fn in_fields(
     scope: &Scope<'_>,
     fields: &[(Name, Expr)],
 ) -> Result<Option<Found>, Memory>
-    ensures { IfOk result (λ f.
-        option_map fault_of f ≡ first_in (faults_in (scope_of scope.now) tree.fields (source.of_fields fields.now))) }
+    ensures { IsFirst result (faults_in (scope_of scope.now) tree.fields (source.of_fields fields.now)) }
 {
     let mut found = None;
     for (key, value) in fields {
-        let at_key = earlier(hidden(alloc, key)?, reserved(alloc, key)?);
-        let here = earlier(at_key, in_expr(alloc, scope, value)?);
-        found = earlier(found, here);
+        let here = earlier(property_key(alloc, key), in_expr(alloc, scope, value))?;
+        found = picked(found, here);
     }
     Ok(found)
 }
@@ -178,8 +164,7 @@ pub(crate) fn in_maybe_expr(
     scope: &Scope<'_>,
     expression: &Option<Expr>,
 ) -> Result<Option<Found>, Memory>
-    ensures { IfOk result (λ f.
-        option_map fault_of f ≡ first_in (faults_in (scope_of scope.now) tree.maybe_expr (source.of_maybe_expr expression.now))) }
+    ensures { IsFirst result (faults_in (scope_of scope.now) tree.maybe_expr (source.of_maybe_expr expression.now)) }
 {
     match expression {
         Some(expression) => in_expr(alloc, scope, expression),

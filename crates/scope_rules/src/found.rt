@@ -3,7 +3,7 @@
 ghost use Rattle.std.specs.Prelude.{◌≡◌, ◌++◌, List, IfOk, option_map};
 ghost use Rattle.es3_tree.specs.PlacedView as source;
 ghost use Rattle.scope_rules.specs.Faults.{Fault, is_before as is_fault_before, word_fault as word_faults, form_fault as form_faults};
-ghost use Rattle.scope_rules.specs.Found.{fault_of, first_in, earlier_of};
+ghost use Rattle.scope_rules.specs.Found.{fault_of, earlier_of, IsFirst};
 
 use caja_units::{Memory, Units};
 use es3_tree::Name;
@@ -37,8 +37,8 @@ impl Found {
     }
 }
 
-// Of two faults the one that comes first, the one in front where both stand alike.
-fn picked(front: Option<Found>, behind: Option<Found>) -> Option<Found>
+/// Of two faults the one that comes first, the one in front where both stand alike.
+pub(crate) fn picked(front: Option<Found>, behind: Option<Found>) -> Option<Found>
     ensures { option_map fault_of result ≡ earlier_of (option_map fault_of front) (option_map fault_of behind) }
 {
     match (front, behind) {
@@ -54,15 +54,21 @@ fn picked(front: Option<Found>, behind: Option<Found>) -> Option<Found>
     }
 }
 
-/// Of two faults the one that comes first, the one in front where both stand alike: of the first ones of two lists the
-/// first of both.
-pub(crate) fn earlier(front: Option<Found>, behind: Option<Found>) -> Option<Found>
-    ensures is { option_map fault_of result ≡ earlier_of (option_map fault_of front) (option_map fault_of behind) }
-    ensures of_parts { (fs gs : List Fault)
-        → option_map fault_of front ≡ first_in fs → option_map fault_of behind ≡ first_in gs
-        → option_map fault_of result ≡ first_in (fs ++ gs) }
+/// The first fault of two parts, of the first one of each.
+///
+/// # Errors
+///
+/// `Memory` where memory was wanting in one of them.
+pub(crate) fn earlier(
+    front: Result<Option<Found>, Memory>,
+    behind: Result<Option<Found>, Memory>,
+) -> Result<Option<Found>, Memory>
+    ensures { (fs gs : List Fault)
+        → IsFirst front fs
+        → IsFirst behind gs
+        → IsFirst result (fs ++ gs) }
 {
-    picked(front, behind)
+    Ok(picked(front?, behind?))
 }
 
 /// A word that breaks the rule, or not.
@@ -72,7 +78,7 @@ pub(crate) fn word_fault(
     word: &Name,
     is_broken: bool,
 ) -> Result<Option<Found>, Memory>
-    ensures { IfOk result (λ f. option_map fault_of f ≡ first_in (word_faults rule (source.word word.now) is_broken)) }
+    ensures { IsFirst result (word_faults rule (source.word word.now) is_broken) }
 {
     if is_broken {
         Ok(Some(Found::at_word(alloc, rule, word)?))
@@ -83,7 +89,7 @@ pub(crate) fn word_fault(
 
 /// A form that breaks the rule, at the byte where it begins.
 pub(crate) fn form_fault(alloc: Global, rule: u8, at: u32) -> Result<Option<Found>, Memory>
-    ensures { IfOk result (λ f. option_map fault_of f ≡ first_in (form_faults rule at)) }
+    ensures { IsFirst result (form_faults rule at) }
 {
     Ok(Some(Found {
         rule,

@@ -1,12 +1,12 @@
 //! Rule 11: jumps without their targets, and labels within a statement of the same label (ES3 12.7 to 12.9, 12.12).
 
-ghost use Rattle.std.specs.Prelude.{◌≡◌, map, IfOk, option_map};
+ghost use Rattle.std.specs.Prelude.{map};
 ghost use Rattle.es3_tree.specs.Tree as tree;
 ghost use Rattle.es3_tree.specs.PlacedView.{of_stmts};
 ghost use Rattle.es3_labels.specs.Around.{in_program};
 ghost use Rattle.es3_labels.specs.Misplaced.{misplaced};
 ghost use Rattle.scope_rules.specs.Faults.{bad_label};
-ghost use Rattle.scope_rules.specs.Found.{fault_of, first_in};
+ghost use Rattle.scope_rules.specs.Found.{IsFirst};
 
 use crate::found::Found;
 use caja_units::{Memory, Units};
@@ -21,8 +21,7 @@ use std::alloc::Global;
 /// `Memory` where memory is wanting.
 #[tactic(auto, using(crate::proofs::Misplaced::of_program))]
 pub(crate) fn first_bad_label(alloc: Global, program: &Program) -> Result<Option<Found>, Memory>
-    ensures { IfOk result (λ f. option_map fault_of f
-        ≡ first_in (map bad_label (misplaced in_program tree.stmts (of_stmts program.now.body.items)))) }
+    ensures { IsFirst result (map bad_label (misplaced in_program tree.stmts (of_stmts program.now.body.items))) }
 {
     let Some(found) = first_misplaced(program) else {
         return Ok(None);

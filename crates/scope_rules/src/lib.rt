@@ -82,8 +82,8 @@ pub fn check(alloc: Global, program: &Program, grants: &[Units]) -> Result<Modul
     ensures { Checks result grants.now (of_stmts program.now.body.items) }
 {
     let declarations = declarations::module_declarations(alloc, &program.body)?;
-    let names = faults::first_fault(alloc, grants, &declarations, &program.body)?;
-    if let Some(found) = found::earlier(names, labels::first_bad_label(alloc, program)?) {
+    let names = faults::first_fault(alloc, grants, &declarations, &program.body);
+    if let Some(found) = found::earlier(names, labels::first_bad_label(alloc, program))? {
         return Err(RuleError::Fault(found.rule, found.at, found.text));
     }
     let imports = imports::imports(alloc, grants, &declarations, &program.body)?;

@@ -18,8 +18,8 @@ returns-in_default-2 c =
     let names = c.args.grants.now ++ fixed_names in
     let one = of_stmts c.deref-3.result.now in
     let labels = map bad_label (misplaced in_program t.stmts (of_stmts c.args.program.now.body.items)) in
-    never ds names one (of_stmts c.deref-6.result.now) labels (option_map fault_of c.earlier.result) (option_map view.body c.in_ok-body.field-0)
-    (c.earlier.ensures.of_parts (redeclared [] ds ++ faults_in (in_module ds names) t.stmts one) labels c.in_ok-names.ensures c.in_ok-first_bad_label.ensures)
+    never ds names one (of_stmts c.deref-6.result.now) labels (option_map fault_of c.in_ok-found.field-0) (option_map view.body c.in_ok-body.field-0)
+    (c.in_ok-found.ensures (redeclared [] ds ++ faults_in (in_module ds names) t.stmts one) labels c.first_fault-names.ensures c.first_bad_label.ensures).told
     (ap (option_map fault_of) c.in_default.is)
     (ap of_stmts (c.deref-3.ensures.value ∙ sym c.deref-6.ensures.value))
     c.in_ok-body.ensures

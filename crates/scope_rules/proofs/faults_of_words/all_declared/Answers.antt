@@ -8,5 +8,5 @@ use Rattle.scope_rules.proofs.faults_of_words.all_declared.Goals as goal
 pub loop-name-preserved : goal.loop-name-preserved
 loop-name-preserved c =
     turn (λ l. all_declared (source.words l)) (declared (source.word c.name-item.result)) c.args.names.now c.loop-name.name-index c.name-item.result (option_map fault_of c.loop-name.found) _ _ (omega arith) c.name-item.is refl
-    c.in_ok-declared.ensures c.earlier-found.ensures.is
+    c.in_ok-declared.ensures.told c.picked-found.ensures
     ∙ c.loop-name.invariant
