@@ -1,6 +1,7 @@
 pub mod Checked
 pub mod Declared
 pub mod Declaring
+pub mod Formed
 pub mod Front
 pub mod Given
 pub mod Misplaced

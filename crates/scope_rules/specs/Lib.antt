@@ -8,4 +8,5 @@ pub mod Resolve
 pub mod Declaring
 pub mod Language
 pub mod Found
+pub mod Gives
 pub mod Check

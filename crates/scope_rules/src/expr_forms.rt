@@ -1,10 +1,11 @@
 //! Resolved expressions of parts that may have no resolved form: an expression is there exactly where its parts are.
 
-ghost use Rattle.std.specs.Prelude.{◌≡◌, IfOk, option_map};
+ghost use Rattle.std.specs.Prelude.{◌≡◌, IfOk, Option};
 ghost use Rattle.es3_tree.specs.PlacedView as source;
 ghost use Rattle.cajita_tree.specs.Tree as tree;
 ghost use Rattle.cajita_tree.specs.View as view;
 ghost use Rattle.cajita_tree.specs.Parts.{called, target_of};
+ghost use Rattle.scope_rules.specs.Gives.{Gives};
 ghost use Rattle.scope_rules.specs.Resolve.{
   one,
   both,
@@ -57,89 +58,124 @@ pub(crate) fn texts(alloc: Global, names: &[Name]) -> Result<Vec<Units>, Memory>
     Ok(texts)
 }
 
-pub(crate) fn array(elements: Option<Vec<CExpr>>) -> Option<CExpr>
-    ensures { option_map view.expr result ≡ one tree.array (option_map (λ v. view.of_exprs v.items) elements) }
+#[tactic(auto, using(crate::proofs::Formed::formed_one))]
+pub(crate) fn array(elements: Result<Option<Vec<CExpr>>, Memory>) -> Result<Option<CExpr>, Memory>
+    ensures { (x : Option (tree.Tree tree.exprs))
+        → Gives elements (λ v. view.of_exprs v.items) x
+        → Gives result view.expr (one tree.array x) }
 {
-    Some(make_array(elements?))
+    let Some(elements) = elements? else {
+        return Ok(None);
+    };
+    Ok(Some(make_array(elements)))
 }
 
-pub(crate) fn record_literal(fields: Option<Vec<(Units, CExpr)>>) -> Option<CExpr>
-    ensures { option_map view.expr result ≡ one tree.record_of (option_map (λ v. view.of_fields v.items) fields) }
+#[tactic(auto, using(crate::proofs::Formed::formed_one))]
+pub(crate) fn record_literal(
+    fields: Result<Option<Vec<(Units, CExpr)>>, Memory>,
+) -> Result<Option<CExpr>, Memory>
+    ensures { (x : Option (tree.Tree tree.fields))
+        → Gives fields (λ v. view.of_fields v.items) x
+        → Gives result view.expr (one tree.record_of x) }
 {
-    Some(make_record(fields?))
+    let Some(fields) = fields? else {
+        return Ok(None);
+    };
+    Ok(Some(make_record(fields)))
 }
 
-pub(crate) fn function(alloc: Global, function: Option<CFunc>) -> Result<Option<CExpr>, Memory>
-    ensures { IfOk result (λ r. option_map view.expr r ≡ one tree.function (option_map view.func function)) }
+#[tactic(auto, using(crate::proofs::Formed::formed_one))]
+pub(crate) fn function(
+    alloc: Global,
+    function: Result<Option<CFunc>, Memory>,
+) -> Result<Option<CExpr>, Memory>
+    ensures { (x : Option (tree.Tree tree.func))
+        → Gives function view.func x
+        → Gives result view.expr (one tree.function x) }
 {
-    let Some(function) = function else {
+    let Some(function) = function? else {
         return Ok(None);
     };
     Ok(Some(make_function(alloc, function)?))
 }
 
-pub(crate) fn dot(alloc: Global, object: Option<CExpr>, key: &Name) -> Result<Option<CExpr>, Memory>
-    ensures { IfOk result (λ r. option_map view.expr r
-        ≡ one (λ x. tree.read x (tree.fixed key.now.text)) (option_map view.expr object)) }
+#[tactic(auto, using(crate::proofs::Formed::formed_one))]
+pub(crate) fn dot(
+    alloc: Global,
+    key: &Name,
+    object: Result<Option<CExpr>, Memory>,
+) -> Result<Option<CExpr>, Memory>
+    ensures { (x : Option (tree.Tree tree.expr))
+        → Gives object view.expr x
+        → Gives result view.expr (one (λ o. tree.read o (tree.fixed key.now.text)) x) }
 {
-    let Some(object) = object else {
+    let Some(object) = object? else {
         return Ok(None);
     };
     let key = Key::Fixed(key.text.copy(alloc)?);
     Ok(Some(make_read(alloc, object, key)?))
 }
 
+#[tactic(auto, using(crate::proofs::Formed::formed_both))]
 pub(crate) fn index(
     alloc: Global,
-    object: Option<CExpr>,
-    key: Option<CExpr>,
+    object: Result<Option<CExpr>, Memory>,
+    key: Result<Option<CExpr>, Memory>,
 ) -> Result<Option<CExpr>, Memory>
-    ensures { IfOk result (λ r. option_map view.expr r
-        ≡ both (λ x y. tree.read x (tree.computed y)) (option_map view.expr object) (option_map view.expr key)) }
+    ensures { (x : Option (tree.Tree tree.expr)) (y : Option (tree.Tree tree.expr))
+        → Gives object view.expr x → Gives key view.expr y
+        → Gives result view.expr (both (λ o k. tree.read o (tree.computed k)) x y) }
 {
-    let (Some(object), Some(key)) = (object, key) else {
+    let (Some(object), Some(key)) = (object?, key?) else {
         return Ok(None);
     };
     let key = make_computed(alloc, key)?;
     Ok(Some(make_read(alloc, object, key)?))
 }
 
+#[tactic(auto, using(crate::proofs::Formed::formed_both))]
 pub(crate) fn call(
     alloc: Global,
-    callee: Option<CExpr>,
-    arguments: Option<Vec<CExpr>>,
+    callee: Result<Option<CExpr>, Memory>,
+    arguments: Result<Option<Vec<CExpr>>, Memory>,
 ) -> Result<Option<CExpr>, Memory>
-    ensures { IfOk result (λ r. option_map view.expr r
-        ≡ both called (option_map view.expr callee) (option_map (λ v. view.of_exprs v.items) arguments)) }
+    ensures { (x : Option (tree.Tree tree.expr)) (y : Option (tree.Tree tree.exprs))
+        → Gives callee view.expr x → Gives arguments (λ v. view.of_exprs v.items) y
+        → Gives result view.expr (both called x y) }
 {
-    let (Some(callee), Some(arguments)) = (callee, arguments) else {
+    let (Some(callee), Some(arguments)) = (callee?, arguments?) else {
         return Ok(None);
     };
     Ok(Some(callee.called(alloc, arguments)?))
 }
 
+#[tactic(auto, using(crate::proofs::Formed::formed_both))]
 pub(crate) fn new(
     alloc: Global,
-    constructor: Option<CExpr>,
-    arguments: Option<Vec<CExpr>>,
+    constructor: Result<Option<CExpr>, Memory>,
+    arguments: Result<Option<Vec<CExpr>>, Memory>,
 ) -> Result<Option<CExpr>, Memory>
-    ensures { IfOk result (λ r. option_map view.expr r
-        ≡ both tree.new (option_map view.expr constructor) (option_map (λ v. view.of_exprs v.items) arguments)) }
+    ensures { (x : Option (tree.Tree tree.expr)) (y : Option (tree.Tree tree.exprs))
+        → Gives constructor view.expr x → Gives arguments (λ v. view.of_exprs v.items) y
+        → Gives result view.expr (both tree.new x y) }
 {
-    let (Some(constructor), Some(arguments)) = (constructor, arguments) else {
+    let (Some(constructor), Some(arguments)) = (constructor?, arguments?) else {
         return Ok(None);
     };
     Ok(Some(make_new(alloc, constructor, arguments)?))
 }
 
+#[tactic(auto, using(crate::proofs::Formed::formed_from))]
 pub(crate) fn unary(
     alloc: Global,
     op: UnOp,
-    operand: Option<CExpr>,
+    operand: Result<Option<CExpr>, Memory>,
 ) -> Result<Option<CExpr>, Memory>
-    ensures { IfOk result (λ r. option_map view.expr r ≡ from_part (unary_of op) (option_map view.expr operand)) }
+    ensures { (x : Option (tree.Tree tree.expr))
+        → Gives operand view.expr x
+        → Gives result view.expr (from_part (unary_of op) x) }
 {
-    let Some(operand) = operand else {
+    let Some(operand) = operand? else {
         return Ok(None);
     };
     match op {
@@ -149,102 +185,129 @@ pub(crate) fn unary(
 }
 
 /// The expression as what is written to.
-pub(crate) fn target(written: Option<CExpr>) -> Option<Target>
-    ensures { option_map view.target result ≡ from_part target_of (option_map view.expr written) }
+#[tactic(auto, using(crate::proofs::Formed::formed_from))]
+pub(crate) fn target(written: Result<Option<CExpr>, Memory>) -> Result<Option<Target>, Memory>
+    ensures { (x : Option (tree.Tree tree.expr))
+        → Gives written view.expr x
+        → Gives result view.target (from_part target_of x) }
 {
-    written?.into_target()
+    let Some(written) = written? else {
+        return Ok(None);
+    };
+    Ok(written.into_target())
 }
 
-pub(crate) fn step(up: bool, before: bool, operand: Option<CExpr>) -> Option<CExpr>
-    ensures { option_map view.expr result
-        ≡ one (tree.step up before) (from_part target_of (option_map view.expr operand)) }
+#[tactic(auto, using(crate::proofs::Formed::formed_one))]
+pub(crate) fn step(
+    up: bool,
+    before: bool,
+    operand: Result<Option<Target>, Memory>,
+) -> Result<Option<CExpr>, Memory>
+    ensures { (x : Option (tree.Tree tree.target))
+        → Gives operand view.target x
+        → Gives result view.expr (one (tree.step up before) x) }
 {
-    Some(make_step(up, before, target(operand)?))
+    let Some(operand) = operand? else {
+        return Ok(None);
+    };
+    Ok(Some(make_step(up, before, operand)))
 }
 
+#[tactic(auto, using(crate::proofs::Formed::formed_both))]
 pub(crate) fn assign(
     alloc: Global,
     op: Option<BinOp>,
-    written: Option<CExpr>,
-    value: Option<CExpr>,
+    written: Result<Option<Target>, Memory>,
+    value: Result<Option<CExpr>, Memory>,
 ) -> Result<Option<CExpr>, Memory>
-    ensures { IfOk result (λ r. option_map view.expr r
-        ≡ both (tree.assign op) (from_part target_of (option_map view.expr written)) (option_map view.expr value)) }
+    ensures { (x : Option (tree.Tree tree.target)) (y : Option (tree.Tree tree.expr))
+        → Gives written view.target x → Gives value view.expr y
+        → Gives result view.expr (both (tree.assign op) x y) }
 {
-    let (Some(target), Some(value)) = (target(written), value) else {
+    let (Some(written), Some(value)) = (written?, value?) else {
         return Ok(None);
     };
-    Ok(Some(make_assign(alloc, op, target, value)?))
+    Ok(Some(make_assign(alloc, op, written, value)?))
 }
 
+#[tactic(auto, using(crate::proofs::Formed::formed_both))]
 pub(crate) fn binary(
     alloc: Global,
     op: BinOp,
-    left: Option<CExpr>,
-    right: Option<CExpr>,
+    left: Result<Option<CExpr>, Memory>,
+    right: Result<Option<CExpr>, Memory>,
 ) -> Result<Option<CExpr>, Memory>
-    ensures { IfOk result (λ r. option_map view.expr r
-        ≡ both (tree.binary op) (option_map view.expr left) (option_map view.expr right)) }
+    ensures { (x : Option (tree.Tree tree.expr)) (y : Option (tree.Tree tree.expr))
+        → Gives left view.expr x → Gives right view.expr y
+        → Gives result view.expr (both (tree.binary op) x y) }
 {
-    let (Some(left), Some(right)) = (left, right) else {
+    let (Some(left), Some(right)) = (left?, right?) else {
         return Ok(None);
     };
     Ok(Some(make_binary(alloc, op, left, right)?))
 }
 
+#[tactic(auto, using(crate::proofs::Formed::formed_both))]
 pub(crate) fn and(
     alloc: Global,
-    left: Option<CExpr>,
-    right: Option<CExpr>,
+    left: Result<Option<CExpr>, Memory>,
+    right: Result<Option<CExpr>, Memory>,
 ) -> Result<Option<CExpr>, Memory>
-    ensures { IfOk result (λ r. option_map view.expr r
-        ≡ both tree.and (option_map view.expr left) (option_map view.expr right)) }
+    ensures { (x : Option (tree.Tree tree.expr)) (y : Option (tree.Tree tree.expr))
+        → Gives left view.expr x → Gives right view.expr y
+        → Gives result view.expr (both tree.and x y) }
 {
-    let (Some(left), Some(right)) = (left, right) else {
+    let (Some(left), Some(right)) = (left?, right?) else {
         return Ok(None);
     };
     Ok(Some(make_and(alloc, left, right)?))
 }
 
+#[tactic(auto, using(crate::proofs::Formed::formed_both))]
 pub(crate) fn or(
     alloc: Global,
-    left: Option<CExpr>,
-    right: Option<CExpr>,
+    left: Result<Option<CExpr>, Memory>,
+    right: Result<Option<CExpr>, Memory>,
 ) -> Result<Option<CExpr>, Memory>
-    ensures { IfOk result (λ r. option_map view.expr r
-        ≡ both tree.or (option_map view.expr left) (option_map view.expr right)) }
+    ensures { (x : Option (tree.Tree tree.expr)) (y : Option (tree.Tree tree.expr))
+        → Gives left view.expr x → Gives right view.expr y
+        → Gives result view.expr (both tree.or x y) }
 {
-    let (Some(left), Some(right)) = (left, right) else {
+    let (Some(left), Some(right)) = (left?, right?) else {
         return Ok(None);
     };
     Ok(Some(make_or(alloc, left, right)?))
 }
 
-pub(crate) fn conditional(
-    alloc: Global,
-    test: Option<CExpr>,
-    yes: Option<CExpr>,
-    no: Option<CExpr>,
-) -> Result<Option<CExpr>, Memory>
-    ensures { IfOk result (λ r. option_map view.expr r
-        ≡ three tree.choice (option_map view.expr test) (option_map view.expr yes) (option_map view.expr no)) }
-{
-    let (Some(test), Some(yes), Some(no)) = (test, yes, no) else {
-        return Ok(None);
-    };
-    Ok(Some(make_cond(alloc, test, yes, no)?))
-}
-
+#[tactic(auto, using(crate::proofs::Formed::formed_both))]
 pub(crate) fn comma(
     alloc: Global,
-    left: Option<CExpr>,
-    right: Option<CExpr>,
+    left: Result<Option<CExpr>, Memory>,
+    right: Result<Option<CExpr>, Memory>,
 ) -> Result<Option<CExpr>, Memory>
-    ensures { IfOk result (λ r. option_map view.expr r
-        ≡ both tree.comma (option_map view.expr left) (option_map view.expr right)) }
+    ensures { (x : Option (tree.Tree tree.expr)) (y : Option (tree.Tree tree.expr))
+        → Gives left view.expr x → Gives right view.expr y
+        → Gives result view.expr (both tree.comma x y) }
 {
-    let (Some(left), Some(right)) = (left, right) else {
+    let (Some(left), Some(right)) = (left?, right?) else {
         return Ok(None);
     };
     Ok(Some(make_comma(alloc, left, right)?))
+}
+
+#[tactic(auto, using(crate::proofs::Formed::formed_three))]
+pub(crate) fn conditional(
+    alloc: Global,
+    test: Result<Option<CExpr>, Memory>,
+    yes: Result<Option<CExpr>, Memory>,
+    no: Result<Option<CExpr>, Memory>,
+) -> Result<Option<CExpr>, Memory>
+    ensures { (x : Option (tree.Tree tree.expr)) (y : Option (tree.Tree tree.expr)) (z : Option (tree.Tree tree.expr))
+        → Gives test view.expr x → Gives yes view.expr y → Gives no view.expr z
+        → Gives result view.expr (three tree.choice x y z) }
+{
+    let (Some(test), Some(yes), Some(no)) = (test?, yes?, no?) else {
+        return Ok(None);
+    };
+    Ok(Some(make_cond(alloc, test, yes, no)?))
 }

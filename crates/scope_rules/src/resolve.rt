@@ -1,10 +1,11 @@
 //! The resolved form of a part: the part without its places, where each form in it has a resolved form.
 
-ghost use Rattle.std.specs.Prelude.{◌≡◌, IfOk, option_map};
+ghost use Rattle.std.specs.Prelude.{◌≡◌};
 ghost use Rattle.es3_tree.specs.Tree as tree;
 ghost use Rattle.es3_tree.specs.PlacedView as source;
 ghost use Rattle.cajita_tree.specs.View as view;
 ghost use Rattle.scope_rules.specs.Declaring.{is_declaration as declares_function};
+ghost use Rattle.scope_rules.specs.Gives.{Gives};
 ghost use Rattle.scope_rules.specs.Resolve.{resolved, declared_functions, body_of};
 
 use crate::arguments::are_named;
@@ -21,7 +22,7 @@ use std::alloc::Global;
 #[cycle(resolve)]
 #[tactic(auto, unfolding(crate::specs::Resolve::resolved), using(es3_tree::proofs::PlacedRows::placed_views))]
 fn resolve_expr(alloc: Global, expression: &Expr) -> Result<Option<CExpr>, Memory>
-    ensures { IfOk result (λ r. option_map view.expr r ≡ resolved tree.expr (source.expr expression.now)) }
+    ensures { Gives result view.expr (resolved tree.expr (source.expr expression.now)) }
 {
     match expression {
         Expr::This(_) => Ok(None),
@@ -30,52 +31,51 @@ fn resolve_expr(alloc: Global, expression: &Expr) -> Result<Option<CExpr>, Memor
         Expr::Num(number) => Ok(Some(CExpr::Num(*number))),
         Expr::Text(text) => Ok(Some(CExpr::Text(text.copy(alloc)?))),
         Expr::Name(name) => Ok(Some(expr_forms::name(alloc, name)?)),
-        Expr::Array(elements) => Ok(expr_forms::array(resolve_exprs(alloc, elements)?)),
-        Expr::Object(fields) => Ok(expr_forms::record_literal(resolve_fields(alloc, fields)?)),
-        Expr::Func(function) => expr_forms::function(alloc, resolve_func(alloc, function)?),
-        Expr::Dot(object, key) => expr_forms::dot(alloc, resolve_expr(alloc, object)?, key),
+        Expr::Array(elements) => expr_forms::array(resolve_exprs(alloc, elements)),
+        Expr::Object(fields) => expr_forms::record_literal(resolve_fields(alloc, fields)),
+        Expr::Func(function) => expr_forms::function(alloc, resolve_func(alloc, function)),
+        Expr::Dot(object, key) => expr_forms::dot(alloc, key, resolve_expr(alloc, object)),
         Expr::Index(object, key) => {
-            let object = resolve_expr(alloc, object)?;
-            expr_forms::index(alloc, object, resolve_expr(alloc, key)?)
+            let object = resolve_expr(alloc, object);
+            expr_forms::index(alloc, object, resolve_expr(alloc, key))
         }
         Expr::Call(callee, arguments) => {
-            let callee = resolve_expr(alloc, callee)?;
-            expr_forms::call(alloc, callee, resolve_exprs(alloc, arguments)?)
+            let callee = resolve_expr(alloc, callee);
+            expr_forms::call(alloc, callee, resolve_exprs(alloc, arguments))
         }
         Expr::New(constructor, arguments) => {
-            let constructor = resolve_expr(alloc, constructor)?;
-            expr_forms::new(alloc, constructor, resolve_exprs(alloc, arguments)?)
+            let constructor = resolve_expr(alloc, constructor);
+            expr_forms::new(alloc, constructor, resolve_exprs(alloc, arguments))
         }
-        Expr::Unary(op, operand, _) => {
-            expr_forms::unary(alloc, *op, resolve_expr(alloc, operand)?)
-        }
+        Expr::Unary(op, operand, _) => expr_forms::unary(alloc, *op, resolve_expr(alloc, operand)),
         Expr::Step(up, before, operand) => {
-            Ok(expr_forms::step(*up, *before, resolve_expr(alloc, operand)?))
+            let operand = expr_forms::target(resolve_expr(alloc, operand));
+            expr_forms::step(*up, *before, operand)
         }
         Expr::Binary(op, left, right) => {
-            let left = resolve_expr(alloc, left)?;
-            expr_forms::binary(alloc, *op, left, resolve_expr(alloc, right)?)
+            let left = resolve_expr(alloc, left);
+            expr_forms::binary(alloc, *op, left, resolve_expr(alloc, right))
         }
         Expr::And(left, right) => {
-            let left = resolve_expr(alloc, left)?;
-            expr_forms::and(alloc, left, resolve_expr(alloc, right)?)
+            let left = resolve_expr(alloc, left);
+            expr_forms::and(alloc, left, resolve_expr(alloc, right))
         }
         Expr::Or(left, right) => {
-            let left = resolve_expr(alloc, left)?;
-            expr_forms::or(alloc, left, resolve_expr(alloc, right)?)
+            let left = resolve_expr(alloc, left);
+            expr_forms::or(alloc, left, resolve_expr(alloc, right))
         }
         Expr::Cond(test, yes, no) => {
-            let test = resolve_expr(alloc, test)?;
-            let yes = resolve_expr(alloc, yes)?;
-            expr_forms::conditional(alloc, test, yes, resolve_expr(alloc, no)?)
+            let test = resolve_expr(alloc, test);
+            let yes = resolve_expr(alloc, yes);
+            expr_forms::conditional(alloc, test, yes, resolve_expr(alloc, no))
         }
         Expr::Assign(op, written, value) => {
-            let written = resolve_expr(alloc, written)?;
-            expr_forms::assign(alloc, *op, written, resolve_expr(alloc, value)?)
+            let written = expr_forms::target(resolve_expr(alloc, written));
+            expr_forms::assign(alloc, *op, written, resolve_expr(alloc, value))
         }
         Expr::Comma(left, right) => {
-            let left = resolve_expr(alloc, left)?;
-            expr_forms::comma(alloc, left, resolve_expr(alloc, right)?)
+            let left = resolve_expr(alloc, left);
+            expr_forms::comma(alloc, left, resolve_expr(alloc, right))
         }
     }
 }
@@ -83,8 +83,7 @@ fn resolve_expr(alloc: Global, expression: &Expr) -> Result<Option<CExpr>, Memor
 #[cycle(resolve)]
 #[tactic(auto, unfolding(crate::specs::Resolve::resolved))]
 fn resolve_exprs(alloc: Global, list: &[Expr]) -> Result<Option<Vec<CExpr>>, Memory>
-    ensures { IfOk result (λ r.
-        option_map (λ v. view.of_exprs v.items) r ≡ resolved tree.exprs (source.of_exprs list.now)) }
+    ensures { Gives result (λ v. view.of_exprs v.items) (resolved tree.exprs (source.of_exprs list.now)) }
 {
     let mut done = Vec::new(alloc);
     for expression in list {
@@ -102,8 +101,7 @@ fn resolve_fields(
     alloc: Global,
     fields: &[(Name, Expr)],
 ) -> Result<Option<Vec<(Units, CExpr)>>, Memory>
-    ensures { IfOk result (λ r.
-        option_map (λ v. view.of_fields v.items) r ≡ resolved tree.fields (source.of_fields fields.now)) }
+    ensures { Gives result (λ v. view.of_fields v.items) (resolved tree.fields (source.of_fields fields.now)) }
 {
     let mut done = Vec::new(alloc);
     for (key, value) in fields {
@@ -121,8 +119,7 @@ fn resolve_maybe_expr(
     alloc: Global,
     expression: &Option<Expr>,
 ) -> Result<Option<Option<CExpr>>, Memory>
-    ensures { IfOk result (λ r.
-        option_map view.of_maybe_expr r ≡ resolved tree.maybe_expr (source.of_maybe_expr expression.now)) }
+    ensures { Gives result view.of_maybe_expr (resolved tree.maybe_expr (source.of_maybe_expr expression.now)) }
 {
     let Some(expression) = expression else {
         return Ok(Some(None));
@@ -136,7 +133,7 @@ fn resolve_maybe_expr(
 #[cycle(resolve)]
 #[tactic(auto, unfolding(crate::specs::Resolve::resolved))]
 fn resolve_func(alloc: Global, function: &Func) -> Result<Option<CFunc>, Memory>
-    ensures { IfOk result (λ r. option_map view.func r ≡ resolved tree.func (source.func function.now)) }
+    ensures { Gives result view.func (resolved tree.func (source.func function.now)) }
 {
     let Some(body) = resolve_body(alloc, &function.body)? else {
         return Ok(None);
@@ -153,7 +150,7 @@ fn resolve_func(alloc: Global, function: &Func) -> Result<Option<CFunc>, Memory>
 /// `Memory` where memory is wanting.
 #[cycle(resolve)]
 pub(crate) fn resolve_body(alloc: Global, body: &[Stmt]) -> Result<Option<CBody>, Memory>
-    ensures { IfOk result (λ r. option_map view.body r ≡ body_of (source.of_stmts body.now)) }
+    ensures { Gives result view.body (body_of (source.of_stmts body.now)) }
 {
     let Some(funcs) = resolve_funcs(alloc, body)? else {
         return Ok(None);
@@ -169,8 +166,7 @@ pub(crate) fn resolve_body(alloc: Global, body: &[Stmt]) -> Result<Option<CBody>
 #[cycle(resolve)]
 #[tactic(auto, unfolding(crate::specs::Resolve::declared_functions), using(es3_tree::proofs::PlacedRows::placed_views))]
 fn resolve_funcs(alloc: Global, list: &[Stmt]) -> Result<Option<Vec<CFunc>>, Memory>
-    ensures { IfOk result (λ r.
-        option_map (λ v. view.of_funcs v.items) r ≡ declared_functions (source.of_stmts list.now)) }
+    ensures { Gives result (λ v. view.of_funcs v.items) (declared_functions (source.of_stmts list.now)) }
 {
     let mut done = Vec::new(alloc);
     for statement in list {
@@ -187,59 +183,59 @@ fn resolve_funcs(alloc: Global, list: &[Stmt]) -> Result<Option<Vec<CFunc>>, Mem
 #[cycle(resolve)]
 #[tactic(auto, unfolding(crate::specs::Resolve::resolved), using(es3_tree::proofs::PlacedRows::placed_views))]
 fn resolve_stmt(alloc: Global, statement: &Stmt) -> Result<Option<CStmt>, Memory>
-    ensures { IfOk result (λ r. option_map view.stmt r ≡ resolved tree.stmt (source.stmt statement.now)) }
+    ensures { Gives result view.stmt (resolved tree.stmt (source.stmt statement.now)) }
 {
     match statement {
-        Stmt::Block(body) => Ok(stmt_forms::block(resolve_stmts(alloc, body)?)),
-        Stmt::Var(items) => Ok(stmt_forms::var(resolve_items(alloc, items)?)),
+        Stmt::Block(body) => stmt_forms::block(resolve_stmts(alloc, body)),
+        Stmt::Var(items) => stmt_forms::var(resolve_items(alloc, items)),
         Stmt::Empty | Stmt::Func(_) => Ok(Some(CStmt::Empty)),
-        Stmt::Expr(value) => Ok(stmt_forms::expression(resolve_expr(alloc, value)?)),
+        Stmt::Expr(value) => stmt_forms::expression(resolve_expr(alloc, value)),
         Stmt::If(test, then, otherwise) => {
-            let test = resolve_expr(alloc, test)?;
-            let then = resolve_stmt(alloc, then)?;
-            stmt_forms::branch(alloc, test, then, resolve_maybe_stmt(alloc, otherwise)?)
+            let test = resolve_expr(alloc, test);
+            let then = resolve_stmt(alloc, then);
+            stmt_forms::branch(alloc, test, then, resolve_maybe_stmt(alloc, otherwise))
         }
         Stmt::While(test, body) => {
-            let test = resolve_expr(alloc, test)?;
-            stmt_forms::while_loop(alloc, test, resolve_stmt(alloc, body)?)
+            let test = resolve_expr(alloc, test);
+            stmt_forms::while_loop(alloc, test, resolve_stmt(alloc, body))
         }
         Stmt::Do(body, test) => {
-            let body = resolve_stmt(alloc, body)?;
-            stmt_forms::do_loop(alloc, body, resolve_expr(alloc, test)?)
+            let body = resolve_stmt(alloc, body);
+            stmt_forms::do_loop(alloc, body, resolve_expr(alloc, test))
         }
         Stmt::For(start, test, update, body) => {
-            let start = resolve_first(alloc, start)?;
-            let test = resolve_maybe_expr(alloc, test)?;
-            let update = resolve_maybe_expr(alloc, update)?;
-            stmt_forms::for_loop(alloc, start, test, update, resolve_stmt(alloc, body)?)
+            let start = resolve_first(alloc, start);
+            let test = resolve_maybe_expr(alloc, test);
+            let update = resolve_maybe_expr(alloc, update);
+            stmt_forms::for_loop(alloc, start, test, update, resolve_stmt(alloc, body))
         }
         Stmt::ForIn(target, object, body) => {
-            let target = resolve_target(alloc, target)?;
-            let object = resolve_expr(alloc, object)?;
-            stmt_forms::for_in(alloc, target, object, resolve_stmt(alloc, body)?)
+            let target = resolve_target(alloc, target);
+            let object = resolve_expr(alloc, object);
+            stmt_forms::for_in(alloc, target, object, resolve_stmt(alloc, body))
         }
         Stmt::Continue(label, _) => Ok(Some(CStmt::Continue(expr_forms::text(alloc, label)?))),
         Stmt::Break(label, _) => Ok(Some(CStmt::Break(expr_forms::text(alloc, label)?))),
-        Stmt::Return(value, _) => Ok(stmt_forms::return_value(resolve_maybe_expr(alloc, value)?)),
+        Stmt::Return(value, _) => stmt_forms::return_value(resolve_maybe_expr(alloc, value)),
         Stmt::With(_, _, _) => Ok(None),
         Stmt::Switch(value, cases) => {
-            let value = resolve_expr(alloc, value)?;
-            Ok(stmt_forms::switch(value, resolve_cases(alloc, cases)?))
+            let value = resolve_expr(alloc, value);
+            stmt_forms::switch(value, resolve_cases(alloc, cases))
         }
-        Stmt::Label(label, body) => stmt_forms::label(alloc, label, resolve_stmt(alloc, body)?),
-        Stmt::Throw(value) => Ok(stmt_forms::throw(resolve_expr(alloc, value)?)),
+        Stmt::Label(label, body) => stmt_forms::label(alloc, label, resolve_stmt(alloc, body)),
+        Stmt::Throw(value) => stmt_forms::throw(resolve_expr(alloc, value)),
         Stmt::Try(body, handler, last) => {
             let handler = match handler {
                 Some((name, caught)) => {
-                    stmt_forms::handler(alloc, name, resolve_stmts(alloc, caught)?)?
+                    stmt_forms::handler(alloc, name, resolve_stmts(alloc, caught))
                 }
-                None => Some(None),
+                None => Ok(Some(None)),
             };
             let last = match last {
-                Some(last) => stmt_forms::last(resolve_stmts(alloc, last)?),
-                None => Some(None),
+                Some(last) => stmt_forms::last(resolve_stmts(alloc, last)),
+                None => Ok(Some(None)),
             };
-            Ok(stmt_forms::try_catch(resolve_stmts(alloc, body)?, handler, last))
+            stmt_forms::try_catch(resolve_stmts(alloc, body), handler, last)
         }
     }
 }
@@ -255,8 +251,7 @@ fn is_declaration(statement: &Stmt) -> bool
 #[cycle(resolve)]
 #[tactic(auto, unfolding(crate::specs::Resolve::resolved))]
 fn resolve_stmts(alloc: Global, list: &[Stmt]) -> Result<Option<Vec<CStmt>>, Memory>
-    ensures { IfOk result (λ r.
-        option_map (λ v. view.of_stmts v.items) r ≡ resolved tree.stmts (source.of_stmts list.now)) }
+    ensures { Gives result (λ v. view.of_stmts v.items) (resolved tree.stmts (source.of_stmts list.now)) }
 {
     let mut done = Vec::new(alloc);
     for statement in list {
@@ -277,8 +272,7 @@ fn resolve_maybe_stmt(
     alloc: Global,
     statement: &Option<Box<Stmt>>,
 ) -> Result<Option<Option<CStmt>>, Memory>
-    ensures { IfOk result (λ r.
-        option_map view.of_else r ≡ resolved tree.maybe_stmt (source.of_maybe_stmt statement.now)) }
+    ensures { Gives result view.of_else (resolved tree.maybe_stmt (source.of_maybe_stmt statement.now)) }
 {
     let Some(statement) = statement else {
         return Ok(Some(None));
@@ -292,8 +286,7 @@ fn resolve_maybe_stmt(
 #[cycle(resolve)]
 #[tactic(auto, unfolding(crate::specs::Resolve::resolved))]
 fn resolve_items(alloc: Global, items: &[VarItem]) -> Result<Option<Vec<CVarItem>>, Memory>
-    ensures { IfOk result (λ r.
-        option_map (λ v. view.of_items v.items) r ≡ resolved tree.items (source.of_items items.now)) }
+    ensures { Gives result (λ v. view.of_items v.items) (resolved tree.items (source.of_items items.now)) }
 {
     let mut done = Vec::new(alloc);
     for item in items {
@@ -311,8 +304,7 @@ fn resolve_items(alloc: Global, items: &[VarItem]) -> Result<Option<Vec<CVarItem
 #[cycle(resolve)]
 #[tactic(auto, unfolding(crate::specs::Resolve::resolved))]
 fn resolve_cases(alloc: Global, cases: &[Case]) -> Result<Option<Vec<CCase>>, Memory>
-    ensures { IfOk result (λ r.
-        option_map (λ v. view.of_cases v.items) r ≡ resolved tree.cases (source.of_cases cases.now)) }
+    ensures { Gives result (λ v. view.of_cases v.items) (resolved tree.cases (source.of_cases cases.now)) }
 {
     let mut done = Vec::new(alloc);
     for case in cases {
@@ -330,22 +322,22 @@ fn resolve_cases(alloc: Global, cases: &[Case]) -> Result<Option<Vec<CCase>>, Me
 #[cycle(resolve)]
 #[tactic(auto, unfolding(crate::specs::Resolve::resolved), using(es3_tree::proofs::PlacedRows::placed_views))]
 fn resolve_first(alloc: Global, start: &First) -> Result<Option<CFirst>, Memory>
-    ensures { IfOk result (λ r. option_map view.first r ≡ resolved tree.first (source.first start.now)) }
+    ensures { Gives result view.first (resolved tree.first (source.first start.now)) }
 {
     match start {
         First::None => Ok(Some(CFirst::None)),
-        First::Var(items) => Ok(stmt_forms::first_var(resolve_items(alloc, items)?)),
-        First::Expr(value) => Ok(stmt_forms::first_expr(resolve_expr(alloc, value)?)),
+        First::Var(items) => stmt_forms::first_var(resolve_items(alloc, items)),
+        First::Expr(value) => stmt_forms::first_expr(resolve_expr(alloc, value)),
     }
 }
 
 #[cycle(resolve)]
 #[tactic(auto, unfolding(crate::specs::Resolve::resolved), using(es3_tree::proofs::PlacedRows::placed_views))]
 fn resolve_target(alloc: Global, target: &Loop) -> Result<Option<Target>, Memory>
-    ensures { IfOk result (λ r. option_map view.target r ≡ resolved tree.loop_target (source.loop_target target.now)) }
+    ensures { Gives result view.target (resolved tree.loop_target (source.loop_target target.now)) }
 {
     match target {
         Loop::Var(name) => Ok(Some(Target::Var(name.text.copy(alloc)?))),
-        Loop::Target(written) => Ok(expr_forms::target(resolve_expr(alloc, written)?)),
+        Loop::Target(written) => expr_forms::target(resolve_expr(alloc, written)),
     }
 }

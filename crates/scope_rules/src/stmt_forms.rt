@@ -1,8 +1,9 @@
 //! Resolved statements of parts that may have no resolved form: a statement is there exactly where its parts are.
 
-ghost use Rattle.std.specs.Prelude.{◌≡◌, IfOk, option_map};
+ghost use Rattle.std.specs.Prelude.{Option};
 ghost use Rattle.cajita_tree.specs.Tree as tree;
 ghost use Rattle.cajita_tree.specs.View as view;
+ghost use Rattle.scope_rules.specs.Gives.{Gives};
 ghost use Rattle.scope_rules.specs.Resolve.{one, both, three, four};
 
 use caja_units::{Memory, Units};
@@ -13,176 +14,256 @@ use cajita_tree::{
 use es3_tree::Name;
 use std::alloc::Global;
 
-pub(crate) fn block(body: Option<Vec<CStmt>>) -> Option<CStmt>
-    ensures { option_map view.stmt result ≡ one tree.block (option_map (λ v. view.of_stmts v.items) body) }
+#[tactic(auto, using(crate::proofs::Formed::formed_one))]
+pub(crate) fn block(body: Result<Option<Vec<CStmt>>, Memory>) -> Result<Option<CStmt>, Memory>
+    ensures { (x : Option (tree.Tree tree.stmts))
+        → Gives body (λ v. view.of_stmts v.items) x
+        → Gives result view.stmt (one tree.block x) }
 {
-    Some(make_block(body?))
+    let Some(body) = body? else {
+        return Ok(None);
+    };
+    Ok(Some(make_block(body)))
 }
 
-pub(crate) fn var(items: Option<Vec<CVarItem>>) -> Option<CStmt>
-    ensures { option_map view.stmt result ≡ one tree.var (option_map (λ v. view.of_items v.items) items) }
+#[tactic(auto, using(crate::proofs::Formed::formed_one))]
+pub(crate) fn var(items: Result<Option<Vec<CVarItem>>, Memory>) -> Result<Option<CStmt>, Memory>
+    ensures { (x : Option (tree.Tree tree.items))
+        → Gives items (λ v. view.of_items v.items) x
+        → Gives result view.stmt (one tree.var x) }
 {
-    Some(make_var(items?))
+    let Some(items) = items? else {
+        return Ok(None);
+    };
+    Ok(Some(make_var(items)))
 }
 
-pub(crate) fn expression(value: Option<CExpr>) -> Option<CStmt>
-    ensures { option_map view.stmt result ≡ one tree.expression (option_map view.expr value) }
+#[tactic(auto, using(crate::proofs::Formed::formed_one))]
+pub(crate) fn expression(value: Result<Option<CExpr>, Memory>) -> Result<Option<CStmt>, Memory>
+    ensures { (x : Option (tree.Tree tree.expr))
+        → Gives value view.expr x
+        → Gives result view.stmt (one tree.expression x) }
 {
-    Some(CStmt::Expr(value?))
+    let Some(value) = value? else {
+        return Ok(None);
+    };
+    Ok(Some(CStmt::Expr(value)))
 }
 
+#[tactic(auto, using(crate::proofs::Formed::formed_three))]
 pub(crate) fn branch(
     alloc: Global,
-    test: Option<CExpr>,
-    then: Option<CStmt>,
-    otherwise: Option<Option<CStmt>>,
+    test: Result<Option<CExpr>, Memory>,
+    then: Result<Option<CStmt>, Memory>,
+    otherwise: Result<Option<Option<CStmt>>, Memory>,
 ) -> Result<Option<CStmt>, Memory>
-    ensures { IfOk result (λ r. option_map view.stmt r
-        ≡ three tree.branch (option_map view.expr test) (option_map view.stmt then) (option_map view.of_else otherwise)) }
+    ensures { (x : Option (tree.Tree tree.expr)) (y : Option (tree.Tree tree.stmt)) (z : Option (tree.Tree tree.maybe_stmt))
+        → Gives test view.expr x → Gives then view.stmt y → Gives otherwise view.of_else z
+        → Gives result view.stmt (three tree.branch x y z) }
 {
-    let (Some(test), Some(then), Some(otherwise)) = (test, then, otherwise) else {
+    let (Some(test), Some(then), Some(otherwise)) = (test?, then?, otherwise?) else {
         return Ok(None);
     };
     Ok(Some(make_if(alloc, test, then, otherwise)?))
 }
 
+#[tactic(auto, using(crate::proofs::Formed::formed_both))]
 pub(crate) fn while_loop(
     alloc: Global,
-    test: Option<CExpr>,
-    body: Option<CStmt>,
+    test: Result<Option<CExpr>, Memory>,
+    body: Result<Option<CStmt>, Memory>,
 ) -> Result<Option<CStmt>, Memory>
-    ensures { IfOk result (λ r. option_map view.stmt r
-        ≡ both tree.while_loop (option_map view.expr test) (option_map view.stmt body)) }
+    ensures { (x : Option (tree.Tree tree.expr)) (y : Option (tree.Tree tree.stmt))
+        → Gives test view.expr x → Gives body view.stmt y
+        → Gives result view.stmt (both tree.while_loop x y) }
 {
-    let (Some(test), Some(body)) = (test, body) else {
+    let (Some(test), Some(body)) = (test?, body?) else {
         return Ok(None);
     };
     Ok(Some(make_while(alloc, test, body)?))
 }
 
+#[tactic(auto, using(crate::proofs::Formed::formed_both))]
 pub(crate) fn do_loop(
     alloc: Global,
-    body: Option<CStmt>,
-    test: Option<CExpr>,
+    body: Result<Option<CStmt>, Memory>,
+    test: Result<Option<CExpr>, Memory>,
 ) -> Result<Option<CStmt>, Memory>
-    ensures { IfOk result (λ r. option_map view.stmt r
-        ≡ both tree.do_loop (option_map view.stmt body) (option_map view.expr test)) }
+    ensures { (x : Option (tree.Tree tree.stmt)) (y : Option (tree.Tree tree.expr))
+        → Gives body view.stmt x → Gives test view.expr y
+        → Gives result view.stmt (both tree.do_loop x y) }
 {
-    let (Some(body), Some(test)) = (body, test) else {
+    let (Some(body), Some(test)) = (body?, test?) else {
         return Ok(None);
     };
     Ok(Some(make_do(alloc, body, test)?))
 }
 
 /// The first part of the head of a `for` that declares variables.
-pub(crate) fn first_var(items: Option<Vec<CVarItem>>) -> Option<CFirst>
-    ensures { option_map view.first result ≡ one tree.first_var (option_map (λ v. view.of_items v.items) items) }
+#[tactic(auto, using(crate::proofs::Formed::formed_one))]
+pub(crate) fn first_var(
+    items: Result<Option<Vec<CVarItem>>, Memory>,
+) -> Result<Option<CFirst>, Memory>
+    ensures { (x : Option (tree.Tree tree.items))
+        → Gives items (λ v. view.of_items v.items) x
+        → Gives result view.first (one tree.first_var x) }
 {
-    Some(make_first_var(items?))
+    let Some(items) = items? else {
+        return Ok(None);
+    };
+    Ok(Some(make_first_var(items)))
 }
 
 /// The first part of the head of a `for` that is an expression.
-pub(crate) fn first_expr(value: Option<CExpr>) -> Option<CFirst>
-    ensures { option_map view.first result ≡ one tree.first_expr (option_map view.expr value) }
+#[tactic(auto, using(crate::proofs::Formed::formed_one))]
+pub(crate) fn first_expr(value: Result<Option<CExpr>, Memory>) -> Result<Option<CFirst>, Memory>
+    ensures { (x : Option (tree.Tree tree.expr))
+        → Gives value view.expr x
+        → Gives result view.first (one tree.first_expr x) }
 {
-    Some(CFirst::Expr(value?))
+    let Some(value) = value? else {
+        return Ok(None);
+    };
+    Ok(Some(CFirst::Expr(value)))
 }
 
+#[tactic(auto, using(crate::proofs::Formed::formed_four))]
 pub(crate) fn for_loop(
     alloc: Global,
-    start: Option<CFirst>,
-    test: Option<Option<CExpr>>,
-    update: Option<Option<CExpr>>,
-    body: Option<CStmt>,
+    start: Result<Option<CFirst>, Memory>,
+    test: Result<Option<Option<CExpr>>, Memory>,
+    update: Result<Option<Option<CExpr>>, Memory>,
+    body: Result<Option<CStmt>, Memory>,
 ) -> Result<Option<CStmt>, Memory>
-    ensures { IfOk result (λ r. option_map view.stmt r
-        ≡ four tree.for_loop (option_map view.first start) (option_map view.of_maybe_expr test)
-        (option_map view.of_maybe_expr update) (option_map view.stmt body)) }
+    ensures { (x : Option (tree.Tree tree.first)) (y : Option (tree.Tree tree.maybe_expr)) (z : Option (tree.Tree tree.maybe_expr)) (w : Option (tree.Tree tree.stmt))
+        → Gives start view.first x → Gives test view.of_maybe_expr y → Gives update view.of_maybe_expr z → Gives body view.stmt w
+        → Gives result view.stmt (four tree.for_loop x y z w) }
 {
-    let (Some(start), Some(test), Some(update), Some(body)) = (start, test, update, body) else {
+    let (Some(start), Some(test), Some(update), Some(body)) = (start?, test?, update?, body?) else {
         return Ok(None);
     };
     Ok(Some(make_for(alloc, start, test, update, body)?))
 }
 
+#[tactic(auto, using(crate::proofs::Formed::formed_three))]
 pub(crate) fn for_in(
     alloc: Global,
-    target: Option<Target>,
-    object: Option<CExpr>,
-    body: Option<CStmt>,
+    target: Result<Option<Target>, Memory>,
+    object: Result<Option<CExpr>, Memory>,
+    body: Result<Option<CStmt>, Memory>,
 ) -> Result<Option<CStmt>, Memory>
-    ensures { IfOk result (λ r. option_map view.stmt r
-        ≡ three tree.for_in (option_map view.target target) (option_map view.expr object) (option_map view.stmt body)) }
+    ensures { (x : Option (tree.Tree tree.target)) (y : Option (tree.Tree tree.expr)) (z : Option (tree.Tree tree.stmt))
+        → Gives target view.target x → Gives object view.expr y → Gives body view.stmt z
+        → Gives result view.stmt (three tree.for_in x y z) }
 {
-    let (Some(target), Some(object), Some(body)) = (target, object, body) else {
+    let (Some(target), Some(object), Some(body)) = (target?, object?, body?) else {
         return Ok(None);
     };
     Ok(Some(make_for_in(alloc, target, object, body)?))
 }
 
-pub(crate) fn return_value(value: Option<Option<CExpr>>) -> Option<CStmt>
-    ensures { option_map view.stmt result ≡ one tree.return (option_map view.of_maybe_expr value) }
+#[tactic(auto, using(crate::proofs::Formed::formed_one))]
+pub(crate) fn return_value(
+    value: Result<Option<Option<CExpr>>, Memory>,
+) -> Result<Option<CStmt>, Memory>
+    ensures { (x : Option (tree.Tree tree.maybe_expr))
+        → Gives value view.of_maybe_expr x
+        → Gives result view.stmt (one tree.return x) }
 {
-    Some(make_return(value?))
+    let Some(value) = value? else {
+        return Ok(None);
+    };
+    Ok(Some(make_return(value)))
 }
 
-pub(crate) fn switch(value: Option<CExpr>, cases: Option<Vec<CCase>>) -> Option<CStmt>
-    ensures { option_map view.stmt result
-        ≡ both tree.switch (option_map view.expr value) (option_map (λ v. view.of_cases v.items) cases) }
+#[tactic(auto, using(crate::proofs::Formed::formed_both))]
+pub(crate) fn switch(
+    value: Result<Option<CExpr>, Memory>,
+    cases: Result<Option<Vec<CCase>>, Memory>,
+) -> Result<Option<CStmt>, Memory>
+    ensures { (x : Option (tree.Tree tree.expr)) (y : Option (tree.Tree tree.cases))
+        → Gives value view.expr x → Gives cases (λ v. view.of_cases v.items) y
+        → Gives result view.stmt (both tree.switch x y) }
 {
-    Some(make_switch(value?, cases?))
+    let (Some(value), Some(cases)) = (value?, cases?) else {
+        return Ok(None);
+    };
+    Ok(Some(make_switch(value, cases)))
 }
 
+#[tactic(auto, using(crate::proofs::Formed::formed_one))]
 pub(crate) fn label(
     alloc: Global,
     label: &Name,
-    body: Option<CStmt>,
+    body: Result<Option<CStmt>, Memory>,
 ) -> Result<Option<CStmt>, Memory>
-    ensures { IfOk result (λ r. option_map view.stmt r ≡ one (tree.label label.now.text) (option_map view.stmt body)) }
+    ensures { (x : Option (tree.Tree tree.stmt))
+        → Gives body view.stmt x
+        → Gives result view.stmt (one (tree.label label.now.text) x) }
 {
-    let Some(body) = body else {
+    let Some(body) = body? else {
         return Ok(None);
     };
     let label = label.text.copy(alloc)?;
     Ok(Some(make_label(alloc, label, body)?))
 }
 
-pub(crate) fn throw(value: Option<CExpr>) -> Option<CStmt>
-    ensures { option_map view.stmt result ≡ one tree.throw (option_map view.expr value) }
+#[tactic(auto, using(crate::proofs::Formed::formed_one))]
+pub(crate) fn throw(value: Result<Option<CExpr>, Memory>) -> Result<Option<CStmt>, Memory>
+    ensures { (x : Option (tree.Tree tree.expr))
+        → Gives value view.expr x
+        → Gives result view.stmt (one tree.throw x) }
 {
-    Some(CStmt::Throw(value?))
+    let Some(value) = value? else {
+        return Ok(None);
+    };
+    Ok(Some(CStmt::Throw(value)))
 }
 
 /// A `catch` with its name.
+#[tactic(auto, using(crate::proofs::Formed::formed_one))]
 pub(crate) fn handler(
     alloc: Global,
     name: &Name,
-    body: Option<Vec<CStmt>>,
+    body: Result<Option<Vec<CStmt>>, Memory>,
 ) -> Result<Option<Option<(Units, Vec<CStmt>)>>, Memory>
-    ensures { IfOk result (λ r. option_map view.of_handler r
-        ≡ one (tree.some_handler name.now.text) (option_map (λ v. view.of_stmts v.items) body)) }
+    ensures { (x : Option (tree.Tree tree.stmts))
+        → Gives body (λ v. view.of_stmts v.items) x
+        → Gives result view.of_handler (one (tree.some_handler name.now.text) x) }
 {
-    let Some(body) = body else {
+    let Some(body) = body? else {
         return Ok(None);
     };
     Ok(Some(Some((name.text.copy(alloc)?, body))))
 }
 
 /// A `finally`.
-pub(crate) fn last(body: Option<Vec<CStmt>>) -> Option<Option<Vec<CStmt>>>
-    ensures { option_map view.of_maybe_block result ≡ one tree.some_block (option_map (λ v. view.of_stmts v.items) body) }
+#[tactic(auto, using(crate::proofs::Formed::formed_one))]
+pub(crate) fn last(
+    body: Result<Option<Vec<CStmt>>, Memory>,
+) -> Result<Option<Option<Vec<CStmt>>>, Memory>
+    ensures { (x : Option (tree.Tree tree.stmts))
+        → Gives body (λ v. view.of_stmts v.items) x
+        → Gives result view.of_maybe_block (one tree.some_block x) }
 {
-    Some(Some(body?))
+    let Some(body) = body? else {
+        return Ok(None);
+    };
+    Ok(Some(Some(body)))
 }
 
+#[tactic(auto, using(crate::proofs::Formed::formed_three))]
 pub(crate) fn try_catch(
-    body: Option<Vec<CStmt>>,
-    handler: Option<Option<(Units, Vec<CStmt>)>>,
-    last: Option<Option<Vec<CStmt>>>,
-) -> Option<CStmt>
-    ensures { option_map view.stmt result
-        ≡ three tree.try (option_map (λ v. view.of_stmts v.items) body) (option_map view.of_handler handler)
-        (option_map view.of_maybe_block last) }
+    body: Result<Option<Vec<CStmt>>, Memory>,
+    handler: Result<Option<Option<(Units, Vec<CStmt>)>>, Memory>,
+    last: Result<Option<Option<Vec<CStmt>>>, Memory>,
+) -> Result<Option<CStmt>, Memory>
+    ensures { (x : Option (tree.Tree tree.stmts)) (y : Option (tree.Tree tree.handler)) (z : Option (tree.Tree tree.maybe_block))
+        → Gives body (λ v. view.of_stmts v.items) x → Gives handler view.of_handler y → Gives last view.of_maybe_block z
+        → Gives result view.stmt (three tree.try x y z) }
 {
-    Some(make_try(body?, handler?, last?))
+    let (Some(body), Some(handler), Some(last)) = (body?, handler?, last?) else {
+        return Ok(None);
+    };
+    Ok(Some(make_try(body, handler, last)))
 }

@@ -22,5 +22,5 @@ returns-in_default-2 c =
     (c.in_ok-found.ensures (redeclared [] ds ++ faults_in (in_module ds names) t.stmts one) labels c.first_fault-names.ensures c.first_bad_label.ensures).told
     (ap (option_map fault_of) c.in_default.is)
     (ap of_stmts (c.deref-3.ensures.value ∙ sym c.deref-6.ensures.value))
-    c.in_ok-body.ensures
+    c.in_ok-body.ensures.told
     (ap (option_map view.body) c.in_default-2.is)
