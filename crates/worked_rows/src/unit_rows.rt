@@ -1,5 +1,7 @@
 //! Texts of UTF-16 code units, and each call once where it succeeds.
 
+ghost use Rattle.std.specs.Prelude.{◌<◌, ◌^◌, length};
+
 use caja_units::{Memory, Units, Utf8Fault};
 use std::alloc::Global;
 use std::test::Fail;
@@ -40,7 +42,9 @@ static BROKEN: [([u8; 3], u32); 4] = [
     ([0x41, 0xE2, 0x82], 1),
 ];
 
-fn is_broken(alloc: Global, bytes: &[u8], place: u32) -> bool {
+fn is_broken(alloc: Global, bytes: &[u8], place: u32) -> bool
+    requires { length bytes.now < 2 ^ 32 }
+{
     match Units::from_utf8(alloc, bytes) {
         Err(Utf8Fault::NotUtf8(found)) => found == place,
         _ => false,
@@ -61,7 +65,9 @@ fn units_have(alloc: Global, units: &[u16], bytes: &[u8]) -> Result<bool, Memory
 }
 
 /// Whether the text of these bytes has these units and the bytes.
-fn are_units(alloc: Global, bytes: &[u8], units: &[u16]) -> Result<bool, Utf8Fault> {
+fn are_units(alloc: Global, bytes: &[u8], units: &[u16]) -> Result<bool, Utf8Fault>
+    requires { length bytes.now < 2 ^ 32 }
+{
     let text = Units::from_utf8(alloc, bytes)?;
     let wanted = Units::from_units(alloc, units)?;
     Ok(text.same(&wanted) && has_utf8(alloc, &text, bytes)?)
