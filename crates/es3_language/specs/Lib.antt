@@ -1,0 +1,10 @@
+pub mod Store
+pub mod Hoisting
+pub mod Arguments
+pub mod References
+pub mod Operators
+pub mod Tasks
+pub mod Lists
+pub mod Expressions
+pub mod Statements
+pub mod Meaning

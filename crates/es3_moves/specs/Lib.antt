@@ -1,0 +1,4 @@
+pub mod Where
+pub mod Code
+pub mod Texts
+pub mod Moves
