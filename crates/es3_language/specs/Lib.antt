@@ -8,3 +8,4 @@ pub mod Lists
 pub mod Expressions
 pub mod Statements
 pub mod Meaning
+pub mod Rows

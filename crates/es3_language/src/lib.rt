@@ -11,6 +11,8 @@ ghost use Rattle.es3_meaning.specs.Natives.{Table};
 ghost use Rattle.es3_language.specs.Store.{Store, caught, with_scope};
 ghost use Rattle.es3_language.specs.Meaning.{run_program, normal, threw};
 
+pub mod rows;
+
 /// A program without elements ends without a value, and takes no step.
 pub fn an_empty_program_ends<S>()
     ensures { (T : Table S) (by : ℕ) (s : Store) (z : S) (n : ℕ) → run_program T (t.script t.no_stmts) by s z n ≡ over (normal None) s z n }
