@@ -10,7 +10,7 @@ use Rattle.es3_heap.specs.declared.value.Proto.TheVariants as proto
 use Rattle.es3_heap.specs.Objects.{Objects, hidden_attrs}
 use Rattle.es3_heap.specs.Properties.{own, put, define, delete, can_delete, length_key}
 use Rattle.es3_heap.specs.Making.{proto_id, made}
-use Rattle.es3_language.specs.Store.{Names, Owner, activation, own_name, Scope, Shared, Store, name_value, with_heap, with_slot}
+use Rattle.es3_language.specs.Store.{Names, Owner, activation, own_name, Scope, Shared, Store, name_value, scope_at, with_heap, with_slot}
 
 abbrev pub arguments_name : List ℕ
 arguments_name = codes "arguments"
@@ -54,9 +54,9 @@ abbrev pub made_at : Option Scope → ℕ → Store → Store
 made_at None c s = s
 made_at (Some scope) c s = made_for scope.owner c scope.names s
 
--- the store with the arguments object of an activation, which is the next object
+-- the store with the arguments object of an activation, which is the next object, unless the name is bound by now
 abbrev pub with_arguments : ℕ → Store → Store
-with_arguments c s = made_at (slice_get s.scopes c) c s
+with_arguments c s = if is_some (name_value arguments_name (scope_at (slice_get s.scopes c))) then s else made_at (slice_get s.scopes c) c s
 
 -- writing
 

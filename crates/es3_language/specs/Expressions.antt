@@ -20,12 +20,12 @@ use Rattle.es3_heap.specs.Making.{array_object, made, proto_id}
 use Rattle.es3_convert.specs.Conversions.{text_of}
 use Rattle.es3_convert.specs.Numbers.{number_of}
 use Rattle.es3_convert.specs.Comparisons.{truth_of}
-use Rattle.es3_meaning.specs.declared.Touch.{Touch}
-use Rattle.es3_meaning.specs.declared.Touch.TheVariants as touch
+use Rattle.es3_language.specs.declared.Touch.{Touch}
+use Rattle.es3_language.specs.declared.Touch.TheVariants as touch
 use Rattle.es3_language.specs.Store.{Store, Code, activation, own_name, with_heap, with_scope, with_slot, with_code, first_names}
 use Rattle.es3_language.specs.Hoisting.{declared_name, code_of}
-use Rattle.es3_language.specs.Arguments.{with_arguments}
-use Rattle.es3_language.specs.References.{Ref, unresolved, own_arguments, member, reference, member_of, read, base_of, write, may_go, deleted}
+use Rattle.es3_language.specs.Arguments.{arguments_name, with_arguments}
+use Rattle.es3_language.specs.References.{Ref, unresolved, slot, own_arguments, member, reference, member_of, read, base_of, write, may_go, deleted}
 use Rattle.es3_language.specs.Operators.{operate, convert, type_name, stepped}
 use Rattle.es3_language.specs.Lists.{list}
 use Rattle.es3_language.specs.Tasks.{Completion, gave, found, returned, threw, Env, value_of, native_call, Plan, with_value, with_target, give, throw_error, with_given}
@@ -59,9 +59,13 @@ abbrev pub on_read : Option Value → Ref → Env → Store → (Value → Store
 on_read None r env s go = throw_error (codes "unbound") s
 on_read (Some v) r env s go = note_member touch.Get r env s (go v s)
 
--- 8.7.1: GetValue
+-- 10.1.8: `arguments` of an activation, once its arguments object is there
+abbrev pub read_arguments : ℕ → Env → Store → (Value → Store → Plan) → Plan
+read_arguments c env s go = on_read (read (slot c arguments_name) s) (slot c arguments_name) env s go
+
+-- 8.7.1: GetValue; an arguments object is made when it is first read
 abbrev pub with_read : Ref → Env → Store → (Value → Store → Plan) → Plan
-with_read (own_arguments c) env s go = go (Obj (length s.heap.list)) (with_arguments c s)
+with_read (own_arguments c) env s go = read_arguments c env (with_arguments c s) go
 with_read r env s go = on_read (read r s) r env s go
 
 -- 8.7.2: PutValue, and then the value v

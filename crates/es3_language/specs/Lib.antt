@@ -3,6 +3,7 @@ pub mod Hoisting
 pub mod Arguments
 pub mod References
 pub mod Operators
+pub mod Natives
 pub mod Tasks
 pub mod Lists
 pub mod Expressions

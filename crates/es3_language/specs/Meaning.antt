@@ -9,8 +9,8 @@ use Rattle.es3_heap.specs.Objects.{kept_attrs}
 use Rattle.es3_heap.specs.Properties.{own, define}
 use Rattle.es3_language.specs.Store.{Store, with_heap, with_code}
 use Rattle.es3_language.specs.Hoisting.{vars_of, functions_of, declared_name, code_of}
-use Rattle.es3_meaning.specs.Natives.{Touched, Reply, value_reply, throw_reply, invoke_reply, stop_reply, Table}
-use Rattle.es3_meaning.specs.declared.Touch.TheVariants as touch
+use Rattle.es3_language.specs.Natives.{Touched, Reply, value_reply, throw_reply, invoke_reply, stop_reply, Table}
+use Rattle.es3_language.specs.declared.Touch.TheVariants as touch
 pub use Rattle.es3_language.specs.Arguments.{is_arguments}
 pub use Rattle.es3_language.specs.Tasks.{Completion, gave, found, normal, broke, continued, returned, threw, Env, Loop, Task, value_of, target_of, effect_of, again, next_key, native_call, Plan, Run, on_value_of, on_target_of, with_value, with_target, give, throw_error, with_given}
 pub use Rattle.es3_language.specs.Lists.{later, kept_value, on_each, list, list_rest}

@@ -6,7 +6,7 @@ use Rattle.es3_heap.specs.declared.value.Value.{Value}
 use Rattle.es3_heap.specs.declared.value.Value.TheVariants.{Undefined}
 use Rattle.es3_heap.specs.declared.value.Class.TheVariants as class
 use Rattle.es3_heap.specs.Making.{new_objects, made}
-use Rattle.es3_meaning.specs.Natives.{Table, throw_reply}
+use Rattle.es3_language.specs.Natives.{Table, throw_reply}
 use Rattle.es3_language.specs.Store.{Store}
 use Rattle.es3_language.specs.Tasks.{Completion, normal, Run}
 use Rattle.es3_language.specs.Meaning.{run_program}

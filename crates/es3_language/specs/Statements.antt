@@ -13,7 +13,7 @@ use Rattle.es3_heap.specs.Properties.{define, lookup, length_key}
 use Rattle.es3_heap.specs.Enumerating.{keys}
 use Rattle.es3_heap.specs.Making.{made, proto_id}
 use Rattle.es3_convert.specs.Comparisons.{truth_of, strictly_equal}
-use Rattle.es3_meaning.specs.declared.Touch.TheVariants as touch
+use Rattle.es3_language.specs.declared.Touch.TheVariants as touch
 use Rattle.es3_language.specs.Store.{Store, caught, with_object_of, with_heap, with_scope}
 use Rattle.es3_language.specs.References.{Ref, reference, write}
 use Rattle.es3_language.specs.Tasks.{Completion, normal, broke, continued, returned, threw, Env, Loop, effect_of, again, next_key, Plan, on_value_of, with_value, with_target, throw_error}

@@ -10,7 +10,7 @@ use Rattle.es3_heap.specs.Making.{error_object}
 use Rattle.es3_language.specs.Store.{Store, with_heap}
 use Rattle.es3_language.specs.References.{Ref, just}
 use Rattle.es3_language.specs.Operators.{Given, gives, faults, raises}
-use Rattle.es3_meaning.specs.Natives.{Touched}
+use Rattle.es3_language.specs.Natives.{Touched}
 
 -- 8.9, 8.7: how a node ends, other than by a fault: an expression gives a value or a reference; a statement comes to its end, jumps or
 -- returns, and may have a value until then; each may throw

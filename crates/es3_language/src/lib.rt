@@ -1,4 +1,4 @@
-//! What texts of all of ECMAScript 3 mean: the definitions stand in specs/. There is no code.
+//! What texts of all of ECMAScript 3 mean: the definitions stand in specs/. There is no code but the names of touches.
 //!
 //! The functions here have no body: each one's contract is a worked row, over any natives, store and steps.
 #![tactic(auto)]
@@ -7,11 +7,23 @@ ghost use Rattle.std.specs.Prelude.{◌≡◌, ℕ, suc, List, [], ◌∷◌, So
 ghost use Rattle.plans.specs.Plans.{over, out};
 ghost use Rattle.es3_tree.specs.Tree as t;
 ghost use Rattle.es3_heap.specs.declared.value.Value.TheVariants.{Null};
-ghost use Rattle.es3_meaning.specs.Natives.{Table};
+ghost use Rattle.es3_language.specs.Natives.{Table};
 ghost use Rattle.es3_language.specs.Store.{Store, caught, with_scope};
 ghost use Rattle.es3_language.specs.Meaning.{run_program, normal, threw};
 
 pub mod rows;
+
+/// How a text touches an object with a name.
+#[derive(Clone, Copy, Debug, PartialEq, Eq)]
+pub enum Touch {
+    Get,
+    Set,
+    Delete,
+    Has,
+    Keys,
+    Call,
+    New,
+}
 
 /// A program without elements ends without a value, and takes no step.
 pub fn an_empty_program_ends<S>()

@@ -16,7 +16,7 @@ use Rattle.es3_moves.specs.declared.code.ExprCode.TheBlock as b
 use Rattle.es3_moves.specs.declared.code.ExprCode.TheVariants as e
 use Rattle.es3_moves.specs.declared.code.FirstCode.TheVariants as first
 use Rattle.es3_moves.specs.declared.code.StmtCode.TheVariants as s
-use Rattle.es3_moves.specs.Code.{plain_expr, plain_stmt, plain_first, plain_target, plain_func, plain_exprs, plain_fields, plain_stmts, plain_vars, plain_cases, maybe_expr, maybe_stmt, maybe_catch, maybe_finally, expr_row, field_row, stmt_row, var_row, case_row, held_expr}
+use Rattle.es3_moves.specs.Code.{plain_expr, plain_stmt, plain_first, plain_func, plain_exprs, plain_fields, plain_stmts, plain_vars, plain_cases, maybe_expr, maybe_stmt, maybe_catch, maybe_finally, expr_row, field_row, stmt_row, var_row, case_row}
 
 pub exprs_row : {m : _} (es : b.Row_of-ExprCode-Array-0-1 m) → expr_row es ≡ plain_exprs (b.items-the_row-ExprCode-Array-0-1 m es)
 exprs_row b.end_of-ExprCode-Array-0-1 = refl

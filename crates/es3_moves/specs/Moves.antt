@@ -1,11 +1,11 @@
 -- What the machine's frames and moves stand for, as plans.
-use Rattle.std.specs.Prelude.{ℕ, ◌+◌, Bool, true, false, []}
+use Rattle.std.specs.Prelude.{◌+◌, Bool, true, false, []}
 use Rattle.plans.specs.Plans.{ends, stops, enter, told}
 use Rattle.es3_heap.specs.declared.value.Value.{Value as PlainValue}
 use Rattle.es3_heap.specs.declared.value.Value.TheVariants.{Text}
 use Rattle.es3_language.specs.Store.{Store}
 use Rattle.es3_language.specs.References as ref
-use Rattle.es3_meaning.specs.Natives.{Touched}
+use Rattle.es3_language.specs.Natives.{Touched}
 use Rattle.es3_language.specs.Tasks as m
 use Rattle.es3_language.specs.Lists as lists
 use Rattle.es3_language.specs.Expressions as e
@@ -15,8 +15,6 @@ use Rattle.es3_moves.specs.Code.{maybe_units, plain_prefix, plain_expr, plain_st
 use Rattle.es3_moves.specs.Where.{plain_env, plain_labels, plain_loop, plain_ref, plain_callee, plain_flow, plain_fault}
 use Rattle.es3_moves.specs.declared.frame.End.{End}
 use Rattle.es3_moves.specs.declared.frame.End.TheVariants.{Program, Block, Body, New, Try, Catch, Finally, Cases}
-use Rattle.es3_moves.specs.declared.frame.Looping.{Looping}
-use Rattle.es3_moves.specs.declared.frame.Keyed.{Keyed}
 use Rattle.es3_moves.specs.declared.frame.Use.{Use}
 use Rattle.es3_moves.specs.declared.frame.Use.TheVariants as u
 use Rattle.es3_moves.specs.declared.frame.VarsEnd.{VarsEnd}
@@ -100,12 +98,12 @@ target_use (target.Step up before env) = e.step_plan up before (plain_env env)
 target_use target.Delete = e.delete_plan
 target_use (target.Typeof env) = e.type_plan (plain_env env)
 target_use (target.Called es env) = e.after_callee (exprs_at es.value.items 0) (plain_env env)
-target_use (target.Key k w) = st.key_target k.value w.object (names_at w.keys.value.items w.at) (plain_target w.target.value) (plain_stmt w.body.value) w.acc (plain_labels w.labels.value) (plain_env w.env)
 
 abbrev pub resume : Frame → m.Completion → Store → m.Plan
 resume (frame.Value u) = m.on_value_of (use_plan u)
 resume (frame.Effect x) = m.on_value_of (effect_plan x)
 resume (frame.Target t) = m.on_target_of (target_use t)
+resume (frame.KeyTarget k w) = m.on_target_of (st.key_target k.value w.object (names_at w.keys.value.items w.at) (plain_target w.target.value) (plain_stmt w.body.value) w.acc (plain_labels w.labels.value) (plain_env w.env))
 resume (frame.Statement xs at acc env end) = lists.list_rest (keeps end) (stmts_at xs.value.items at) acc (plain_env env) (end_plan end)
 resume (frame.Label x) = st.on_label x.value
 resume (frame.LoopNext l) = st.loop_next (plain_loop l) l.acc (plain_labels l.labels.value) (plain_env l.env)

@@ -8,7 +8,7 @@ use crate::code::{
 };
 use caja_units::{Memory, Units};
 use es3_heap::{ObjId, Tag, Value};
-use es3_meaning::Touch;
+use es3_language::Touch;
 use es3_tree::BinOp;
 use std::rc::Rc;
 
@@ -194,8 +194,6 @@ pub enum Target {
     Delete,
     Typeof(Env),
     Called(Rc<Vec<Rc<ExprCode>>>, Env),
-    /// What a key is written to.
-    Key(Rc<Units>, Keyed),
 }
 
 /// What is to be done when the node above ends.
@@ -204,6 +202,8 @@ pub enum Frame {
     Value(Use),
     Effect(Effect),
     Target(Target),
+    /// The reference that a key is written to.
+    KeyTarget(Rc<Units>, Keyed),
     /// The statements of a list that are left, and the value so far.
     Statement(Rc<Vec<Rc<StmtCode>>>, usize, Option<Value>, Env, End),
     Label(Rc<Units>),

@@ -8,7 +8,7 @@ use Rattle.es3_heap.specs.declared.value.Value.TheVariants.{Obj}
 use Rattle.es3_heap.specs.Objects.{Objects}
 use Rattle.es3_language.specs.Store as s
 use Rattle.es3_language.specs.Store.{activation, with_name, scope_at, renamed}
-use Rattle.es3_language.specs.Arguments.{arguments_name, with_arguments_object, shared_items, made_for, made_at, with_arguments}
+use Rattle.es3_language.specs.Arguments.{arguments_name, with_arguments_object, shared_items, made_for, made_at}
 use Rattle.es3_moves.specs.declared.texts.Closure.{Closure}
 use Rattle.es3_moves.specs.declared.texts.Owner.{Owner}
 use Rattle.es3_moves.specs.declared.texts.Scope.{Scope}
@@ -25,7 +25,7 @@ abbrev pub shares_in : Vec Shared Global → List s.Shared
 shares_in v = map plain_share v.items
 
 -- what is made depends on the owner of the scope
-pub made_here : (h : Objects) (t : Texts) (c : ℕ) (x : Scope) (w : Owner) → c < length t.scopes.items → x ≡ get_or t.scopes.items c x → x.owner ≡ w → with_arguments c (store_of h t) ≡ made_for (plain_owner w) c x.names (store_of h t)
+pub made_here : (h : Objects) (t : Texts) (c : ℕ) (x : Scope) (w : Owner) → c < length t.scopes.items → x ≡ get_or t.scopes.items c x → x.owner ≡ w → made_at (slice_get (plain_scopes t) c) c (store_of h t) ≡ made_for (plain_owner w) c x.names (store_of h t)
 made_here h t c x w lt is own =
     ap (λ o. made_at o c (store_of h t)) (slice_get-map plain_scope t.scopes.items c ∙ ap (option_map plain_scope) (slice_get_read t.scopes.items (length t.scopes.items) c x refl lt is))
     ∙ ap (λ u. made_for (plain_owner u) c x.names (store_of h t)) own
@@ -49,7 +49,7 @@ bound_name a c x o = slice_set a c (renamed (slice_get a c) (with_name x (Obj o)
 abbrev share : ℕ → ℕ → List (List ℕ × List ℕ) → s.Shared
 share o c items = record { object = o; scope = c; items = items }
 
-pub made_bound : (h h' : Objects) (t t' : Texts) (c o : ℕ) (f : Value) (xs : List (List ℕ)) (vs : List Value) (names : s.Names) (name : List ℕ) (items : List (List ℕ × List ℕ)) → with_arguments c (store_of h t) ≡ made_for (activation f xs vs) c names (store_of h t) → name ≡ arguments_name → o ≡ length h.list → h' ≡ with_arguments_object f xs vs names h → items ≡ shared_front 0 xs (length vs) → plain_scopes t' ≡ bound_name (plain_scopes t) c name o → t'.codes ≡ t.codes → t'.globals ≡ t.globals → plain_shared t' ≡ plain_shared t ++ record { object = o; scope = c; items = items } ∷ [] → store_of h' t' ≡ with_arguments c (store_of h t)
+pub made_bound : (h h' : Objects) (t t' : Texts) (c o : ℕ) (f : Value) (xs : List (List ℕ)) (vs : List Value) (names : s.Names) (name : List ℕ) (items : List (List ℕ × List ℕ)) → made_at (slice_get (plain_scopes t) c) c (store_of h t) ≡ made_for (activation f xs vs) c names (store_of h t) → name ≡ arguments_name → o ≡ length h.list → h' ≡ with_arguments_object f xs vs names h → items ≡ shared_front 0 xs (length vs) → plain_scopes t' ≡ bound_name (plain_scopes t) c name o → t'.codes ≡ t.codes → t'.globals ≡ t.globals → plain_shared t' ≡ plain_shared t ++ record { object = o; scope = c; items = items } ∷ [] → store_of h' t' ≡ made_at (slice_get (plain_scopes t) c) c (store_of h t)
 made_bound h h' t t' c o f xs vs names name items here called next made fronts bound codes globals shares =
     let a = plain_scopes t in
     let p = length h.list in

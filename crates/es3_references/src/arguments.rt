@@ -1,13 +1,14 @@
 //! The arguments objects of calls, whose items have the values of parameters (ES3 10.1.8).
 
-ghost use Rattle.std.specs.Prelude.{◌≡◌, ◌+◌, ◌++◌, ◌<◌, ◌^◌, IfOk, OnOk, length, map, position, option_map, slice_get};
+ghost use Rattle.std.specs.Prelude.{◌≡◌, ◌+◌, ◌++◌, ◌<◌, ◌^◌, IfOk, OnOk, is_some, length, map, position, option_map, slice_get};
 ghost use Rattle.caja_units.specs.Units.{same_units};
 ghost use Rattle.caja_units.specs.Index.{number_units};
 ghost use Rattle.es3_heap.specs.Objects.{hidden_attrs};
 ghost use Rattle.es3_heap.specs.Properties.{can_delete, define};
+ghost use Rattle.es3_language.specs.Store.{name_value, scope_at};
 ghost use Rattle.es3_language.specs.Arguments as a;
 ghost use Rattle.es3_moves.specs.Code.{names_of};
-ghost use Rattle.es3_moves.specs.Texts.{store_of, plain_item, plain_share, plain_shared};
+ghost use Rattle.es3_moves.specs.Texts.{store_of, plain_item, plain_scopes, plain_share, plain_shared};
 ghost use Rattle.es3_references.specs.Shares.{plain_parameter, item_value, shared_front, one_unshared};
 
 use crate::members::whole;
@@ -311,9 +312,27 @@ fn shared_items(
     Ok(items)
 }
 
-/// Makes the arguments object of an activation, which is the next object, and binds it to its name.
+/// Makes the arguments object of an activation, which is the next object, and binds it to its name, unless the name is bound
+/// by now.
 pub fn make_arguments(alloc: Global, c: u32, h: &mut Heap, texts: &mut Texts) -> Result<(), Memory>
     ensures { OnOk result (store_of h.new texts.new ≡ a.with_arguments c (store_of h.old texts.old)) }
+{
+    if has_arguments(c, texts) {
+        return Ok(());
+    }
+    bind_arguments(alloc, c, h, texts)
+}
+
+/// Whether the name `arguments` is bound in the scope of a number.
+fn has_arguments(c: u32, texts: &Texts) -> bool
+    ensures { result ≡ is_some (name_value a.arguments_name (scope_at (slice_get (plain_scopes texts.now) c))) }
+{
+    texts.get(c, &texts.arguments).is_some()
+}
+
+/// Makes the arguments object of an activation, and binds it to its name.
+fn bind_arguments(alloc: Global, c: u32, h: &mut Heap, texts: &mut Texts) -> Result<(), Memory>
+    ensures { OnOk result (store_of h.new texts.new ≡ a.made_at (slice_get (plain_scopes texts.old) c) c (store_of h.old texts.old)) }
 {
     let at = c as usize;
     if at >= texts.scopes.len() {

@@ -8,7 +8,7 @@ use Rattle.es3_moves.specs.Texts.{plain_item, plain_share}
 use Rattle.es3_moves.specs.declared.texts.Owner.TheVariants.{Activation, OwnName, Caught, WithObject}
 use Rattle.es3_references.specs.Shares.{shared_front}
 use Rattle.es3_references.proofs.Made.{shares_in, made_here, made_bound}
-use Rattle.es3_references.proofs.arguments.make_arguments.Goals as goal
+use Rattle.es3_references.proofs.arguments.bind_arguments.Goals as goal
 
 pub returns-in_ok-name-in-Activation : goal.returns-in_ok-name-in-Activation
 returns-in_ok-name-in-Activation c =
