@@ -1,0 +1,4 @@
+pub mod Callable
+pub mod Bound
+pub mod Made
+pub mod Opened
