@@ -1,0 +1,4 @@
+pub mod Places
+pub mod Cases
+pub mod Entering
+pub mod Again

@@ -1,0 +1,169 @@
+//! What follows a list of statements (ES3 12.14, 13.2.1, 13.2.2).
+
+ghost use Rattle.std.specs.Prelude.{◌≡◌, ◌+◌, ◌<◌, IfOk};
+ghost use Rattle.plans.specs.Plans.{ends};
+ghost use Rattle.es3_heap.specs.Objects.{Objects};
+ghost use Rattle.es3_language.specs.Store.{Store};
+ghost use Rattle.es3_language.specs.Tasks.{gave, returned, threw};
+ghost use Rattle.es3_language.specs.Expressions as e;
+ghost use Rattle.es3_language.specs.Statements as st;
+ghost use Rattle.es3_moves.specs.Code.{maybe_catch, maybe_finally};
+ghost use Rattle.es3_moves.specs.Where.{plain_env, plain_flow};
+ghost use Rattle.es3_moves.specs.Texts.{store_of};
+ghost use Rattle.es3_moves.specs.Moves.{end_plan, move_plan};
+ghost use Rattle.es3_access.specs.Sizes.{end_size, size};
+
+use crate::switch::after_clause;
+use caja_units::Memory;
+use es3_heap::{ObjId, Value};
+use es3_moves::code::{CatchCode, FinallyCode};
+use es3_moves::frame::{End, Env, Flow, Move};
+use es3_moves::texts::{Names, Owner, Scope, Texts};
+use std::alloc::Global;
+use std::rc::Rc;
+
+/// What follows a list of statements, by how they ended.
+pub fn close(alloc: Global, end: End, flow: Flow, texts: &mut Texts) -> Result<Move, Memory>
+    ensures plan { IfOk result (λ x. (h : Objects) → move_plan x (store_of h texts.new) ≡ end_plan end (plain_flow flow) (store_of h texts.old)) }
+    ensures small { IfOk result (λ x. size x < 18 + end_size end) }
+{
+    match end {
+        End::Program => Ok(Move::End(flow)),
+        End::Block => Ok(Move::End(flow)),
+        End::Body => Ok(Move::End(body_end(flow))),
+        End::New(object) => Ok(Move::End(new_end(object, flow))),
+        End::Try(handler, last, env) => after_try(alloc, handler, last, env, flow, texts),
+        End::Catch(last, env) => begin_finally(last, env, flow),
+        End::Finally(before) => Ok(Move::End(restored(before, flow))),
+        End::Cases(cs, at, labels, env) => after_clause(cs, at, labels, env, flow),
+    }
+}
+
+/// What a call of a function gives, by how its statements ended (ES3 13.2.1).
+fn body_end(flow: Flow) -> Flow
+    ensures { (s : Store) → ends (plain_flow result) s ≡ e.body_end (plain_flow flow) s }
+{
+    match flow {
+        Flow::Returned(v) => Flow::Gave(v),
+        Flow::Threw(v) => Flow::Threw(v),
+        Flow::Gave(_v) => Flow::Gave(Value::Undefined),
+        Flow::Found(_reference) => Flow::Gave(Value::Undefined),
+        Flow::Normal(_v) => Flow::Gave(Value::Undefined),
+        Flow::Broke(_jump, _v) => Flow::Gave(Value::Undefined),
+        Flow::Continued(_jump, _v) => Flow::Gave(Value::Undefined),
+    }
+}
+
+/// What `new` gives, by how the statements of the function ended: the new object, unless it returned one (ES3 13.2.2).
+fn new_end(object: ObjId, flow: Flow) -> Flow
+    ensures { (s : Store) → ends (plain_flow result) s ≡ e.new_end object (plain_flow flow) s }
+{
+    match flow {
+        Flow::Returned(v) => Flow::Gave(made(object, v)),
+        Flow::Threw(v) => Flow::Threw(v),
+        Flow::Gave(_v) => Flow::Gave(Value::Obj(object)),
+        Flow::Found(_reference) => Flow::Gave(Value::Obj(object)),
+        Flow::Normal(_v) => Flow::Gave(Value::Obj(object)),
+        Flow::Broke(_jump, _v) => Flow::Gave(Value::Obj(object)),
+        Flow::Continued(_jump, _v) => Flow::Gave(Value::Obj(object)),
+    }
+}
+
+/// What `new` gives where the function returned a value.
+fn made(object: ObjId, v: Value) -> Value
+    ensures { (s : Store) → ends (gave result) s ≡ e.new_end object (returned v) s }
+{
+    match v {
+        Value::Obj(returned) => Value::Obj(returned),
+        Value::Undefined => Value::Obj(object),
+        Value::Null => Value::Obj(object),
+        Value::Bool(_b) => Value::Obj(object),
+        Value::Num(_n) => Value::Obj(object),
+        Value::Text(_text) => Value::Obj(object),
+    }
+}
+
+/// What follows the block of a `try`: a `catch` takes what was thrown (ES3 12.14).
+fn after_try(
+    alloc: Global,
+    handler: Option<Rc<CatchCode>>,
+    last: Option<Rc<FinallyCode>>,
+    env: Env,
+    flow: Flow,
+    texts: &mut Texts,
+) -> Result<Move, Memory>
+    ensures plan { IfOk result (λ x. (h : Objects) → move_plan x (store_of h texts.new) ≡ st.after_try (maybe_catch handler) (maybe_finally last) (plain_env env) (plain_flow flow) (store_of h texts.old)) }
+    ensures small { IfOk result (λ x. size x < 20) }
+{
+    match handler {
+        Some(handler) => match flow {
+            Flow::Threw(v) => begin_catch(alloc, &handler, last, env, v, texts),
+            Flow::Gave(v) => begin_finally(last, env, Flow::Gave(v)),
+            Flow::Found(reference) => begin_finally(last, env, Flow::Found(reference)),
+            Flow::Normal(v) => begin_finally(last, env, Flow::Normal(v)),
+            Flow::Broke(jump, v) => begin_finally(last, env, Flow::Broke(jump, v)),
+            Flow::Continued(jump, v) => begin_finally(last, env, Flow::Continued(jump, v)),
+            Flow::Returned(v) => begin_finally(last, env, Flow::Returned(v)),
+        },
+        None => begin_finally(last, env, flow),
+    }
+}
+
+/// The statements of a `catch`, with the thrown value bound to its name in a scope of its own (ES3 12.14).
+fn begin_catch(
+    alloc: Global,
+    handler: &Rc<CatchCode>,
+    last: Option<Rc<FinallyCode>>,
+    env: Env,
+    v: Value,
+    texts: &mut Texts,
+) -> Result<Move, Memory>
+    ensures plan { IfOk result (λ x. (h : Objects) → move_plan x (store_of h texts.new) ≡ st.after_try (maybe_catch (Some handler.now)) (maybe_finally last) (plain_env env) (threw v) (store_of h texts.old)) }
+    ensures small { IfOk result (λ x. size x < 20) }
+{
+    let body = handler.body.clone()?;
+    let outer = env.chain.clone()?;
+    let mut names = Names::new(alloc);
+    names.put(&handler.name, v)?;
+    let scope = Scope {
+        owner: Owner::Caught,
+        names,
+    };
+    let chain = texts.open_scope(alloc, scope, outer)?;
+    let inner = Env {
+        chain,
+        calls: env.calls,
+        by: env.by,
+        this: env.this,
+    };
+    Ok(Move::List(body, 0, None, inner, End::Catch(last, env)))
+}
+
+/// The statements of a `finally`, if there is one, with how what stood before it ended (ES3 12.14).
+fn begin_finally(last: Option<Rc<FinallyCode>>, env: Env, flow: Flow) -> Result<Move, Memory>
+    ensures plan { IfOk result (λ x. (s : Store) → move_plan x s ≡ st.finally_plan (maybe_finally last) (plain_env env) (plain_flow flow) s) }
+    ensures small { IfOk result (λ x. size x < 19) }
+{
+    match last {
+        Some(last) => {
+            let body = last.body.clone()?;
+            Ok(Move::List(body, 0, None, env, End::Finally(flow)))
+        }
+        None => Ok(Move::End(flow)),
+    }
+}
+
+/// What a `finally` leaves of the ending before it.
+fn restored(before: Flow, flow: Flow) -> Flow
+    ensures { (s : Store) → ends (plain_flow result) s ≡ st.restored (plain_flow before) (plain_flow flow) s }
+{
+    match flow {
+        Flow::Normal(_v) => before,
+        Flow::Gave(v) => Flow::Gave(v),
+        Flow::Found(reference) => Flow::Found(reference),
+        Flow::Broke(jump, v) => Flow::Broke(jump, v),
+        Flow::Continued(jump, v) => Flow::Continued(jump, v),
+        Flow::Returned(v) => Flow::Returned(v),
+        Flow::Threw(v) => Flow::Threw(v),
+    }
+}

@@ -1,0 +1,208 @@
+//! Loops, and where jumps lead (ES3 12.6, 12.12).
+
+ghost use Rattle.std.specs.Prelude.{◌≡◌, ◌<◌, IfOk};
+ghost use Rattle.es3_language.specs.Store.{Store};
+ghost use Rattle.es3_language.specs.Statements as st;
+ghost use Rattle.es3_moves.specs.Code.{maybe_units};
+ghost use Rattle.es3_moves.specs.Where.{plain_env, plain_flow, plain_labels, plain_loop};
+ghost use Rattle.es3_moves.specs.Moves as moves;
+ghost use Rattle.es3_moves.specs.Moves.{move_plan};
+ghost use Rattle.es3_moves.specs.declared.frame.Frame.TheVariants as frame;
+ghost use Rattle.es3_statements.specs.Again.{IsFirst};
+ghost use Rattle.es3_access.specs.Sizes.{size};
+ghost use Rattle.es3_statements.specs.Turns.{has_label, plain_turn};
+
+use crate::lists::later;
+use caja_units::{Memory, Units};
+use es3_convert::to_bool;
+use es3_heap::Value;
+use es3_moves::frame::{Effect, Flow, Frame, Labels, Looping, Move, Task};
+use std::rc::Rc;
+
+/// Whether a jump is to one of the labels, or to none (ES3 12.12).
+pub fn is_to(jump: &Option<Rc<Units>>, labels: &Labels) -> bool
+    ensures { result ≡ st.is_to (maybe_units jump.now) (plain_labels labels.now) }
+{
+    match jump {
+        Some(label) => has_label(label, labels),
+        None => true,
+    }
+}
+
+/// Whether a label is one of the labels.
+fn has_label(label: &Rc<Units>, labels: &Labels) -> bool
+    ensures { result ≡ has_label label.now.value (plain_labels labels.now) }
+{
+    let mut rest = labels;
+    while let Labels::In(first, outer) = rest {
+        if label.same(first) {
+            return true;
+        }
+        rest = outer;
+    }
+    false
+}
+
+/// What follows the body of a loop.
+#[derive(Drop)]
+pub enum Turn {
+    /// One more turn, with the value so far.
+    Turns(Option<Value>),
+    /// The loop ends.
+    Leaves(Flow),
+}
+
+/// What follows the body of a loop, by how it ended (ES3 12.6).
+pub fn turned(labels: &Labels, acc: Option<Value>, flow: Flow) -> Turn
+    ensures { plain_turn result ≡ st.turned (plain_labels labels.now) acc (plain_flow flow) }
+{
+    match flow {
+        Flow::Normal(v) => Turn::Turns(later(v, acc)),
+        Flow::Continued(jump, v) => {
+            if is_to(&jump, labels) {
+                Turn::Turns(later(v, acc))
+            } else {
+                Turn::Leaves(Flow::Continued(jump, v))
+            }
+        }
+        Flow::Broke(jump, v) => {
+            if is_to(&jump, labels) {
+                Turn::Leaves(Flow::Normal(later(v, acc)))
+            } else {
+                Turn::Leaves(Flow::Broke(jump, v))
+            }
+        }
+        Flow::Gave(v) => Turn::Leaves(Flow::Gave(v)),
+        Flow::Found(reference) => Turn::Leaves(Flow::Found(reference)),
+        Flow::Returned(v) => Turn::Leaves(Flow::Returned(v)),
+        Flow::Threw(v) => Turn::Leaves(Flow::Threw(v)),
+    }
+}
+
+/// What follows the body of a loop: the next turn, or the end of the loop.
+pub fn after_turn(mut l: Looping, flow: Flow) -> Move
+    ensures plan { (s : Store) → move_plan result s ≡ moves.resume (frame.LoopNext l) (plain_flow flow) s }
+    ensures small { size result < 24 }
+{
+    match turned(&l.labels, l.acc.take(), flow) {
+        Turn::Turns(v) => {
+            l.acc = v;
+            Move::Again(l)
+        }
+        Turn::Leaves(flow) => Move::End(flow),
+    }
+}
+
+/// A statement with a label ends where a `break` names the label (ES3 12.12).
+pub fn after_label(label: Rc<Units>, flow: Flow) -> Move
+    ensures plan { (s : Store) → move_plan result s ≡ st.on_label label.value (plain_flow flow) s }
+    ensures small { size result < 24 }
+{
+    Move::End(unlabelled(&label, flow))
+}
+
+/// Whether a jump names a label.
+fn is_label(jump: &Option<Rc<Units>>, label: &Rc<Units>) -> bool
+    ensures { result ≡ st.is_label (maybe_units jump.now) label.now.value }
+{
+    match jump {
+        Some(jump) => jump.same(label),
+        None => false,
+    }
+}
+
+/// How a statement with a label ends.
+fn unlabelled(label: &Rc<Units>, flow: Flow) -> Flow
+    ensures { plain_flow result ≡ st.unlabelled label.now.value (plain_flow flow) }
+{
+    match flow {
+        Flow::Broke(jump, v) => {
+            if is_label(&jump, label) {
+                Flow::Normal(v)
+            } else {
+                Flow::Broke(jump, v)
+            }
+        }
+        Flow::Normal(v) => Flow::Normal(v),
+        Flow::Continued(jump, v) => Flow::Continued(jump, v),
+        Flow::Gave(v) => Flow::Gave(v),
+        Flow::Found(reference) => Flow::Found(reference),
+        Flow::Returned(v) => Flow::Returned(v),
+        Flow::Threw(v) => Flow::Threw(v),
+    }
+}
+
+/// The body of a loop, and what follows it.
+pub fn begin_body(l: Looping) -> Result<Move, Memory>
+    ensures plan { IfOk result (λ x. (s : Store) → move_plan x s ≡ st.loop_body (plain_loop l) l.acc (plain_labels l.labels.value) (plain_env l.env) s) }
+    ensures small { IfOk result (λ x. size x < 18) }
+{
+    let body = l.body.clone()?;
+    let env = l.env.copy()?;
+    Ok(Move::Enter(Task::Effect(body, env), Frame::LoopNext(l)))
+}
+
+/// The test of a loop, or its body where it has none.
+pub fn begin_test(l: Looping) -> Result<Move, Memory>
+    ensures plan { IfOk result (λ x. (s : Store) → move_plan x s ≡ st.at_test (plain_loop l) l.acc (plain_labels l.labels.value) (plain_env l.env) s) }
+    ensures small { IfOk result (λ x. size x < 18) }
+{
+    match &l.test {
+        Some(test) => {
+            let test = test.clone()?;
+            let env = l.env.copy()?;
+            Ok(Move::Enter(Task::Value(test, env), Frame::Effect(Effect::LoopTest(l))))
+        }
+        None => begin_body(l),
+    }
+}
+
+/// What is done with the value of a loop's test.
+pub fn tested(v: &Value, l: Looping) -> Result<Move, Memory>
+    ensures plan { IfOk result (λ x. (s : Store) → move_plan x s ≡ st.loop_test (plain_loop l) l.acc (plain_labels l.labels.value) (plain_env l.env) v.now s) }
+    ensures small { IfOk result (λ x. size x < 24) }
+{
+    if to_bool(v) {
+        begin_body(l)
+    } else {
+        Ok(Move::End(Flow::Normal(l.acc)))
+    }
+}
+
+/// The first node of a later turn of a loop, and what follows it: what is done after a turn, or else the test, or else the body.
+pub fn first_node(l: Looping) -> Result<Move, Memory>
+    ensures plan { IfOk result (λ x. IsFirst l x) }
+    ensures small { IfOk result (λ x. size x < 18) }
+{
+    match &l.update {
+        Some(update) => {
+            let update = update.clone()?;
+            let env = l.env.copy()?;
+            Ok(Move::Enter(
+                Task::Value(update, env),
+                Frame::Effect(Effect::AfterUpdate(l)),
+            ))
+        }
+        None => first_test(l),
+    }
+}
+
+/// The first node of a later turn of a loop after whose turns nothing is done.
+fn first_test(l: Looping) -> Result<Move, Memory>
+    requires { l.update ≡ None }
+    ensures plan { IfOk result (λ x. IsFirst l x) }
+    ensures small { IfOk result (λ x. size x < 18) }
+{
+    match &l.test {
+        Some(test) => {
+            let test = test.clone()?;
+            let env = l.env.copy()?;
+            Ok(Move::Enter(Task::Value(test, env), Frame::Effect(Effect::LoopTest(l))))
+        }
+        None => {
+            let body = l.body.clone()?;
+            let env = l.env.copy()?;
+            Ok(Move::Enter(Task::Effect(body, env), Frame::LoopNext(l)))
+        }
+    }
+}
