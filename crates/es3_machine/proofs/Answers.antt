@@ -3,20 +3,18 @@ use Rattle.std.specs.Prelude.{option_map}
 use Rattle.std.proofs.Common.{◌≡◌, Some, ℕ, zero, suc, ◌≤◌, refl, sym, ap, ◌∙◌, subst, arith}
 use Rattle.plans.specs.Plans.{Plan, ends, stops, enter, tick, told, Language, bind, Run, over, stopped, out, run, count_of}
 use Rattle.plans.proofs.Laws.{run_count}
-use Rattle.es3_tree.specs.Tree as t
-use Rattle.es3_meaning.specs.Store.{Store}
-use Rattle.es3_meaning.specs.Natives.{Table}
-use Rattle.es3_meaning.specs.Meaning.{es3, program_plan, run_program}
-use Rattle.es3_control.specs.Where.{plain_flow}
-use Rattle.es3_control.specs.declared.frame.Fault.TheVariants.{Number, Depth, Convert}
-use Rattle.es3_control.specs.Code.{plain_stmts}
-use Rattle.es3_control.specs.Texts.{store_of}
-use Rattle.es3_control.specs.declared.texts.Texts.{Texts}
 use Rattle.es3_heap.specs.Objects.{Objects}
-use Rattle.es3_machine.specs.Machine.{run_started, Ran}
-use Rattle.es3_machine.specs.Held.{Held, program_of, started_of, store_in}
-use Rattle.es3_machine.specs.declared.machine.Start.{Start}
+use Rattle.es3_language.specs.Store.{Store}
+use Rattle.es3_language.specs.Natives.{Table}
+use Rattle.es3_language.specs.Meaning as m
+use Rattle.es3_moves.specs.Where.{plain_flow}
+use Rattle.es3_moves.specs.Texts.{store_of}
+use Rattle.es3_moves.specs.declared.frame.Fault.TheVariants.{Number, Depth, Convert}
+use Rattle.es3_moves.specs.declared.texts.Texts.{Texts}
+use Rattle.es3_machine.specs.Machine.{Started, a_program, a_call, run_started, Ran}
+use Rattle.es3_machine.specs.Held.{Held, plain_start, started_of, store_in}
 use Rattle.es3_machine.specs.Outcome.{ended, answer_of}
+use Rattle.es3_machine.specs.declared.machine.Start.{Start}
 use Rattle.es3_machine.specs.declared.engine.Outcome.{Outcome}
 use Rattle.es3_machine.specs.declared.engine.Outcome.TheVariants.{Ended, Stopped, Spent}
 
@@ -41,31 +39,40 @@ ended_left (Ended flow) s z n = refl
 ended_left (Stopped f) s z n = refl
 ended_left Spent s z n = refl
 
+-- the plan of what is started
+abbrev started_plan : Started → Store → m.Plan
+started_plan (a_program p by) s = m.program_plan p by s
+started_plan (a_call f this vs by) s = m.call_plan f this vs by s
+
+started_run : {S : Type 0} (T : Table S) (x : Started) (s : Store) (z : S) (n : ℕ) → run_started T (Some x) s z n ≡ run (m.es3 T) n (started_plan x s) z
+started_run T (a_program p by) s z n = refl
+started_run T (a_call f this vs by) s z n = refl
+
 -- no steps are won
-pub ended_count : {S : Type 0} (T : Table S) (p : t.Tree t.program) (by : ℕ) (s s' : Store) (z z' : S) (o : Outcome) (n steps : ℕ) → ended o s' z' n ≡ run_program T p by s z steps → n ≤ steps
-ended_count T p by s s' z z' o n steps e =
-    let most = run_count (es3 T) steps (program_plan p by s) z in
-    let same : n ≡ count_of (run_program T p by s z steps) = sym (ended_left o s' z' n) ∙ ap count_of e in
+pub ended_count : {S : Type 0} (T : Table S) (x : Started) (s s' : Store) (z z' : S) (o : Outcome) (n steps : ℕ) → ended o s' z' n ≡ run_started T (Some x) s z steps → n ≤ steps
+ended_count T x s s' z z' o n steps e =
+    let most = run_count (m.es3 T) steps (started_plan x s) z in
+    let same : n ≡ count_of (run (m.es3 T) steps (started_plan x s) z) = sym (ended_left o s' z' n) ∙ ap count_of (e ∙ started_run T x s z steps) in
     subst (λ k. k ≤ steps) (sym same) most
 
 -- a run that ended so answers so
-pub ran : {S : Type 0} (T : Table S) (p : t.Tree t.program) (by : ℕ) (s s' : Store) (z z' : S) (o : Outcome) (n steps : ℕ) → n ≤ steps → ended o s' z' n ≡ run_program T p by s z steps → Ran (answer_of o steps n) (run_program T p by s z steps) steps s' z'
-ran T p by s s' z z' (Ended flow) n steps le e = record {
+pub ran : {S : Type 0} (T : Table S) (x : Started) (s s' : Store) (z z' : S) (o : Outcome) (n steps : ℕ) → n ≤ steps → ended o s' z' n ≡ run_started T (Some x) s z steps → Ran (answer_of o steps n) (run_started T (Some x) s z steps) steps s' z'
+ran T x s s' z z' (Ended flow) n steps le e = record {
   how = plain_flow flow;
   left = n;
   run = sym e;
   came_to = refl;
   count = omega arith;
 }
-ran T p by s s' z z' (Stopped Number) n steps le e = (n, sym e)
-ran T p by s s' z z' (Stopped Depth) n steps le e = (n, sym e)
-ran T p by s s' z z' (Stopped Convert) n steps le e = (n, sym e)
-ran T p by s s' z z' Spent n steps le e =
-    let none : n ≡ 0 = ap out_count e ∙ out_at_none (es3 T) steps (program_plan p by s) z in
+ran T x s s' z z' (Stopped Number) n steps le e = (n, sym e)
+ran T x s s' z z' (Stopped Depth) n steps le e = (n, sym e)
+ran T x s s' z z' (Stopped Convert) n steps le e = (n, sym e)
+ran T x s s' z z' Spent n steps le e =
+    let none : n ≡ 0 = ap out_count (e ∙ started_run T x s z steps) ∙ out_at_none (m.es3 T) steps (started_plan x s) z in
     sym e ∙ ap (out s' z') none
 
--- the run of a program that was started
-pub run_of_started : {S : Type 0} (T : Table S) (m : Held) (st : Start) (x : Texts) (h : Objects) (z : S) (steps : ℕ) → m.started ≡ Some st → m.texts ≡ x → run_program T (t.script (plain_stmts st.program.value.items)) st.by (store_of h x) z steps ≡ run_started T (started_of m) (store_in h m) z steps
-run_of_started T m st x h z steps some texts =
-    ap (λ k. run_program T (t.script (plain_stmts st.program.value.items)) st.by (store_of h k) z steps) (sym texts)
-    ∙ ap (λ o. run_started T (option_map program_of o) (store_in h m) z steps) (sym some)
+-- the run of what was started
+pub run_of_started : {S : Type 0} (T : Table S) (k : Held) (st : Start) (x : Texts) (h : Objects) (z : S) (steps : ℕ) → k.started ≡ Some st → k.texts ≡ x → run_started T (Some (plain_start st)) (store_of h x) z steps ≡ run_started T (started_of k) (store_in h k) z steps
+run_of_started T k st x h z steps some texts =
+    ap (λ y. run_started T (Some (plain_start st)) (store_of h y) z steps) (sym texts)
+    ∙ ap (λ o. run_started T (option_map plain_start o) (store_in h k) z steps) (sym some)

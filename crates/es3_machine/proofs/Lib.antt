@@ -1,10 +1,3 @@
-pub mod Loading
-pub mod Told
-pub mod Calls
-pub mod Entry
-pub mod Unknown
-pub mod Thrown
-pub mod Lists
-pub mod Entering
 pub mod Steps
 pub mod Answers
+pub mod Started

@@ -4,18 +4,18 @@ use Rattle.plans.specs.Plans.{over, stopped, out, run, rest}
 use Rattle.es3_heap.specs.declared.value.Stop.{Stop}
 use Rattle.es3_heap.specs.declared.value.Stop.TheVariants as stop
 use Rattle.es3_heap.specs.Objects.{Objects}
-use Rattle.es3_meaning.specs.Store.{Store}
-use Rattle.es3_meaning.specs.Natives.{Table}
-use Rattle.es3_meaning.specs.Meaning.{Run, es3}
-use Rattle.es3_control.specs.Where.{plain_flow, plain_fault}
-use Rattle.es3_control.specs.Texts.{store_of}
-use Rattle.es3_control.specs.Moves.{resume, move_plan}
-use Rattle.es3_control.specs.declared.natives.Completion.{Completion}
-use Rattle.es3_control.specs.declared.frame.Fault.TheVariants.{Number, Depth, Convert}
-use Rattle.es3_control.specs.declared.frame.Frame.{Frame}
-use Rattle.es3_control.specs.declared.frame.Move.{Move}
+use Rattle.es3_language.specs.Store.{Store}
+use Rattle.es3_language.specs.Natives.{Table}
+use Rattle.es3_language.specs.Meaning.{Run, es3}
+use Rattle.es3_moves.specs.Where.{plain_flow, plain_fault}
+use Rattle.es3_moves.specs.Texts.{store_of}
+use Rattle.es3_moves.specs.Moves.{resume, move_plan}
+use Rattle.es3_moves.specs.declared.natives.Completion.{Completion}
+use Rattle.es3_moves.specs.declared.frame.Fault.TheVariants.{Number, Depth, Convert}
+use Rattle.es3_moves.specs.declared.frame.Frame.{Frame}
+use Rattle.es3_moves.specs.declared.frame.Move.{Move}
 use Rattle.es3_machine.specs.Machine.{completed}
-use Rattle.es3_machine.specs.Sizes.{size}
+use Rattle.es3_access.specs.Sizes.{size}
 use Rattle.es3_machine.specs.declared.engine.Engine.{Engine}
 use Rattle.es3_machine.specs.declared.engine.Outcome.{Outcome}
 use Rattle.es3_machine.specs.declared.engine.Outcome.TheVariants.{Ended, Stopped, Spent}

@@ -1,86 +1,32 @@
 //! The machine's loop: one move after another, each of which leaves the rest of the run as it is.
 
-ghost use Rattle.std.specs.Prelude.{◌≡◌, ◌<◌, ◌≤◌, ◌+◌, IfOk, OnOk};
+ghost use Rattle.std.specs.Prelude.{◌≡◌, ◌<◌, ◌≤◌, ◌+◌, [], IfOk, OnOk};
 ghost use Rattle.es3_tree.specs.Tree as tree;
-ghost use Rattle.es3_meaning.specs.Meaning.{task_plan, task_state, run_program};
-ghost use Rattle.es3_control.specs.Code.{plain_stmts};
-ghost use Rattle.es3_control.specs.Texts.{store_of};
-ghost use Rattle.es3_control.specs.Moves.{move_plan, plain_task, plain_note, after_plan};
+ghost use Rattle.es3_heap.specs.Objects.{Objects};
+ghost use Rattle.es3_language.specs.Meaning.{outermost, run_program, run_call};
+ghost use Rattle.es3_moves.specs.Where.{plain_env};
+ghost use Rattle.es3_moves.specs.Code.{plain_stmts};
+ghost use Rattle.es3_moves.specs.Texts.{store_of};
+ghost use Rattle.es3_moves.specs.Moves.{move_plan};
+ghost use Rattle.es3_access.specs.Sizes.{size};
 ghost use Rattle.es3_machine.specs.Outcome.{run_of, run_after, ended, work, IsLess};
-ghost use Rattle.es3_machine.specs.Sizes.{after_size, size};
 
-use crate::call::apply;
-use crate::enter::{enter_expr, enter_stmt, enter_target};
-use crate::note;
-use crate::resume::{next_argument, next_item, next_statement, next_var, resume};
+use crate::natives::record_touch;
+use crate::resume::{begin, follow, resume};
 use caja_units::Memory;
-use es3_control::code::StmtCode;
-use es3_control::frame::{After, Chain, End, Env, Fault, Flow, Frame, Move, Note, Task};
-use es3_control::natives::{Answer, Natives};
-use es3_control::texts::Texts;
-use es3_heap::{Heap, Stop};
+use es3_calls::declare_program;
+use es3_expressions::lists::{next_argument, next_field, next_item};
+use es3_heap::{Heap, Value};
+use es3_moves::code::StmtCode;
+use es3_moves::frame::{After, Chain, End, Env, Fault, Flow, Frame, Move};
+use es3_moves::natives::Natives;
+use es3_moves::texts::Texts;
+use es3_statements::lists::next_statement;
+use es3_statements::loops::first_node;
+use es3_statements::switch::find_case;
+use es3_statements::vars::next_var;
 use std::alloc::Global;
 use std::rc::Rc;
-
-/// What entering a task does.
-fn begin<N: Natives>(
-    alloc: Global,
-    task: Task,
-    h: &mut Heap,
-    natives: &mut N,
-    texts: &mut Texts,
-) -> Result<Move, Memory>
-    ensures plan { IfOk result (λ x. move_plan x (store_of h.new texts.new) ≡ task_plan N.table (plain_task task) (store_of h.old texts.old) (N.state natives.old)) }
-    ensures state { OnOk result (N.state natives.new ≡ task_state N.table (plain_task task) (store_of h.old texts.old) (N.state natives.old)) }
-{
-    match task {
-        Task::Value(e, env) => enter_expr(alloc, &e, env, h, texts),
-        Task::Reference(e, env) => enter_target(alloc, &e, env, h, texts),
-        Task::Effect(s, env) => enter_stmt(&s, env),
-        Task::Native(which, this, args, env) => match natives.call(
-            alloc, h, which, env.by, &this, &args,
-        ) {
-            Answer::Value(v) => Ok(Move::End(Flow::Gave(v))),
-            Answer::Throw(v) => Ok(Move::End(Flow::Threw(v))),
-            Answer::Invoke(true, f, this, args) => Ok(Move::Follow(After::Call(
-                f, this, args, env,
-            ))),
-            Answer::Invoke(false, f, this, args) => Ok(Move::Follow(After::Apply(
-                f, this, args, env,
-            ))),
-            Answer::Stop(Stop::Number) => Ok(Move::Stop(Fault::Number)),
-            Answer::Stop(Stop::Depth) => Ok(Move::Stop(Fault::Depth)),
-            Answer::Stop(Stop::Convert) => Ok(Move::Stop(Fault::Convert)),
-            Answer::Stop(Stop::Steps) => unreachable!(),
-            Answer::Stop(Stop::Memory) => Err(Memory),
-        },
-    }
-}
-
-/// Tells the natives of a touch.
-fn record_touch<N: Natives>(alloc: Global, note: &Note, natives: &mut N) -> Result<(), Memory>
-    ensures { OnOk result (N.state natives.new ≡ N.table.touch (plain_note note.now) (N.state natives.old)) }
-{
-    match &note.key {
-        Some(key) => natives.touch(alloc, note.by, note.what, note.on, Some(key)),
-        None => natives.touch(alloc, note.by, note.what, note.on, None),
-    }
-}
-
-/// What follows where a touch may have been recorded.
-fn follow(alloc: Global, after: After, h: &mut Heap, texts: &mut Texts) -> Result<Move, Memory>
-    ensures plan { IfOk result (λ x. move_plan x (store_of h.new texts.new) ≡ after_plan after (store_of h.old texts.old)) }
-    ensures small { IfOk result (λ x. size x < after_size after) }
-{
-    match after {
-        After::Give(v) => Ok(Move::End(Flow::Gave(v))),
-        After::Call(f, this, args, env) => {
-            let noted = note::of_call(&f, env.by, h);
-            Ok(note::tell(noted, After::Apply(f, this, args, env)))
-        }
-        After::Apply(f, this, args, env) => apply(alloc, f, this, args, env, h, texts),
-    }
-}
 
 /// How a run ended.
 #[derive(Drop)]
@@ -126,43 +72,89 @@ impl Engine {
                 self.left -= 1;
                 Ok(Step::Next(begin(self.alloc, task, h, natives, &mut self.texts)?))
             }
-            Move::List(xs, at, acc, env, end) => Ok(Step::Next(next_statement(
-                xs, at, acc, env, end,
-            )?)),
-            Move::Items(vs, es, at, env) => Ok(Step::Next(next_item(
-                vs,
-                es,
-                at,
-                env,
-                h,
-                &self.texts,
-            )?)),
-            Move::Arguments(reference, vs, es, at, env) => Ok(Step::Next(next_argument(
-                self.alloc,
-                reference,
-                vs,
-                es,
-                at,
-                env,
-                h,
-                &self.texts,
-            )?)),
-            Move::Vars(items, at, env) => Ok(Step::Next(next_var(items, at, env, h, &self.texts)?)),
+            Move::Again(looping) => Ok(Step::Next(first_node(looping)?)),
             Move::Tell(note, after) => {
                 record_touch(self.alloc, &note, natives)?;
                 Ok(Step::Next(Move::Follow(after)))
             }
-            Move::Follow(after) => Ok(Step::Next(follow(self.alloc, after, h, &mut self.texts)?)),
             Move::End(flow) => match self.frames.pop() {
                 None => Ok(Step::Done(Outcome::Ended(flow))),
                 Some(frame) => Ok(Step::Next(resume(self.alloc, frame, flow, h, &mut self.texts)?)),
             },
             Move::Stop(fault) => Ok(Step::Done(Outcome::Stopped(fault))),
+            Move::List(xs, at, acc, env, end) => Ok(Step::Next(next_statement(
+                self.alloc,
+                xs,
+                at,
+                acc,
+                env,
+                end,
+                &mut self.texts,
+            )?)),
+            Move::Items(vs, es, at, env) => {
+                Ok(Step::Next(next_item(vs, es, at, env, h, &self.texts)?))
+            }
+            Move::Fields(object, fields, at, env) => Ok(Step::Next(next_field(
+                object,
+                fields,
+                at,
+                env,
+                h,
+                &self.texts,
+            )?)),
+            Move::Arguments(callee, vs, es, at, env) => Ok(Step::Next(next_argument(
+                self.alloc,
+                callee,
+                vs,
+                es,
+                at,
+                env,
+                h,
+                &mut self.texts,
+            )?)),
+            Move::Vars(items, at, end, env) => {
+                Ok(Step::Next(next_var(items, at, end, env, h, &self.texts)?))
+            }
+            Move::Find(v, cases, at, labels, env) => {
+                Ok(Step::Next(find_case(v, cases, at, labels, env)?))
+            }
+            Move::Follow(after) => Ok(Step::Next(follow(self.alloc, after, h, &mut self.texts)?)),
         }
     }
 
+    /// Makes moves until the run has ended.
+    fn run_from<N: Natives>(
+        &mut self,
+        first: Move,
+        h: &mut Heap,
+        natives: &mut N,
+    ) -> Result<Outcome, Memory>
+        ensures { IfOk result (λ o. ended o (store_of h.new self.new.texts) (N.state natives.new) self.new.left ≡ run_of N.table self.old h.old (N.state natives.old) first) }
+    {
+        let mut now = first;
+        'run: loop {
+            match self.step(now, h, natives)? {
+                Step::Next(next) => now = next,
+                Step::Done(outcome) => return Ok(outcome),
+            }
+        }
+    }
+
+    /// Where the statements of a program stand, and what is called from outside (ES3 10.2.1).
+    fn outermost(&self, by: u32) -> Result<Env, Memory>
+        ensures { IfOk result (λ e. (h : Objects) → plain_env e ≡ outermost by (store_of h self.now.texts)) }
+    {
+        let chain = Rc::new(self.alloc, Chain::End)?;
+        Ok(Env {
+            chain,
+            calls: 0,
+            by,
+            this: self.texts.globals,
+        })
+    }
+
     /// Runs the statements of a program as a module, with so many steps at most.
-    pub fn run<N: Natives>(
+    pub fn run_program<N: Natives>(
         &mut self,
         program: Rc<Vec<Rc<StmtCode>>>,
         by: u32,
@@ -170,23 +162,31 @@ impl Engine {
         natives: &mut N,
         steps: u64,
     ) -> Result<Outcome, Memory>
-        ensures count { OnOk result (self.new.left ≤ steps) }
-        ensures same { IfOk result (λ o. ended o (store_of h.new self.new.texts) (N.state natives.new) self.new.left ≡ run_program N.table (tree.script (plain_stmts program.value.items)) by (store_of h.old self.old.texts) (N.state natives.old) steps) }
+        ensures { IfOk result (λ o. ended o (store_of h.new self.new.texts) (N.state natives.new) self.new.left ≡ run_program N.table (tree.script (plain_stmts program.value.items)) by (store_of h.old self.old.texts) (N.state natives.old) steps) }
     {
         self.frames = Vec::new(self.alloc);
         self.left = steps;
-        let chain = Rc::new(self.alloc, Chain::End)?;
-        let env = Env {
-            chain,
-            calls: 0,
-            by,
-        };
-        let mut now = Move::List(program, 0, None, env, End::Program);
-        'run: loop {
-            match self.step(now, h, natives)? {
-                Step::Next(next) => now = next,
-                Step::Done(outcome) => return Ok(outcome),
-            }
-        }
+        let env = self.outermost(by)?;
+        declare_program(self.alloc, &program, by, h, &mut self.texts)?;
+        self.run_from(Move::List(program, 0, None, env, End::Program), h, natives)
+    }
+
+    /// Runs a call from outside, with so many steps at most.
+    pub fn run_call<N: Natives>(
+        &mut self,
+        f: Value,
+        this: Value,
+        args: Vec<Value>,
+        by: u32,
+        h: &mut Heap,
+        natives: &mut N,
+        steps: u64,
+    ) -> Result<Outcome, Memory>
+        ensures { IfOk result (λ o. ended o (store_of h.new self.new.texts) (N.state natives.new) self.new.left ≡ run_call N.table f this args.items by (store_of h.old self.old.texts) (N.state natives.old) steps) }
+    {
+        self.frames = Vec::new(self.alloc);
+        self.left = steps;
+        let env = self.outermost(by)?;
+        self.run_from(Move::Follow(After::Apply(f, this, args, env)), h, natives)
     }
 }

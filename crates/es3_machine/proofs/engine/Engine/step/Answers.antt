@@ -1,6 +1,6 @@
 use Rattle.std.proofs.Common.{arith}
-use Rattle.es3_control.specs.Texts.{store_of}
-use Rattle.es3_machine.proofs.Steps.{did_spend, did_enter, did_go, did_end, did_stop, did_tell}
+use Rattle.es3_moves.specs.Texts.{store_of}
+use Rattle.es3_machine.proofs.Steps.{did_spend, did_enter, did_go, did_end, did_stop, did_tell, did_again}
 use Rattle.es3_machine.proofs.engine.Engine.step.Goals as goal
 
 pub returns-then-self-eq0-clause-same : goal.returns-then-self-eq0-clause-same
@@ -25,3 +25,7 @@ returns-in-Stop-clause-same g c = did_stop g.N.Natives.table c.args.self.now.fra
 pub returns-in_ok-record_touch-in-Tell-clause-same : goal.returns-in_ok-record_touch-in-Tell-clause-same
 returns-in_ok-record_touch-in-Tell-clause-same g c =
     did_tell g.N.Natives.table c.args.self.now.frames.items c.args.now c.in-Tell.note c.in-Tell.after (store_of c.args.h.now c.args.self.now.texts) (g.N.Natives.state c.args.natives.now) _ c.args.self.now.left c.in-Tell.is c.in_ok-record_touch-in-Tell.ensures
+
+pub returns-in_ok-first_node-in-Again-clause-same : goal.returns-in_ok-first_node-in-Again-clause-same
+returns-in_ok-first_node-in-Again-clause-same g c =
+    did_again g.N.Natives.table c.args.self.now.frames.items c.args.now c.in_ok-first_node-in-Again.field-0 c.in-Again.looping (store_of c.args.h.now c.args.self.now.texts) (g.N.Natives.state c.args.natives.now) c.args.self.now.left c.in-Again.is c.in_ok-first_node-in-Again.ensures.plan

@@ -1,6 +1,0 @@
-pub mod Where
-pub mod Known
-pub mod Code
-pub mod Texts
-pub mod Moves
-pub mod Answers

@@ -1,7 +1,0 @@
-use Rattle.std.proofs.Common.{arith}
-use Rattle.es3_machine.proofs.Entry.{params_more}
-use Rattle.es3_machine.proofs.call.bind.Goals as goal
-
-pub loop-i-preserved : goal.loop-i-preserved
-loop-i-preserved c =
-    params_more c.args.params.now c.args.args.now c.loop-i.i c.index-params-i.result c.in_ok-value.value c.loop-i.scope c.put.new.self _ (omega arith) c.index-params-i.is c.in_ok-value.ensures c.in_ok-put.ensures c.loop-i.invariant

@@ -1,4 +1,0 @@
-pub mod Store
-pub mod References
-pub mod Natives
-pub mod Meaning
