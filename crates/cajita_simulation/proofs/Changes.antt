@@ -10,8 +10,8 @@ use Rattle.es3_heap.specs.declared.value.Tag.TheVariants as tag
 use Rattle.es3_heap.specs.Objects as heap
 use Rattle.es3_heap.specs.Objects.{Objects}
 use Rattle.es3_heap.specs.Making.{count_at, raised}
-use Rattle.es3_meaning.specs.Store.{Store, name_value, with_heap}
-use Rattle.es3_meaning.specs.References.{slot, resolve, with_slot}
+use Rattle.es3_language.specs.Store.{Store, name_value, with_heap, with_slot}
+use Rattle.es3_language.specs.References.{slot, resolve}
 use Rattle.cajita_simulation.proofs.Heaps.Names.{name_value-with_name}
 use Rattle.cajita_meaning.specs.World as World
 use Rattle.cajita_meaning.specs.World.{Value, Pairs, Object, value_at, with_value, with_last, with_object, next_name, World as State}
@@ -19,8 +19,8 @@ use Rattle.cajita_meaning.specs.Direct.{Item, printed, scope_at, assigned, assig
 use Rattle.module_loader.specs.Page.{Kept}
 use Rattle.cajita_simulation.proofs.Heaps.Made.{tagged, with_named}
 use Rattle.cajita_simulation.proofs.Heaps.Lists.{slice_get-set, slice_get-push, slice_get-push-other}
-use Rattle.cajita_simulation.proofs.Relation.{EsValue, Named, Val, OptVal, Is, Stands, Here, Temps, Slot, unknown, holds, SlotIs, Found, names_at, ObjectsAre, VariablesAre, Rel, Keeps, val_keep, optval_keep, is_keep}
-use Rattle.cajita_simulation.proofs.Scopes.{BothFind, found_kept, resolve_same, written_same, scopes_assigned, slot_kept, variable_kept, lookup_assigned, value_at-with_value, names_at-written}
+use Rattle.cajita_simulation.proofs.Relation.{EsValue, Named, Val, OptVal, Is, Stands, Here, Temps, Slot, unknown, holds, SlotIs, Found, names_at, ObjectsAre, AreScopes, VariablesAre, Rel, Keeps, val_keep, optval_keep, is_keep}
+use Rattle.cajita_simulation.proofs.Scopes.{BothFind, found_kept, resolve_same, are_written, owners_written, written_same, scopes_assigned, slot_kept, variable_kept, lookup_assigned, value_at-with_value, names_at-written}
 use Rattle.cajita_simulation.proofs.Laws.{hold, result_name}
 
 -- lists with a new last element
@@ -126,17 +126,18 @@ objects_named {by = by} {objects = objects} {h = h} {m = m} o x few is r =
 
 -- variables, where the objects changed alone
 
-slot_keep : (chain : List ℕ) (s : Store) (g : Objects) (x : List ℕ) (q : Slot) {i j : ℕ} → Keeps s.heap i g j → SlotIs chain s x q → SlotIs chain (with_heap s g) x q
-slot_keep chain s g x unknown k p = tt
-slot_keep chain s g x (holds v) k p = (p.0, found_kept (λ n. refl) p.1, val_keep k v p.0 p.2)
+slot_keep : (chain : List ℕ) (s : Store) (g : Objects) (x : List ℕ) (q : Slot) {i j : ℕ} → AreScopes s → Keeps s.heap i g j → SlotIs chain s x q → SlotIs chain (with_heap s g) x q
+slot_keep chain s g x unknown are k p = tt
+slot_keep chain s g x (holds v) are k p = (p.0, found_kept are are (λ n. refl) p.1, val_keep k v p.0 p.2)
 
 pub variables_keep : {H : Here} {T : Temps} {scopes : List Pairs} {s : Store} (g : Objects) {i j : ℕ} → Keeps s.heap i g j → VariablesAre H T scopes s → VariablesAre H T scopes (with_heap s g)
 variables_keep {H = H} {T = T} {s = s} g k r = record {
   scopes = λ c x guest. optval_keep k _ _ (r.scopes c x guest);
-  temps = λ x hidden. slot_keep H.env.chain s g x (T x) k (r.temps x hidden);
-  runtime = found_kept (λ n. refl) r.runtime;
-  result = (r.result.0, found_kept (λ n. refl) r.result.1, r.result.2);
-  bound = λ x known. let b = r.bound x known in (b.0, b.1, resolve_same H.env.chain s (with_heap s g) x (H.place x) (λ n. refl) b.2);
+  temps = λ x hidden. slot_keep H.env.chain s g x (T x) r.owners.are k (r.temps x hidden);
+  runtime = found_kept r.owners.are r.owners.are (λ n. refl) r.runtime;
+  result = (r.result.0, found_kept r.owners.are r.owners.are (λ n. refl) r.result.1, r.result.2);
+  bound = λ x known. let b = r.bound x known in (b.0, b.1, resolve_same H.env.chain s (with_heap s g) x (H.place x) r.owners.are r.owners.are (λ n. refl) b.2);
+  owners = record { are = r.owners.are; written = r.owners.written; result = r.owners.result; unshared = r.owners.unshared };
 }
 
 -- an item that the log doesn't print
@@ -179,21 +180,24 @@ differs x y hidden guest =
       | false ↦ λ is. refl
     ] in cases refl
 
-slot_assigned : (chain : List ℕ) (s s' : Store) (x : List ℕ) (q : Slot) → s'.heap ≡ s.heap → ((n : ℕ) → name_value x (names_at s' n) ≡ name_value x (names_at s n)) → SlotIs chain s x q → SlotIs chain s' x q
-slot_assigned chain s s' x unknown e same p = tt
-slot_assigned chain s s' x (holds v) e same p = (p.0, found_kept same p.1, subst (λ h. Val h v p.0) (sym e) p.2)
+slot_assigned : (chain : List ℕ) (s s' : Store) (x : List ℕ) (q : Slot) → AreScopes s → AreScopes s' → s'.heap ≡ s.heap → ((n : ℕ) → name_value x (names_at s' n) ≡ name_value x (names_at s n)) → SlotIs chain s x q → SlotIs chain s' x q
+slot_assigned chain s s' x unknown are are' e same p = tt
+slot_assigned chain s s' x (holds v) are are' e same p = (p.0, found_kept are are' same p.1, subst (λ h. Val h v p.0) (sym e) p.2)
 
 -- a guest's variable, on both sides
 pub variables_assigned : {H : Here} {T : Temps} {scopes : List Pairs} {s : Store} (x : List ℕ) (v u : Value) (e : EsValue) (f : BothFind H.env.chain scopes s x u) → is_hidden x ≡ false → Val s.heap v e → VariablesAre H T scopes s → VariablesAre H T (assigned H.env.chain x v scopes) (with_slot f.found.place x e s)
 variables_assigned {H = H} {T = T} {scopes = scopes} {s = s} x v u e f guest is r =
     let p = f.found.place in
     let after = slice_set scopes p (with_value x v (scope_at (slice_get scopes p))) in
+    let are = r.owners.are in
+    let are' = are_written s p x e are in
     subst (λ l. VariablesAre H T l (with_slot p x e s)) (sym (f.assigns v)) (record {
       scopes = scopes_assigned scopes s p x u v f.value e r.scopes f.here f.found.value is;
-      temps = λ y hidden. slot_assigned H.env.chain s (with_slot p x e s) y (T y) refl (λ n. slot_kept s p n x y f.value e f.found.value (differs x y hidden guest)) (r.temps y hidden);
-      runtime = found_kept (λ n. slot_kept s p n x (codes "___") f.value e f.found.value (differs x (codes "___") refl guest)) r.runtime;
-      result = (r.result.0, found_kept (λ n. slot_kept s p n x (codes "moduleResult___") f.value e f.found.value (differs x (codes "moduleResult___") refl guest)) r.result.1, r.result.2);
-      bound = λ y known. let b = r.bound y known in let l = lookup_assigned H.env.chain scopes after y (stays y) b.0 b.1 in (l.0, l.1, resolve_same H.env.chain s (with_slot p x e s) y (H.place y) (λ n. written_same s p n x y f.value e f.found.value) b.2);
+      temps = λ y hidden. slot_assigned H.env.chain s (with_slot p x e s) y (T y) are are' refl (λ n. slot_kept s p n x y f.value e f.found.value (differs x y hidden guest)) (r.temps y hidden);
+      runtime = found_kept are are' (λ n. slot_kept s p n x (codes "___") f.value e f.found.value (differs x (codes "___") refl guest)) r.runtime;
+      result = (r.result.0, found_kept are are' (λ n. slot_kept s p n x (codes "moduleResult___") f.value e f.found.value (differs x (codes "moduleResult___") refl guest)) r.result.1, r.result.2);
+      bound = λ y known. let b = r.bound y known in let l = lookup_assigned H.env.chain scopes after y (stays y) b.0 b.1 in (l.0, l.1, resolve_same H.env.chain s (with_slot p x e s) y (H.place y) are are' (λ n. written_same s p n x y f.value e f.found.value) b.2);
+      owners = owners_written s p x e r.owners;
     })
   where
     written : (y : List ℕ) (n : ℕ) (q : Value) → y ≡ x → value_at y (scope_at (slice_get scopes n)) ≡ Some q → (w : Value) × (value_at y (scope_at (slice_get (slice_set scopes f.found.place (with_value x v (scope_at (slice_get scopes f.found.place)))) n)) ≡ Some w)
@@ -218,17 +222,20 @@ pub variables_held : {H : Here} {T : Temps} {scopes : List Pairs} {s : Store} (v
 variables_held {H = H} {T = T} {scopes = scopes} {s = s} v e u f place is r =
     let p = H.place result_name in
     let after = with_slot p result_name e s in
+    let are = r.owners.are in
+    let are' = are_written s p result_name e are in
     let here : name_value result_name (names_at s p) ≡ Some u = subst (λ q. name_value result_name (names_at s q) ≡ Some u) place f.value in
     let found : Found H.env.chain after result_name e = record {
       place = p;
-      at = resolve_same H.env.chain s after result_name p (λ n. written_same s p n result_name result_name u e here) (subst (λ q. resolve H.env.chain s result_name ≡ slot q result_name) place f.at);
+      at = resolve_same H.env.chain s after result_name p are are' (λ n. written_same s p n result_name result_name u e here) (subst (λ q. resolve H.env.chain s result_name ≡ slot q result_name) place f.at);
       value = ap (name_value result_name) (names_at-written s p result_name u e here) ∙ name_value-with_name result_name e (names_at s p);
     } in record {
       scopes = λ c x guest. subst (λ o. OptVal s.heap (value_at x (scope_at (slice_get scopes c))) o) (sym (slot_kept s p c result_name x u e here (other_name x guest))) (r.scopes c x guest);
       temps = λ x hidden. held x hidden here found;
-      runtime = found_kept (λ n. slot_kept s p n result_name (codes "___") u e here refl) r.runtime;
+      runtime = found_kept are are' (λ n. slot_kept s p n result_name (codes "___") u e here refl) r.runtime;
       result = (e, found, refl);
-      bound = λ y known. let b = r.bound y known in (b.0, b.1, resolve_same H.env.chain s after y (H.place y) (λ n. written_same s p n result_name y u e here) b.2);
+      bound = λ y known. let b = r.bound y known in (b.0, b.1, resolve_same H.env.chain s after y (H.place y) are are' (λ n. written_same s p n result_name y u e here) b.2);
+      owners = owners_written s p result_name e r.owners;
     }
   where
     other_name : (x : List ℕ) → is_hidden x ≡ false → same_units x result_name ≡ false
@@ -243,7 +250,7 @@ variables_held {H = H} {T = T} {scopes = scopes} {s = s} v e u f place is r =
         let after = with_slot (H.place result_name) result_name e s in
         let cases = elim (same_units x result_name) as (λ b. same_units x result_name ≡ b → SlotIs H.env.chain after x (cond b (holds v) (T x))) [
           | true ↦ λ same. subst (λ y. SlotIs H.env.chain after y (holds v)) (sym (same_text x result_name (sym same))) (e, found, is)
-          | false ↦ λ same. slot_assigned H.env.chain s after x (T x) refl (λ n. slot_kept s (H.place result_name) n result_name x u e here same) (r.temps x hidden)
+          | false ↦ λ same. slot_assigned H.env.chain s after x (T x) r.owners.are (are_written s (H.place result_name) result_name e r.owners.are) refl (λ n. slot_kept s (H.place result_name) n result_name x u e here same) (r.temps x hidden)
         ] in cases refl
 
 -- the relation after an assignment to a guest's variable

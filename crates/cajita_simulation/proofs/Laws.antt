@@ -8,10 +8,10 @@ use Rattle.matching.specs.Sides.{Sides, Match}
 use Rattle.matching.proofs.Rules.{both_cut, both_enter}
 use Rattle.es3_tree.specs.Tree as t
 use Rattle.es3_heap.specs.Objects.{Objects}
-use Rattle.es3_meaning.specs.Store.{Store}
-use Rattle.es3_meaning.specs.Natives.{Touched}
-use Rattle.es3_meaning.specs.Meaning as Target
-use Rattle.es3_meaning.specs.Meaning.{es3}
+use Rattle.es3_language.specs.Store.{Store}
+use Rattle.es3_language.specs.Natives.{Touched}
+use Rattle.es3_language.specs.Meaning as Target
+use Rattle.es3_language.specs.Meaning.{es3}
 use Rattle.cajita_tree.specs.Tree as c
 use Rattle.cajita_meaning.specs.World.{Value, World}
 use Rattle.cajita_meaning.specs.Direct as Source
@@ -137,14 +137,14 @@ pub record ValueLaw (H : Here) (d : ℕ) (e : c.Tree c.expr) (e' : t.Tree t.expr
   pub on : {T : Temps} {a k : ℕ} {w : World} {z : List Item} {n : ℕ} {s : Store} {y : Kept} {m : ℕ} {next : Cont} {next' : Cont'} → a < d → Rel H T k w z n s y m → NextValue H T a (suc k) s.heap (suc m) next next' → M H a (enter (Source.value_of e H.env) w next) z n (enter (Target.value_of e' (env_of H)) s next') y m
 
 pub record EffectLaw (H : Here) (d : ℕ) (x : c.Tree c.stmt) (x' : t.Tree t.stmt) : Type 0 where
-  pub on : {T : Temps} {a k : ℕ} {w : World} {z : List Item} {n : ℕ} {s : Store} {y : Kept} {m : ℕ} {next : Cont} {next' : Cont'} → a < d → Rel H T k w z n s y m → NextEffect H T a (suc k) s.heap (suc m) next next' → M H a (enter (Source.effect_of x H.env) w next) z n (enter (Target.effect_of x' (env_of H)) s next') y m
+  pub on : {T : Temps} {a k : ℕ} {w : World} {z : List Item} {n : ℕ} {s : Store} {y : Kept} {m : ℕ} {next : Cont} {next' : Cont'} → a < d → Rel H T k w z n s y m → NextEffect H T a (suc k) s.heap (suc m) next next' → M H a (enter (Source.effect_of x H.env) w next) z n (enter (Target.effect_of x' [] (env_of H)) s next') y m
 
 -- the law of its plan, once both have entered; sixteen more steps are in hand
 pub record ValueBody (H : Here) (d : ℕ) (e : c.Tree c.expr) (e' : t.Tree t.expr) : Type 0 where
   pub on : {T : Temps} {a k : ℕ} {w : World} {z : List Item} {n : ℕ} {s : Store} {y : Kept} {m : ℕ} {next : Cont} {next' : Cont'} → a < d → Rel H T (more k) w z n s y m → NextValue H T a (suc k) s.heap m next next' → M H a (bind (Source.expr_plan e H.env w) next) z n (bind (Target.expr_plan e' (env_of H) s) next') y m
 
 pub record EffectBody (H : Here) (d : ℕ) (x : c.Tree c.stmt) (x' : t.Tree t.stmt) : Type 0 where
-  pub on : {T : Temps} {a k : ℕ} {w : World} {z : List Item} {n : ℕ} {s : Store} {y : Kept} {m : ℕ} {next : Cont} {next' : Cont'} → a < d → Rel H T (more k) w z n s y m → NextEffect H T a (suc k) s.heap m next next' → M H a (bind (Source.stmt_plan x H.env w) next) z n (bind (Target.stmt_plan x' (env_of H) s) next') y m
+  pub on : {T : Temps} {a k : ℕ} {w : World} {z : List Item} {n : ℕ} {s : Store} {y : Kept} {m : ℕ} {next : Cont} {next' : Cont'} → a < d → Rel H T (more k) w z n s y m → NextEffect H T a (suc k) s.heap m next next' → M H a (bind (Source.stmt_plan x H.env w) next) z n (bind (Target.stmt_plan x' [] (env_of H) s) next') y m
 
 pub steps_hold : {H : Here} {T : Temps} {k : ℕ} {w : World} {z : List Item} {n : ℕ} {s : Store} {y : Kept} {m : ℕ} → Rel H T k w z n s y m → m ≤ 64 * n
 steps_hold r = omega (arith, r.steps)
@@ -156,7 +156,7 @@ value_at go (suc a) k lt r x = both_enter (go.on (omega arith) (rel_both r) (val
 pub value_law : {H : Here} {d : ℕ} {e : c.Tree c.expr} {e' : t.Tree t.expr} → ValueBody H d e e' → ValueLaw H (suc d) e e'
 value_law go = record { on = λ lt r x. value_at go _ _ lt r x }
 
-effect_at : {H : Here} {d : ℕ} {u : c.Tree c.stmt} {u' : t.Tree t.stmt} (go : EffectBody H d u u') {T : Temps} (a k : ℕ) {w : World} {z : List Item} {n : ℕ} {s : Store} {y : Kept} {m : ℕ} {next : Cont} {next' : Cont'} → a < suc d → Rel H T k w z n s y m → NextEffect H T a (suc k) s.heap (suc m) next next' → M H a (enter (Source.effect_of u H.env) w next) z n (enter (Target.effect_of u' (env_of H)) s next') y m
+effect_at : {H : Here} {d : ℕ} {u : c.Tree c.stmt} {u' : t.Tree t.stmt} (go : EffectBody H d u u') {T : Temps} (a k : ℕ) {w : World} {z : List Item} {n : ℕ} {s : Store} {y : Kept} {m : ℕ} {next : Cont} {next' : Cont'} → a < suc d → Rel H T k w z n s y m → NextEffect H T a (suc k) s.heap (suc m) next next' → M H a (enter (Source.effect_of u H.env) w next) z n (enter (Target.effect_of u' [] (env_of H)) s next') y m
 effect_at go zero k lt r x = both_cut (steps_hold r) r.items
 effect_at go (suc a) k lt r x =
     both_enter (go.on (omega arith) (rel_both r) (record {

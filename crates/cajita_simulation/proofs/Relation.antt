@@ -5,10 +5,11 @@ use Rattle.caja_units.specs.Units.{is_hidden}
 use Rattle.es3_heap.specs.declared.value.Value.TheVariants as es
 use Rattle.es3_heap.specs.Objects as heap
 use Rattle.es3_heap.specs.Objects.{Property, Objects}
-use Rattle.es3_meaning.specs.Store as store
-use Rattle.es3_meaning.specs.Store.{Store, name_value}
-use Rattle.es3_meaning.specs.References.{slot, resolve}
-use Rattle.es3_meaning.specs.Meaning as Target
+use Rattle.es3_language.specs.Store as store
+use Rattle.es3_language.specs.Store.{Store, name_value}
+use Rattle.es3_language.specs.Arguments.{is_fixed}
+use Rattle.es3_language.specs.References.{slot, resolve}
+use Rattle.es3_language.specs.Meaning as Target
 use Rattle.cajita_meaning.specs.World as World
 use Rattle.cajita_meaning.specs.World.{Name, Value, Pairs, Object, a_record, an_error, World as State}
 use Rattle.cajita_meaning.specs.Direct as Source
@@ -26,14 +27,16 @@ OptVal h None None = Unit {0}
 OptVal h (Some v) (Some e) = Val h v e
 OptVal h _ _ = ⊥
 
--- where a form stands: its surroundings, the variables that it may name, and the scope that each name is found in, which never changes
+-- where a form stands: its surroundings, the variables that it may name, the scope that each name is found in, which never changes, and the object that
+-- is `this` in the interpreter
 pub record Here : Type 0 where
   pub env : Source.Env
   pub vars : List (List ℕ)
   pub place : List ℕ → ℕ
+  pub this : ℕ
 
 abbrev pub env_of : Here → Target.Env
-env_of H = record { chain = H.env.chain; calls = H.env.calls; by = H.env.by }
+env_of H = record { chain = H.env.chain; calls = H.env.calls; by = H.env.by; this = H.this }
 
 -- from a tag to its object; a count for each module; no more names than steps; the first objects are as at the opening
 pub record ObjectsAre (by : ℕ) (objects : ℕ → List Object) (h : Objects) (m : ℕ) : Type 0 where
@@ -45,7 +48,7 @@ pub record ObjectsAre (by : ℕ) (objects : ℕ → List Object) (h : Objects) (
 
 -- names
 
-abbrev pub names_at : Store → ℕ → store.Scope
+abbrev pub names_at : Store → ℕ → store.Names
 names_at s c = store.scope_at (slice_get s.scopes c)
 
 -- a name that the chain has, and its value
@@ -53,6 +56,28 @@ pub record Found (chain : List ℕ) (s : Store) (x : List ℕ) (e : EsValue) : T
   pub place : ℕ
   pub at : resolve chain s x ≡ slot place x
   pub value : name_value x (names_at s place) ≡ Some e
+
+-- what scopes belong to
+
+-- 12.10: a scope that has names of its own, and not those of an object
+abbrev pub OwnNames : store.Owner → Type 0
+OwnNames (store.with_object_of o) = ⊥
+OwnNames _ = Unit {0}
+
+abbrev pub IsScope : Option store.Scope → Type 0
+IsScope None = Unit {0}
+IsScope (Some scope) = OwnNames scope.owner
+
+-- no scope is that of a `with`
+abbrev pub AreScopes : Store → Type 0
+AreScopes s = (c : ℕ) → IsScope (slice_get s.scopes c)
+
+-- a guest's variables and the module's result are found in scopes whose names may be written, and nothing else has the value of a parameter
+pub record OwnersAre (H : Here) (s : Store) : Type 0 where
+  pub are : AreScopes s
+  pub written : (x : List ℕ) → is_among H.vars x ≡ true → is_fixed (slice_get s.scopes (H.place x)) ≡ false
+  pub result : is_fixed (slice_get s.scopes (H.place (codes "moduleResult___"))) ≡ false
+  pub unshared : s.shared ≡ []
 
 -- what a hidden name of the rewriting holds
 pub data Slot : Type 0 where
@@ -67,7 +92,7 @@ SlotIs chain s x unknown = Unit {0}
 SlotIs chain s x (holds v) = (e : EsValue) × Found chain s x e × Val s.heap v e
 
 -- a variable has the same value on both sides
-abbrev pub ScopeIs : Objects → Pairs → store.Scope → Type 0
+abbrev pub ScopeIs : Objects → Pairs → store.Names → Type 0
 ScopeIs h names names' = (x : List ℕ) → is_hidden x ≡ false → OptVal h (World.value_at x names) (name_value x names')
 
 pub record VariablesAre (H : Here) (T : Temps) (list : List Pairs) (s : Store) : Type 0 where
@@ -76,6 +101,7 @@ pub record VariablesAre (H : Here) (T : Temps) (list : List Pairs) (s : Store) :
   pub runtime : Found H.env.chain s (codes "___") (es.Obj runtime_id)
   pub result : (e : EsValue) × (f : Found H.env.chain s (codes "moduleResult___") e) × (f.place ≡ H.place (codes "moduleResult___"))
   pub bound : (x : List ℕ) → is_among H.vars x ≡ true → (v : Value) × (lookup H.env.chain list x ≡ Some v) × (resolve H.env.chain s x ≡ slot (H.place x) x)
+  pub owners : OwnersAre H s
 
 -- the items that the log prints are the same; k steps of the interpreter are in hand
 pub record Rel (H : Here) (T : Temps) (k : ℕ) (w : State) (z : List Item) (n : ℕ) (s : Store) (y : Kept) (m : ℕ) : Type 0 where

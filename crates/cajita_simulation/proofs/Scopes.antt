@@ -1,19 +1,20 @@
 -- Variables on both sides: where a name is found, and what an assignment leaves.
-use Rattle.std.proofs.Common.{◌≡◌, ◌≢◌, ℕ, true, false, List, [], ◌∷◌, Option, Some, None, cond, refl, sym, ap, ◌∙◌, subst, arith}
-use Rattle.std.specs.Prelude.{slice_get, slice_set, is_some, nat_eq}
+use Rattle.std.proofs.Common.{◌≡◌, ◌≢◌, ℕ, zero, suc, true, false, List, [], ◌∷◌, Option, Some, None, cond, refl, sym, ap, ◌∙◌, subst, arith}
+use Rattle.std.specs.Prelude.{slice_get, slice_set, is_some, nat_eq, codes}
 use Rattle.std.specs.Cmp.Lexicographic.{same_text}
 use Rattle.std.proofs.lemmas.Option.{none-some}
 use Rattle.std.proofs.lemmas.Bool.Decides.{nat_tests}
 use Rattle.caja_units.specs.Units.{same_units, is_hidden}
 use Rattle.es3_heap.proofs.Keys.{same_key-refl}
-use Rattle.es3_meaning.specs.Store as store
-use Rattle.es3_meaning.specs.Store.{Store, name_value, with_name}
-use Rattle.es3_meaning.specs.References.{slot, unresolved, named, resolve, global_name, with_slot}
+use Rattle.es3_language.specs.Store as store
+use Rattle.es3_language.specs.Store.{Store, name_value, with_name, with_heap, with_slot}
+use Rattle.es3_language.specs.Arguments.{is_fixed, put_shared, write_slot}
+use Rattle.es3_language.specs.References.{Ref, slot, unresolved, named, resolve, global_name, in_owner, in_with}
 use Rattle.cajita_meaning.specs.World.{Value, Pairs, value_at, with_value}
 use Rattle.cajita_meaning.specs.Direct.{lookup, first_of, scope_at, assigned}
 use Rattle.cajita_simulation.proofs.Heaps.Lists.{slice_get-set, slice_get-set-other}
 use Rattle.cajita_simulation.proofs.Heaps.Names.{name_value-with_name, name_value-with_name-other}
-use Rattle.cajita_simulation.proofs.Relation.{EsValue, Val, OptVal, Found, ScopeIs, names_at}
+use Rattle.cajita_simulation.proofs.Relation.{EsValue, Val, OptVal, Here, Found, ScopeIs, names_at, OwnNames, IsScope, AreScopes, OwnersAre}
 
 -- a name is at no place where it belongs to the global object, or to nothing
 global_is_no_slot : (s : Store) (x : List ℕ) (c : ℕ) → global_name s x ≡ slot c x → ⊥
@@ -23,18 +24,29 @@ global_is_no_slot s x c e =
       | false ↦ λ h. cc
     ] in cases e
 
+-- a scope with names of its own has no others
+owner_passes : (w : store.Owner) (s : Store) (x : List ℕ) (r : Ref) → OwnNames w → in_owner w s x r ≡ r
+owner_passes (store.with_object_of o) s x r own = absurd own
+owner_passes _ s x r own = refl
+
+pub passes : (scope : Option store.Scope) (s : Store) (x : List ℕ) (r : Ref) → IsScope scope → in_with scope s x r ≡ r
+passes None s x r own = refl
+passes (Some scope) s x r own = owner_passes scope.owner s x r own
+
 -- a name that no scope lost or won is found where it was
-pub resolve_same : (chain : List ℕ) (s s' : Store) (x : List ℕ) (c : ℕ) → ((n : ℕ) → is_some (name_value x (names_at s' n)) ≡ is_some (name_value x (names_at s n))) → resolve chain s x ≡ slot c x → resolve chain s' x ≡ slot c x
-resolve_same [] s s' x c same e = absurd (global_is_no_slot s x c e)
-resolve_same (n ∷ chain) s s' x c same e =
-    let cases = elim (is_some (name_value x (names_at s n))) as (λ b. cond b (slot n x) (resolve chain s x) ≡ slot c x → cond b (slot n x) (resolve chain s' x) ≡ slot c x) [
+pub resolve_same : (chain : List ℕ) (s s' : Store) (x : List ℕ) (c : ℕ) → AreScopes s → AreScopes s' → ((n : ℕ) → is_some (name_value x (names_at s' n)) ≡ is_some (name_value x (names_at s n))) → resolve chain s x ≡ slot c x → resolve chain s' x ≡ slot c x
+resolve_same [] s s' x c are are' same e = absurd (global_is_no_slot s x c e)
+resolve_same (n ∷ chain) s s' x c are are' same e =
+    let before = passes (slice_get s.scopes n) s x (resolve chain s x) (are n) in
+    let after = passes (slice_get s'.scopes n) s' x (resolve chain s' x) (are' n) in
+    let cases = elim (is_some (name_value x (names_at s n))) as (λ b. cond b (slot n x) (in_with (slice_get s.scopes n) s x (resolve chain s x)) ≡ slot c x → cond b (slot n x) (in_with (slice_get s'.scopes n) s' x (resolve chain s' x)) ≡ slot c x) [
       | true ↦ λ h. h
-      | false ↦ λ h. resolve_same chain s s' x c same h
+      | false ↦ λ h. after ∙ resolve_same chain s s' x c are are' same (sym before ∙ h)
     ] in rw (same n) (cases e)
 
 -- and has the value that it had, where no scope changed it
-abbrev pub found_kept : {chain : List ℕ} {s s' : Store} {x : List ℕ} {e : EsValue} → ((n : ℕ) → name_value x (names_at s' n) ≡ name_value x (names_at s n)) → Found chain s x e → Found chain s' x e
-found_kept {chain = chain} {s = s} {s' = s'} {x = x} same f = record { place = f.place; at = resolve_same chain s s' x f.place (λ n. ap is_some (same n)) f.at; value = same f.place ∙ f.value }
+abbrev pub found_kept : {chain : List ℕ} {s s' : Store} {x : List ℕ} {e : EsValue} → AreScopes s → AreScopes s' → ((n : ℕ) → name_value x (names_at s' n) ≡ name_value x (names_at s n)) → Found chain s x e → Found chain s' x e
+found_kept {chain = chain} {s = s} {s' = s'} {x = x} are are' same f = record { place = f.place; at = resolve_same chain s s' x f.place are are' (λ n. ap is_some (same n)) f.at; value = same f.place ∙ f.value }
 
 -- a variable that the direct meaning finds is found at the same place, with a value that corresponds
 pub record BothFind (chain : List ℕ) (scopes : List Pairs) (s : Store) (x : List ℕ) (v : Value) : Type 0 where
@@ -44,19 +56,19 @@ pub record BothFind (chain : List ℕ) (scopes : List Pairs) (s : Store) (x : Li
   pub here : value_at x (scope_at (slice_get scopes found.place)) ≡ Some v
   pub assigns : (u : Value) → assigned chain x u scopes ≡ slice_set scopes found.place (with_value x u (scope_at (slice_get scopes found.place)))
 
-found_here : (n : ℕ) (chain : List ℕ) (scopes : List Pairs) (s : Store) (x : List ℕ) (v : Value) (o : Option Value) (o' : Option EsValue) → value_at x (scope_at (slice_get scopes n)) ≡ o → name_value x (names_at s n) ≡ o' → OptVal s.heap o o' → first_of o (lookup chain scopes x) ≡ Some v → (lookup chain scopes x ≡ Some v → BothFind chain scopes s x v) → BothFind (n ∷ chain) scopes s x v
-found_here n chain scopes s x v (Some u) (Some u') is is' same e further =
+found_here : (n : ℕ) (chain : List ℕ) (scopes : List Pairs) (s : Store) (x : List ℕ) (v : Value) (o : Option Value) (o' : Option EsValue) → IsScope (slice_get s.scopes n) → value_at x (scope_at (slice_get scopes n)) ≡ o → name_value x (names_at s n) ≡ o' → OptVal s.heap o o' → first_of o (lookup chain scopes x) ≡ Some v → (lookup chain scopes x ≡ Some v → BothFind chain scopes s x v) → BothFind (n ∷ chain) scopes s x v
+found_here n chain scopes s x v (Some u) (Some u') own is is' same e further =
     let value : u ≡ v = cc in
     record { value = u'; found = record { place = n; at = rw is' refl; value = is' }; same = subst (λ q. Val s.heap q u') value same; here = is ∙ e; assigns = λ q. rw is refl }
-found_here n chain scopes s x v None None is is' same e further =
+found_here n chain scopes s x v None None own is is' same e further =
     let rest = further e in
-    record { value = rest.value; found = record { place = rest.found.place; at = rw is' rest.found.at; value = rest.found.value }; same = rest.same; here = rest.here; assigns = λ q. rw is (rest.assigns q) }
-found_here n chain scopes s x v None (Some u') is is' same e further = absurd same
-found_here n chain scopes s x v (Some u) None is is' same e further = absurd same
+    record { value = rest.value; found = record { place = rest.found.place; at = rw is' (passes (slice_get s.scopes n) s x (resolve chain s x) own ∙ rest.found.at); value = rest.found.value }; same = rest.same; here = rest.here; assigns = λ q. rw is (rest.assigns q) }
+found_here n chain scopes s x v None (Some u') own is is' same e further = absurd same
+found_here n chain scopes s x v (Some u) None own is is' same e further = absurd same
 
-pub both_find : (chain : List ℕ) (scopes : List Pairs) (s : Store) (x : List ℕ) (v : Value) → ((n : ℕ) → ScopeIs s.heap (scope_at (slice_get scopes n)) (names_at s n)) → is_hidden x ≡ false → lookup chain scopes x ≡ Some v → BothFind chain scopes s x v
-both_find [] scopes s x v same guest e = cc
-both_find (n ∷ chain) scopes s x v same guest e = found_here n chain scopes s x v _ _ refl refl (same n x guest) e (both_find chain scopes s x v same guest)
+pub both_find : (chain : List ℕ) (scopes : List Pairs) (s : Store) (x : List ℕ) (v : Value) → AreScopes s → ((n : ℕ) → ScopeIs s.heap (scope_at (slice_get scopes n)) (names_at s n)) → is_hidden x ≡ false → lookup chain scopes x ≡ Some v → BothFind chain scopes s x v
+both_find [] scopes s x v are same guest e = cc
+both_find (n ∷ chain) scopes s x v are same guest e = found_here n chain scopes s x v _ _ (are n) refl refl (same n x guest) e (both_find chain scopes s x v are same guest)
 
 -- the same laws of the direct meaning's pairs
 
@@ -92,14 +104,18 @@ scope_there : (names : Option Pairs) (x : List ℕ) (v : Value) → value_at x (
 scope_there None x v h = cc
 scope_there (Some scope) x v h = (scope, refl)
 
+renamed_names : (scope : Option store.Scope) (names : store.Names) → (store.renamed scope names).names ≡ names
+renamed_names None names = refl
+renamed_names (Some scope) names = refl
+
 -- the names of a scope, after a name of it was written
 pub names_at-written : (s : Store) (c : ℕ) (x : List ℕ) (e v : EsValue) → name_value x (names_at s c) ≡ Some e → names_at (with_slot c x v s) c ≡ with_name x v (names_at s c)
 names_at-written s c x e v here =
     let there = slot_there (slice_get s.scopes c) x e here in
-    ap store.scope_at (slice_get-set s.scopes c there.0 (with_name x v (names_at s c)) there.1)
+    ap store.scope_at (slice_get-set s.scopes c there.0 (store.renamed (slice_get s.scopes c) (with_name x v (names_at s c))) there.1) ∙ renamed_names (slice_get s.scopes c) (with_name x v (names_at s c))
 
 pub names_at-other : (s : Store) (c n : ℕ) (x : List ℕ) (v : EsValue) → n ≢ c → names_at (with_slot c x v s) n ≡ names_at s n
-names_at-other s c n x v ne = ap store.scope_at (slice_get-set-other s.scopes c n (with_name x v (names_at s c)) ne)
+names_at-other s c n x v ne = ap store.scope_at (slice_get-set-other s.scopes c n (store.renamed (slice_get s.scopes c) (with_name x v (names_at s c))) ne)
 
 pub scope_at-written : (scopes : List Pairs) (c : ℕ) (x : List ℕ) (e v : Value) → value_at x (scope_at (slice_get scopes c)) ≡ Some e → scope_at (slice_get (slice_set scopes c (with_value x v (scope_at (slice_get scopes c)))) c) ≡ with_value x v (scope_at (slice_get scopes c))
 scope_at-written scopes c x e v here =
@@ -138,6 +154,46 @@ scopes_assigned scopes s c x u v e f same here here' is n y guest =
       | true ↦ λ is1. written (same_text y x (sym is1))
       | false ↦ λ is1. rw (variable_kept scopes c n x y u v here is1, slot_kept s c n x y e f here' is1) (same n y guest)
     ] in cases refl
+
+-- what scopes belong to, after a name was written
+
+written_at : {X : Type 0} (xs : List X) (c n : ℕ) (y : X) (P : Option X → Type 0) → (n ≡ c → P (Some y)) → P (slice_get xs n) → P (slice_get (slice_set xs c y) n)
+written_at [] c n y P new old = old
+written_at (z ∷ zs) zero zero y P new old = new refl
+written_at (z ∷ zs) zero (suc n) y P new old = old
+written_at (z ∷ zs) (suc c) zero y P new old = old
+written_at (z ∷ zs) (suc c) (suc n) y P new old = written_at zs c n y P (λ e. new (ap suc e)) old
+
+renamed_is : (scope : Option store.Scope) (names : store.Names) → IsScope scope → IsScope (Some (store.renamed scope names))
+renamed_is None names is = tt
+renamed_is (Some scope) names is = is
+
+renamed_fixed : (scope : Option store.Scope) (names : store.Names) → is_fixed (Some (store.renamed scope names)) ≡ is_fixed scope
+renamed_fixed None names = refl
+renamed_fixed (Some scope) names = refl
+
+pub are_written : (s : Store) (c : ℕ) (x : List ℕ) (v : EsValue) → AreScopes s → AreScopes (with_slot c x v s)
+are_written s c x v are n =
+    let names = with_name x v (names_at s c) in
+    written_at s.scopes c n (store.renamed (slice_get s.scopes c) names) IsScope (λ e. renamed_is (slice_get s.scopes c) names (are c)) (are n)
+
+fixed_written : (s : Store) (c n : ℕ) (x : List ℕ) (v : EsValue) → is_fixed (slice_get (with_slot c x v s).scopes n) ≡ is_fixed (slice_get s.scopes n)
+fixed_written s c n x v =
+    let names = with_name x v (names_at s c) in
+    written_at s.scopes c n (store.renamed (slice_get s.scopes c) names) (λ scope. is_fixed scope ≡ is_fixed (slice_get s.scopes n)) (λ e. renamed_fixed (slice_get s.scopes c) names ∙ ap (λ k. is_fixed (slice_get s.scopes k)) (sym e)) refl
+
+pub owners_written : {H : Here} (s : Store) (c : ℕ) (x : List ℕ) (v : EsValue) → OwnersAre H s → OwnersAre H (with_slot c x v s)
+owners_written {H = H} s c x v r = record {
+  are = are_written s c x v r.are;
+  written = λ y known. fixed_written s c (H.place y) x v ∙ r.written y known;
+  result = fixed_written s c (H.place (codes "moduleResult___")) x v ∙ r.result;
+  unshared = r.unshared;
+}
+
+-- 8.7.2: a name of a scope is written there alone
+pub slot_written : (s : Store) (c : ℕ) (x : List ℕ) (v : EsValue) → is_fixed (slice_get s.scopes c) ≡ false → s.shared ≡ [] → write_slot c x v s ≡ with_slot c x v s
+slot_written s c x v free unshared =
+    ap (λ b. cond b s (with_slot c x v (with_heap s (put_shared s.shared c x v s.heap)))) free ∙ ap (λ shared. with_slot c x v (with_heap s (put_shared shared c x v s.heap))) unshared
 
 -- a variable that has a value keeps one
 pub lookup_assigned : (chain : List ℕ) (scopes after : List Pairs) (y : List ℕ) → ((n : ℕ) (v : Value) → value_at y (scope_at (slice_get scopes n)) ≡ Some v → (u : Value) × (value_at y (scope_at (slice_get after n)) ≡ Some u)) → (v : Value) → lookup chain scopes y ≡ Some v → (u : Value) × (lookup chain after y ≡ Some u)

@@ -2,8 +2,8 @@
 use Rattle.std.specs.Prelude.{◌≡◌, ℕ, ◌+◌, ◌*◌, ◌≤◌, Some}
 use Rattle.plans.specs.Plans.{over, stopped, out, count_of, kept_of}
 use Rattle.matching.specs.Sentences.{IsFinished}
-use Rattle.es3_meaning.specs.Store.{Store}
-use Rattle.es3_meaning.specs.Meaning as Target
+use Rattle.es3_language.specs.Store.{Store}
+use Rattle.es3_language.specs.Meaning as Target
 use Rattle.cajita_tree.specs.Tree as c
 use Rattle.cajita_rewrite.specs.Rewrite.{program_of}
 use Rattle.cajita_meaning.specs.World.{World}

@@ -2,7 +2,7 @@
 use Rattle.std.specs.Prelude.{◌≡◌, ℕ, Bool, true, false, List, [], ◌∷◌, ◌++◌, codes}
 use Rattle.std.specs.List.{list_any}
 use Rattle.caja_units.specs.Units.{same_units, is_hidden}
-use Rattle.es3_meaning.specs.Meaning.{is_arguments}
+use Rattle.es3_language.specs.Meaning.{is_arguments}
 use Rattle.es3_tree.specs.declared.BinOp.TheVariants.{Add}
 use Rattle.cajita_tree.specs.Tree as c
 

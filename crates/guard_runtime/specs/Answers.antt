@@ -4,7 +4,7 @@ use Rattle.plans.specs.Plans.{number_fault, depth_fault, convert_fault}
 use Rattle.es3_heap.specs.declared.value.Stop.{Stop}
 use Rattle.es3_heap.specs.declared.value.Stop.TheVariants as stop
 use Rattle.es3_heap.specs.Objects.{Objects}
-use Rattle.es3_meaning.specs.Natives.{value_reply, throw_reply, stop_reply}
+use Rattle.es3_language.specs.Natives.{value_reply, throw_reply, stop_reply}
 use Rattle.guard_runtime.specs.declared.reply.Guarded.{Guarded}
 use Rattle.guard_runtime.specs.declared.reply.Guarded.TheVariants.{Value, Throw, Stop as Stops}
 use Rattle.guard_runtime.specs.declared.reply.Outcome.{Outcome}

@@ -12,7 +12,7 @@ use Rattle.es3_heap.specs.Objects.{Objects, plain_attrs, object_at, class_of, wi
 use Rattle.es3_heap.specs.Properties.{own, value_of, length_key, length_of, define}
 use Rattle.es3_heap.specs.Making.{proto_id, made, error_object, named}
 use Rattle.es3_convert.specs.Conversions.{and_then, text_of, array_items}
-use Rattle.es3_meaning.specs.Natives.{Reply, value_reply, throw_reply, stop_reply}
+use Rattle.es3_language.specs.Natives.{Reply, value_reply, throw_reply, stop_reply}
 
 -- what a guard answers, and the objects that it leaves
 pub record Row : Type 0 where

@@ -6,9 +6,9 @@ use Rattle.es3_heap.specs.declared.value.Value.TheVariants.{Undefined, Obj}
 use Rattle.es3_heap.specs.declared.value.Class.{Class}
 use Rattle.es3_heap.specs.declared.value.Class.TheVariants.{Function}
 use Rattle.es3_heap.specs.Objects.{Objects, object_at, class_of}
-use Rattle.es3_meaning.specs.Store.{Store}
-use Rattle.es3_meaning.specs.Natives.{invoke_reply, Turn, Table}
-use Rattle.es3_meaning.specs.Meaning.{Run, run_program}
+use Rattle.es3_language.specs.Store.{Store}
+use Rattle.es3_language.specs.Natives.{invoke_reply, Turn, Table}
+use Rattle.es3_language.specs.Meaning.{Run, run_program}
 use Rattle.guard_runtime.specs.Guards.{Row, guard, thrown}
 use Rattle.module_loader.specs.declared.natives.PageNatives.{PageNatives}
 use Rattle.module_loader.specs.Opened.{load_module, opened, runtime_id, imports_id, globals_id}
@@ -53,7 +53,7 @@ first_kept = record { runtime = runtime_id; imports = imports_id }
 
 -- the store before anything ran
 abbrev pub first_store : Store
-first_store = record { heap = opened; scopes = []; codes = []; globals = globals_id }
+first_store = record { heap = opened; scopes = []; codes = []; globals = globals_id; shared = [] }
 
 -- what the program of a module comes to in a page of its own, with so many steps
 abbrev pub module_run : t.Tree t.program → ℕ → ℕ → Run Kept

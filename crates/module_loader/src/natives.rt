@@ -2,16 +2,16 @@
 
 ghost use Rattle.std.specs.Prelude.{◌≡◌, IfOk, codes};
 ghost use Rattle.es3_heap.specs.Objects.{Objects, object_at, class_of};
-ghost use Rattle.es3_control.specs.Answers.{Answers};
+ghost use Rattle.es3_moves.specs.Answers.{Answers};
 ghost use Rattle.guard_runtime.specs.Answers.{GuardAnswers};
 ghost use Rattle.guard_runtime.specs.Guards.{Row, guard, thrown};
 ghost use Rattle.module_loader.specs.Page.{Kept, kept_of, turn_of, module_turn, loads, load_answer, page_table};
 
 use crate::opening::LOAD_MODULE;
 use caja_units::{Memory, Units};
-use es3_control::natives::{Answer, Natives};
 use es3_heap::{Class, Heap, ObjId, Stop, Tag, Value};
-use es3_meaning::Touch;
+use es3_language::Touch;
+use es3_moves::natives::{Answer, Natives};
 use guard_runtime::{Guarded, guard_row};
 use std::alloc::Global;
 

@@ -4,8 +4,8 @@ use Rattle.std.specs.Prelude.{true, List}
 use Rattle.plans.specs.Plans.{bind}
 use Rattle.es3_tree.specs.Tree as t
 use Rattle.es3_heap.specs.Objects.{Objects}
-use Rattle.es3_meaning.specs.Store.{Store}
-use Rattle.es3_meaning.specs.Meaning as Target
+use Rattle.es3_language.specs.Store.{Store}
+use Rattle.es3_language.specs.Meaning as Target
 use Rattle.cajita_tree.specs.Tree as c
 use Rattle.cajita_rewrite.specs.Rewrite.{rewritten, joined}
 use Rattle.cajita_meaning.specs.World.{Value, World}

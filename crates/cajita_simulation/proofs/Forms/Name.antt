@@ -2,9 +2,9 @@
 use Rattle.std.proofs.Common.{◌≡◌, ℕ, ◌≤◌, true, false, List, Some, refl, sym, subst, arith}
 use Rattle.plans.specs.Plans.{bind}
 use Rattle.es3_tree.specs.Tree as t
-use Rattle.es3_meaning.specs.Store.{Store}
-use Rattle.es3_meaning.specs.Meaning as Target
-use Rattle.es3_meaning.specs.Meaning.{is_arguments}
+use Rattle.es3_language.specs.Store.{Store}
+use Rattle.es3_language.specs.Meaning as Target
+use Rattle.es3_language.specs.Meaning.{is_arguments}
 use Rattle.cajita_tree.specs.Tree as c
 use Rattle.cajita_meaning.specs.World.{Value, World}
 use Rattle.cajita_meaning.specs.Direct as Source
@@ -29,5 +29,5 @@ pub name_body : {H : Here} {d : ℕ} (x : List ℕ) → is_among H.vars x ≡ tr
 name_body {H = H} x known guest = record {
   on = λ lt r next.
       let b = r.variables.bound x known in
-      name_end x b.0 guest (omega arith) (omega arith) b.1 (both_find H.env.chain _ _ x b.0 r.variables.scopes guest.open_name b.1) r next;
+      name_end x b.0 guest (omega arith) (omega arith) b.1 (both_find H.env.chain _ _ x b.0 r.variables.owners.are r.variables.scopes guest.open_name b.1) r next;
 }

@@ -6,9 +6,9 @@ use Rattle.plans.specs.Plans.{bind}
 use Rattle.matching.proofs.Rules.{right_enter}
 use Rattle.es3_tree.specs.Tree as t
 use Rattle.es3_heap.specs.declared.value.Value.TheVariants as es
-use Rattle.es3_meaning.specs.Store.{Store}
-use Rattle.es3_meaning.specs.References.{member}
-use Rattle.es3_meaning.specs.Meaning as Target
+use Rattle.es3_language.specs.Store.{Store}
+use Rattle.es3_language.specs.References.{member}
+use Rattle.es3_language.specs.Meaning as Target
 use Rattle.cajita_tree.specs.Tree as c
 use Rattle.cajita_rewrite.specs.Rewrite.{rewritten, single}
 use Rattle.cajita_meaning.specs.World.{Pairs, World}
@@ -25,7 +25,7 @@ use Rattle.cajita_simulation.proofs.Rows.InitializeMap.{Paired, paired_keep, pai
 
 -- what waits for the array of keys and values: the call of the guard
 abbrev with_array : Here → Cont' → Cont'
-with_array H next' e s = bind (Target.on_value_of (λ v s1. Target.arguments (member (es.Obj runtime_id) (codes "initializeMap")) (v ∷ []) t.no_exprs (env_of H) s1) e s) next'
+with_array H next' e s = bind (Target.on_value_of (λ v s1. Target.arguments (Target.called (member (es.Obj runtime_id) (codes "initializeMap"))) (v ∷ []) t.no_exprs (env_of H) s1) e s) next'
 
 two_more : (qs : List (List ℕ × EsValue)) (k : List ℕ) (e : EsValue) {m : ℕ} → length (in_turn qs) + 2 ≤ m → length (in_turn (qs ++ (k, e) ∷ [])) ≤ m
 two_more qs k e le =

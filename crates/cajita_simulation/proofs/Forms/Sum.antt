@@ -4,8 +4,10 @@ use Rattle.plans.specs.Plans.{bind}
 use Rattle.matching.proofs.Rules.{both_stop}
 use Rattle.es3_tree.specs.Tree as t
 use Rattle.es3_tree.specs.declared.BinOp.TheVariants.{Add}
-use Rattle.es3_meaning.specs.Store.{Store}
-use Rattle.es3_meaning.specs.Meaning as Target
+use Rattle.es3_language.specs.Store.{Store}
+use Rattle.es3_language.specs.Operators.{given}
+use Rattle.es3_language.specs.Expressions.{binary_right}
+use Rattle.es3_language.specs.Meaning as Target
 use Rattle.cajita_tree.specs.Tree as c
 use Rattle.cajita_meaning.specs.World.{Value, World}
 use Rattle.cajita_meaning.specs.Sums.{primitive, sum_of}
@@ -16,13 +18,13 @@ use Rattle.cajita_simulation.proofs.Relation.{EsValue, Val, val_keep, Here, Temp
 use Rattle.cajita_simulation.proofs.Laws.{ValueLaw, ValueBody, NextValue, Cont, Cont', M, give, value_since, with_part, steps_hold}
 use Rattle.cajita_simulation.proofs.Sums.{IsPlain, result_of, sum_is, sum_plain, plain_val}
 
-sum_end : {H : Here} {T : Temps} {d j k i : ℕ} (o : Option Value) {w : World} {z : List Item} {n : ℕ} {s : Store} {y : Kept} {m : ℕ} {next : Cont} {next' : Cont'} → IsPlain o → j ≤ k → i ≤ m → NextValue H T d j s.heap i next next' → Rel H T k w z n s y m → M H d (bind (Source.value_or_fault o w) next) z n (bind (Target.value_or_stop (result_of o) s) next') y m
+sum_end : {H : Here} {T : Temps} {d j k i : ℕ} (o : Option Value) {w : World} {z : List Item} {n : ℕ} {s : Store} {y : Kept} {m : ℕ} {next : Cont} {next' : Cont'} → IsPlain o → j ≤ k → i ≤ m → NextValue H T d j s.heap i next next' → Rel H T k w z n s y m → M H d (bind (Source.value_or_fault o w) next) z n (bind (Target.with_given (given (result_of o)) s Target.give) next') y m
 sum_end None plain le few x r = both_stop (steps_hold r) (refl, tt, r.items)
 sum_end (Some v) {s = s} plain le few x r = give le few x (plain_val s.heap v plain) r
 
-pub sum_match : {H : Here} {T : Temps} {d j k i : ℕ} (v1 v2 : Value) (e1 e2 : EsValue) {w : World} {z : List Item} {n : ℕ} {s : Store} {y : Kept} {m : ℕ} {next : Cont} {next' : Cont'} → Val s.heap v1 e1 → Val s.heap v2 e2 → j ≤ k → i ≤ m → NextValue H T d j s.heap i next next' → Rel H T k w z n s y m → M H d (bind (Source.add_right v1 v2 w) next) z n (bind (Target.add_right e1 e2 s) next') y m
+pub sum_match : {H : Here} {T : Temps} {d j k i : ℕ} (v1 v2 : Value) (e1 e2 : EsValue) {w : World} {z : List Item} {n : ℕ} {s : Store} {y : Kept} {m : ℕ} {next : Cont} {next' : Cont'} → Val s.heap v1 e1 → Val s.heap v2 e2 → j ≤ k → i ≤ m → NextValue H T d j s.heap i next next' → Rel H T k w z n s y m → M H d (bind (Source.add_right v1 v2 w) next) z n (bind (binary_right Add e1 e2 s) next') y m
 sum_match {H = H} {d = d} v1 v2 e1 e2 {w = w} {z = z} {n = n} {s = s} {y = y} {m = m} {next = next} {next' = next'} p q le few x r =
-    subst (λ o. M H d (bind (Source.add_right v1 v2 w) next) z n (bind (Target.value_or_stop o s) next') y m) (sym (sum_is r.objects v1 v2 e1 e2 p q)) (sum_end (sum_of v1 v2) (sum_plain (primitive v1) (primitive v2)) le few x r)
+    subst (λ o. M H d (bind (Source.add_right v1 v2 w) next) z n (bind (Target.with_given (given o) s Target.give) next') y m) (sym (sum_is r.objects v1 v2 e1 e2 p q)) (sum_end (sum_of v1 v2) (sum_plain (primitive v1) (primitive v2)) le few x r)
 
 pub sum_body : {H : Here} {d : ℕ} {a b : c.Tree c.expr} {a' b' : t.Tree t.expr} → ValueLaw H d a a' → ValueLaw H d b b' → ValueBody H d (c.binary Add a b) (t.binary Add a' b')
 sum_body pa pb = record {

@@ -13,7 +13,7 @@ use Rattle.es3_heap.specs.Objects.{Object, Objects, fixed_attrs, hidden_attrs, k
 use Rattle.es3_heap.specs.Properties.{defined, define, length_key}
 use Rattle.es3_heap.specs.Reading.{property}
 use Rattle.es3_heap.specs.Making.{bare, proto_id}
-use Rattle.es3_meaning.specs.Store.{new_function}
+use Rattle.es3_language.specs.Store.{new_function}
 use Rattle.cajita_simulation.proofs.Heaps.Made.{with_properties, defined_new, replaced_new}
 use Rattle.cajita_simulation.proofs.Heaps.Grown.{length-grown, grown_last, grown_kept}
 use Rattle.cajita_simulation.proofs.Heaps.Opened.{IsOpened, opened_kept}

@@ -10,9 +10,9 @@ use Rattle.es3_heap.specs.declared.value.Tag.TheVariants as tag
 use Rattle.es3_heap.specs.Objects.{Objects, hidden_attrs, object_at, callable_of, tag_of}
 use Rattle.es3_heap.specs.Properties.{own}
 use Rattle.es3_heap.specs.Reading.{property}
-use Rattle.es3_meaning.specs.Store.{Store}
-use Rattle.es3_meaning.specs.References.{member, get_member}
-use Rattle.es3_meaning.specs.Meaning.{Env, Plan, native_call, do_call}
+use Rattle.es3_language.specs.Store.{Store}
+use Rattle.es3_language.specs.References.{member, get_member}
+use Rattle.es3_language.specs.Meaning.{Env, Plan, native_call, called, do_call}
 use Rattle.module_loader.specs.Opened.{opened, runtime_id}
 use Rattle.cajita_simulation.proofs.Heaps.Opened.{IsOpened, get_first}
 
@@ -59,7 +59,7 @@ either_way true x = refl
 either_way false x = refl
 
 -- 11.2.3: a call of the guard enters it, with the runtime's object as its receiver, and nothing is recorded
-pub guard_call : (guard : List ℕ) (row : ℕ) → IsGuard guard row → (vs : List Value) (env : Env) (s : Store) → IsOpened s.heap → do_call (member (Obj runtime_id) guard) vs env s ≡ enter (native_call row (Obj runtime_id) vs env) s ends
+pub guard_call : (guard : List ℕ) (row : ℕ) → IsGuard guard row → (vs : List Value) (env : Env) (s : Store) → IsOpened s.heap → do_call (called (member (Obj runtime_id) guard)) vs env s ≡ enter (native_call row (Obj runtime_id) vs env) s ends
 guard_call guard row g vs env s is =
     let entered : Plan = enter (native_call row (Obj runtime_id) vs env) s ends in
     rw (guard_member guard row g s.heap is, runtime_tag s.heap is, guard_callable guard row g s.heap is, guard_tag guard row g s.heap is) (either_way (is_hidden guard) entered)

@@ -8,8 +8,8 @@ use Rattle.es3_heap.specs.declared.value.Class.TheVariants.{Function}
 use Rattle.es3_heap.specs.declared.value.Proto.TheVariants as proto
 use Rattle.es3_heap.specs.Objects.{Object, Objects, object_at, class_of, with_object}
 use Rattle.es3_heap.specs.Making.{array_object, error_object}
-use Rattle.es3_meaning.specs.Store.{Store, with_heap}
-use Rattle.es3_meaning.specs.Meaning.{Env, Plan, gave, threw, native_call, apply, reply_plan, task_plan}
+use Rattle.es3_language.specs.Store.{Store, with_heap}
+use Rattle.es3_language.specs.Meaning.{Env, Plan, gave, threw, native_call, apply, reply_plan, task_plan}
 use Rattle.guard_runtime.specs.Guards.{Row, public_read}
 use Rattle.module_loader.specs.Page.{Kept, page_table}
 use Rattle.cajita_simulation.proofs.Heaps.Made.{with_named}

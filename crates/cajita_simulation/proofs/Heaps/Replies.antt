@@ -10,7 +10,7 @@ use Rattle.es3_heap.specs.Objects.{Object, Objects, object_at, with_object}
 use Rattle.es3_heap.specs.Properties.{find, value_of}
 use Rattle.es3_heap.specs.Making.{bare, proto_id, array_object, error_object}
 use Rattle.es3_heap.proofs.Laws.{object_at-with_object}
-use Rattle.es3_meaning.specs.Natives.{value_reply, throw_reply}
+use Rattle.es3_language.specs.Natives.{value_reply, throw_reply}
 use Rattle.guard_runtime.specs.Guards.{Row, thrown, answered, public_value, public_read, read_pub, initialize_map}
 use Rattle.cajita_simulation.proofs.Heaps.Made.{with_properties, named_new, with_named}
 use Rattle.cajita_simulation.proofs.Heaps.Arrays.{array_items_new}

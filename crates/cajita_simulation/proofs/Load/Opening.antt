@@ -1,5 +1,5 @@
 -- The relation where the statements of a module begin.
-use Rattle.std.proofs.Common.{◌≡◌, ℕ, zero, suc, ◌≤◌, ◌<◌, Bool, true, false, List, [], ◌∷◌, length, Some, cond, refl, sym, ap, ◌∙◌, subst, arith}
+use Rattle.std.proofs.Common.{◌≡◌, ℕ, zero, suc, ◌≤◌, ◌<◌, Bool, true, false, List, [], ◌∷◌, length, Some, None, cond, refl, sym, ap, ◌∙◌, subst, arith}
 use Rattle.std.specs.Prelude.{slice_get, codes, is_some, replicate}
 use Rattle.std.specs.Cmp.Lexicographic.{same_text}
 use Rattle.caja_units.specs.Units.{same_units}
@@ -8,26 +8,27 @@ use Rattle.es3_heap.specs.declared.value.Value.TheVariants as es
 use Rattle.es3_heap.specs.declared.value.Tag.TheVariants as tag
 use Rattle.es3_heap.specs.Objects as heap
 use Rattle.es3_heap.specs.Objects.{Objects}
-use Rattle.es3_meaning.specs.Store as store
-use Rattle.es3_meaning.specs.Store.{Store, Code, name_value, with_vars, first_names, vars_of, new_function}
-use Rattle.es3_meaning.specs.References.{slot, resolve}
+use Rattle.es3_language.specs.Store as store
+use Rattle.es3_language.specs.Store.{Store, Code, activation, name_value, with_vars, with_code, first_names, new_function}
+use Rattle.es3_language.specs.Hoisting.{functions_of, code_of}
+use Rattle.es3_language.specs.References.{slot, resolve}
 use Rattle.cajita_tree.specs.Tree as c
 use Rattle.cajita_meaning.specs.World.{Value, Pairs, World as State, undefined, empty_world, with_scope, undefined_names, value_at}
 use Rattle.cajita_meaning.specs.Direct.{module_env, lookup, scope_at}
 use Rattle.cajita_rewrite.specs.Rewrite.{runtime_name, imports_name, result_name, rewritten, joined, result_stmts, declares}
 use Rattle.module_loader.specs.Opened.{opened, runtime_id, imports_id, globals_id}
-use Rattle.module_loader.specs.Page.{first_kept}
-use Rattle.cajita_simulation.specs.Guest.{is_among, declared}
+use Rattle.module_loader.specs.Page.{first_store, first_kept}
+use Rattle.cajita_simulation.specs.Guest.{is_among, Guest, declared}
 use Rattle.cajita_simulation.proofs.Heaps.Opened.{opened-opened}
 use Rattle.cajita_simulation.proofs.Heaps.Functions.{function_new, function_object, prototype_object}
-use Rattle.cajita_simulation.proofs.Relation.{EsValue, OptVal, Here, Temps, unknown, holds, SlotIs, Found, ScopeIs, names_at, ObjectsAre, VariablesAre, Rel}
+use Rattle.cajita_simulation.proofs.Relation.{EsValue, OptVal, Here, Temps, unknown, holds, SlotIs, Found, ScopeIs, names_at, AreScopes, ObjectsAre, VariablesAre, Rel}
 use Rattle.cajita_simulation.proofs.Changes.{no_name, objects_unnamed, last_there}
 use Rattle.cajita_simulation.proofs.Laws.{hold}
-use Rattle.cajita_simulation.proofs.Load.Names.{undefined_value, value_at-undefined, own_names, name_declared, name_bound, runtime_there, result_there}
+use Rattle.cajita_simulation.proofs.Load.Names.{undefined_value, value_at-undefined, own_kept, no_functions, own_names, name_declared, name_bound, runtime_there, result_there}
 
 -- where the statements of the module stand
 abbrev pub here : ℕ → List (List ℕ) → Here
-here by vars = record { env = module_env by empty_world; vars = vars; place = λ x. 0 }
+here by vars = record { env = module_env by empty_world; vars = vars; place = λ x. 0; this = globals_id }
 
 -- nothing was evaluated yet: the module's result is undefined
 abbrev pub first_temps : Temps
@@ -44,15 +45,27 @@ statements list = joined (rewritten c.stmts list) result_stmts
 abbrev pub module_body : c.Tree c.stmts → t.Tree t.stmts
 module_body list = t.more_stmts (declares result_name) (statements list)
 
+-- the function of the module: it declares the module's result and the variables, and no function
+abbrev pub module_code : c.Tree c.stmts → Code
+module_code list = record { params = runtime_name ∷ imports_name ∷ []; vars = result_name ∷ declared list; functions = []; body = module_body list; chain = [] }
+
+pub code_is : (vars : List (List ℕ)) (list : c.Tree c.stmts) → Guest vars c.stmts list → code_of (t.fun None (runtime_name ∷ imports_name ∷ []) (module_body list)) [] ≡ module_code list
+code_is vars list guest =
+    ap (λ names. code names (functions_of (statements list))) (own_kept vars list guest) ∙ ap (code (declared list)) (no_functions list)
+  where
+    code : List (List ℕ) → List (t.Tree t.func) → Code
+    code names functions = record { params = runtime_name ∷ imports_name ∷ []; vars = result_name ∷ names; functions = functions; body = module_body list; chain = [] }
+
 -- the store with the function, and with its scope
-abbrev pub module_code : t.Tree t.stmts → Code
-module_code body = record { params = runtime_name ∷ imports_name ∷ []; vars = vars_of body; body = body; chain = [] }
+abbrev pub made_store : ℕ → c.Tree c.stmts → Store
+made_store by list = with_code (module_code list) by first_store
 
-abbrev pub made_store : ℕ → t.Tree t.stmts → Store
-made_store by body = record { heap = new_function 0 2 by opened; scopes = []; codes = module_code body ∷ []; globals = globals_id }
+abbrev pub first_values : List EsValue
+first_values = es.Obj runtime_id ∷ es.Obj imports_id ∷ []
 
-abbrev pub module_store : ℕ → t.Tree t.stmts → Store
-module_store by body = store.with_scope (first_names (module_code body) (es.Obj runtime_id ∷ es.Obj imports_id ∷ [])) (made_store by body)
+abbrev pub module_store : ℕ → c.Tree c.stmts → Store
+module_store by list =
+    store.with_scope (activation (es.Obj (length opened.list)) (module_code list).params first_values) (first_names (module_code list) first_values) (made_store by list)
 
 -- objects
 
@@ -104,7 +117,7 @@ both_undefined h true = tt
 both_undefined h false = tt
 
 -- a variable is bound on both sides, and undefined
-scope_begins : (h : Objects) (vars : List (List ℕ)) (list : c.Tree c.stmts) → ((x : List ℕ) → is_among vars x ≡ is_among (declared list) x) → ScopeIs h (undefined_names vars) (with_vars (vars_of (module_body list)) own_names)
+scope_begins : (h : Objects) (vars : List (List ℕ)) (list : c.Tree c.stmts) → ((x : List ℕ) → is_among vars x ≡ is_among (declared list) x) → ScopeIs h (undefined_names vars) (with_vars (result_name ∷ declared list) own_names)
 scope_begins h vars list same x guest = rw (value_at-undefined x vars, name_declared list x guest, sym (same x)) (both_undefined h (is_among vars x))
 
 temps_begin : (s : Store) → name_value result_name (names_at s 0) ≡ Some es.Undefined → (x : List ℕ) → SlotIs (0 ∷ []) s x (first_temps x)
@@ -120,27 +133,32 @@ lookup_first scopes x v there = rw there refl
 resolve_first : (s : Store) (x : List ℕ) → is_some (name_value x (names_at s 0)) ≡ true → resolve (0 ∷ []) s x ≡ slot 0 x
 resolve_first s x there = rw there refl
 
-variables_begin : (by : ℕ) (vars : List (List ℕ)) (list : c.Tree c.stmts) → ((x : List ℕ) → is_among vars x ≡ is_among (declared list) x) → VariablesAre (here by vars) first_temps (undefined_names vars ∷ []) (module_store by (module_body list))
+variables_begin : (by : ℕ) (vars : List (List ℕ)) (list : c.Tree c.stmts) → ((x : List ℕ) → is_among vars x ≡ is_among (declared list) x) → VariablesAre (here by vars) first_temps (undefined_names vars ∷ []) (module_store by list)
 variables_begin by vars list same =
-    let s = module_store by (module_body list) in
+    let s = module_store by list in
     record {
       scopes = all_scopes;
-      temps = λ x hidden. temps_begin s (result_there (vars_of (statements list))) x;
-      runtime = found_first s (codes "___") (es.Obj runtime_id) (runtime_there (vars_of (module_body list)));
-      result = (es.Undefined, found_first s (codes "moduleResult___") es.Undefined (result_there (vars_of (statements list))), refl);
+      temps = λ x hidden. temps_begin s (result_there (declared list)) x;
+      runtime = found_first s (codes "___") (es.Obj runtime_id) (runtime_there (result_name ∷ declared list));
+      result = (es.Undefined, found_first s (codes "moduleResult___") es.Undefined (result_there (declared list)), refl);
       bound = λ x known. (undefined, lookup_first (undefined_names vars ∷ []) x undefined (value_at-undefined x vars ∙ ap (λ b. undefined_value undefined b) known), resolve_first s x (name_bound list x (sym (same x) ∙ known)));
+      owners = record { are = all_owners; written = λ x known. refl; result = refl; unshared = refl };
     }
   where
-    all_scopes : (n : ℕ) → ScopeIs (module_store by (module_body list)).heap (scope_at (slice_get (undefined_names vars ∷ []) n)) (names_at (module_store by (module_body list)) n)
-    all_scopes zero = scope_begins (module_store by (module_body list)).heap vars list same
+    all_scopes : (n : ℕ) → ScopeIs (module_store by list).heap (scope_at (slice_get (undefined_names vars ∷ []) n)) (names_at (module_store by list) n)
+    all_scopes zero = scope_begins (module_store by list).heap vars list same
     all_scopes (suc n) = λ x guest. tt
 
+    all_owners : AreScopes (module_store by list)
+    all_owners zero = tt
+    all_owners (suc n) = tt
+
 -- the relation, when the interpreter took seven steps and the direct meaning one at least
-pub opening : (by : ℕ) (vars : List (List ℕ)) (list : c.Tree c.stmts) (n : ℕ) → by < 64 → ((x : List ℕ) → is_among vars x ≡ is_among (declared list) x) → 1 ≤ n → Rel (here by vars) first_temps 40 (bound_world by vars) [] n (module_store by (module_body list)) first_kept 7
+pub opening : (by : ℕ) (vars : List (List ℕ)) (list : c.Tree c.stmts) (n : ℕ) → by < 64 → ((x : List ℕ) → is_among vars x ≡ is_among (declared list) x) → 1 ≤ n → Rel (here by vars) first_temps 40 (bound_world by vars) [] n (module_store by list) first_kept 7
 opening by vars list n few same some = record {
   steps = omega (arith, some);
   items = refl;
   objects = objects_begin by 7 few;
-  variables = subst (λ l. VariablesAre (here by vars) first_temps l (module_store by (module_body list))) (sym (last_there by (undefined_names vars) (λ m. []))) (variables_begin by vars list same);
+  variables = subst (λ l. VariablesAre (here by vars) first_temps l (module_store by list)) (sym (last_there by (undefined_names vars) (λ m. []))) (variables_begin by vars list same);
   kept = refl;
 }

@@ -6,7 +6,7 @@ use Rattle.matching.specs.Sides.{Match}
 use Rattle.matching.proofs.Rules.{both_end, both_cut, both_enter, right_enter, left_tick}
 use Rattle.es3_tree.specs.Tree as t
 use Rattle.es3_heap.specs.Objects.{Objects}
-use Rattle.es3_meaning.specs.Meaning as Target
+use Rattle.es3_language.specs.Meaning as Target
 use Rattle.cajita_tree.specs.Tree as c
 use Rattle.cajita_rewrite.specs.Rewrite.{rewritten, program_of, load_stmt, result_name, result_stmts}
 use Rattle.cajita_meaning.specs.World.{Value, World, empty_world}
@@ -58,7 +58,7 @@ Laws by vars = (d : ℕ) (x : c.Tree c.stmt) → Guest vars c.stmt x → EffectL
 loaded : (by : ℕ) (vars : List (List ℕ)) (list : c.Tree c.stmts) → by < 64 → ((x : List ℕ) → is_among vars x ≡ is_among (declared list) x) → Guest vars c.stmts list → Laws by vars → (d : ℕ) → Match (sides by) d (enter (Source.load (c.a_module [] (c.a_body c.no_funcs vars list)) by) empty_world ends) [] 0 (Target.program_plan (t.script (t.more_stmts (load_stmt (module_body list)) t.no_stmts)) by first_store) first_kept 0
 loaded by vars list few same guest laws zero = both_cut (omega arith) refl
 loaded by vars list few same guest laws (suc d) =
-    both_enter (enters list (waiting by) (ticked (length vars) empty_world _ ends 1 (λ n some.
+    both_enter (enters vars list (waiting by) guest (ticked (length vars) empty_world _ ends 1 (λ n some.
     list_match (laws (suc d)) list guest None None result_stmts d 40 Source.module_end Target.body_end ends (after_load (waiting by)) (omega arith) (opening by vars list n few same some) (module_ends by vars d 7 _))))
 
 pub whole : (by : ℕ) (vars : List (List ℕ)) (list : c.Tree c.stmts) → by < 64 → ((x : List ℕ) → is_among vars x ≡ is_among (declared list) x) → Guest vars c.stmts list → Laws by vars → (d : ℕ) → Match (sides by) d (enter (Source.load (c.a_module [] (c.a_body c.no_funcs vars list)) by) empty_world ends) [] 0 (Target.program_plan (program_of (c.a_module [] (c.a_body c.no_funcs vars list))) by first_store) first_kept 0

@@ -5,8 +5,8 @@ use Rattle.plans.specs.Plans.{bind}
 use Rattle.matching.proofs.Rules.{left_told}
 use Rattle.es3_heap.specs.declared.value.Value.TheVariants as es
 use Rattle.es3_heap.specs.Objects.{Objects}
-use Rattle.es3_meaning.specs.Store.{Store, with_heap}
-use Rattle.es3_meaning.specs.Meaning as Target
+use Rattle.es3_language.specs.Store.{Store, with_heap}
+use Rattle.es3_language.specs.Meaning as Target
 use Rattle.cajita_meaning.specs.World.{object, World, an_error, next_name}
 use Rattle.cajita_meaning.specs.Direct as Source
 use Rattle.cajita_meaning.specs.Direct.{Item, made}

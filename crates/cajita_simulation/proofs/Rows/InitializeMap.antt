@@ -10,9 +10,9 @@ use Rattle.es3_heap.specs.Objects as heap
 use Rattle.es3_heap.specs.Objects.{Property, Objects, plain_attrs}
 use Rattle.es3_heap.specs.Properties.{defined}
 use Rattle.es3_heap.specs.Making.{array_object}
-use Rattle.es3_meaning.specs.Store.{Store, with_heap}
-use Rattle.es3_meaning.specs.References.{member}
-use Rattle.es3_meaning.specs.Meaning as Target
+use Rattle.es3_language.specs.Store.{Store, with_heap}
+use Rattle.es3_language.specs.References.{member}
+use Rattle.es3_language.specs.Meaning as Target
 use Rattle.cajita_meaning.specs.World as World
 use Rattle.cajita_meaning.specs.World.{Value, Pairs, a_record, with_object, with_value, with_values, next_name, World as State}
 use Rattle.cajita_meaning.specs.Direct as Source
@@ -109,7 +109,7 @@ record_is h ps qs p = record {
 }
 
 -- the row, from the new array on: the guard is called, and makes the record
-pub record_match : {H : Here} {T : Temps} {d k i : ℕ} (ps : Pairs) (qs : List (List ℕ × EsValue)) {w : State} {z : List Item} {n : ℕ} {s : Store} {y : Kept} {m : ℕ} (next : Cont) (next' : Cont') → Paired s.heap ps qs → length (in_turn qs) ≤ m → i ≤ m → Rel H T (suc k) w z n s y m → Gives H T d k s.heap i next next' → M H d (bind (Source.make (a_record (with_values ps [])) H.env w Source.give) next) z n (bind (Target.do_call (member (es.Obj runtime_id) (codes "initializeMap")) (es.Obj (length s.heap.list) ∷ []) (env_of H) (with_heap s (heap.with_object s.heap (array_object (in_turn qs))))) next') y m
+pub record_match : {H : Here} {T : Temps} {d k i : ℕ} (ps : Pairs) (qs : List (List ℕ × EsValue)) {w : State} {z : List Item} {n : ℕ} {s : Store} {y : Kept} {m : ℕ} (next : Cont) (next' : Cont') → Paired s.heap ps qs → length (in_turn qs) ≤ m → i ≤ m → Rel H T (suc k) w z n s y m → Gives H T d k s.heap i next next' → M H d (bind (Source.make (a_record (with_values ps [])) H.env w Source.give) next) z n (bind (Target.do_call (Target.called (member (es.Obj runtime_id) (codes "initializeMap"))) (es.Obj (length s.heap.list) ∷ []) (env_of H) (with_heap s (heap.with_object s.heap (array_object (in_turn qs))))) next') y m
 record_match {H = H} {T = T} {d = d} {k = k} ps qs {w = w} {z = z} {n = n} {s = s} {y = y} {m = m} next next' p many few r x =
     let g = heap.with_object s.heap (array_object (in_turn qs)) in
     let r1 = rel_unnamed (array_object (in_turn qs)) refl r in

@@ -9,8 +9,8 @@ use Rattle.es3_heap.specs.declared.value.Value.TheVariants as es
 use Rattle.es3_heap.specs.Objects as heap
 use Rattle.es3_heap.specs.Objects.{Property, Objects}
 use Rattle.es3_heap.specs.Properties.{find, value_of}
-use Rattle.es3_meaning.specs.Store.{Store}
-use Rattle.es3_meaning.specs.Meaning as Target
+use Rattle.es3_language.specs.Store.{Store}
+use Rattle.es3_language.specs.Meaning as Target
 use Rattle.guard_runtime.specs.Guards.{public_read}
 use Rattle.cajita_meaning.specs.World as World
 use Rattle.cajita_meaning.specs.World.{Value, Pairs, Object, a_record, an_error, value_at, World as State}
