@@ -13,8 +13,8 @@ use Rattle.es3_heap.specs.declared.value.Tag.TheVariants as tag
 use Rattle.es3_heap.specs.Objects as heap
 use Rattle.es3_heap.specs.Objects.{Property, Objects}
 use Rattle.es3_heap.specs.Properties.{find, own, value_of}
-use Rattle.es3_meaning.specs.Store.{Store}
-use Rattle.es3_meaning.specs.Meaning as Target
+use Rattle.es3_language.specs.Store.{Store}
+use Rattle.es3_language.specs.Meaning as Target
 use Rattle.es3_machine.specs.Machine.{completed}
 use Rattle.cajita_meaning.specs.World as World
 use Rattle.cajita_meaning.specs.World.{Name, Value, Object, a_record, an_error, World as State}

@@ -3,7 +3,7 @@ use Rattle.std.proofs.Common.{◌≡◌, ◌≢◌, ℕ, ◌≤◌, ◌*◌, Lis
 use Rattle.std.proofs.lemmas.List.{append-nil}
 use Rattle.plans.specs.Plans.{over, stopped, out}
 use Rattle.matching.specs.Sentences.{IsFinished}
-use Rattle.es3_meaning.specs.Meaning as Target
+use Rattle.es3_language.specs.Meaning as Target
 use Rattle.cajita_tree.specs.Tree as c
 use Rattle.cajita_meaning.specs.Direct as Source
 use Rattle.cajita_meaning.specs.Direct.{direct_run}

@@ -5,11 +5,11 @@ use Rattle.es3_tree.specs.Tree as t
 use Rattle.caja_units.specs.declared.Memory.{Memory}
 use Rattle.es3_heap.specs.declared.value.Stop.{Stop}
 use Rattle.es3_heap.specs.Objects.{Objects}
-use Rattle.es3_meaning.specs.Store.{Store}
-use Rattle.es3_meaning.specs.Natives.{Table}
-use Rattle.es3_meaning.specs.Meaning.{Run, run_program}
-use Rattle.es3_control.specs.declared.natives.Completion.{Completion}
-use Rattle.es3_machine.specs.Machine.{Completes, Ran, run_started}
+use Rattle.es3_language.specs.Store.{Store}
+use Rattle.es3_language.specs.Natives.{Table}
+use Rattle.es3_language.specs.Meaning.{Run, run_program}
+use Rattle.es3_moves.specs.declared.natives.Completion.{Completion}
+use Rattle.es3_machine.specs.Machine.{Started, a_program, Completes, Ran, run_started}
 use Rattle.page_runner.specs.declared.Outcome.{Outcome}
 use Rattle.page_runner.specs.declared.End.TheVariants.{Done, Steps}
 use Rattle.page_runner.specs.Log.{completion_line, run_log, run_end, end_of}
@@ -33,7 +33,7 @@ pub spent_end : {S : Type 0} (r : Run S) (s : Store) (z : S) → r ≡ out s z 0
 spent_end r s z told = ap run_end told
 
 -- a run of what was started is that of the program
-pub run_told : {S : Type 0} (T : Table S) (started : Option (t.Tree t.program × ℕ)) (p : t.Tree t.program) (s s' : Store) (z : S) (steps : ℕ) (last : Store) (w : S) (answer : Result (Completion × ℕ) Stop) → started ≡ Some (p, 0) → s ≡ s' → Ran answer (run_started T started s z steps) steps last w → Ran answer (run_program T p 0 s' z steps) steps last w
+pub run_told : {S : Type 0} (T : Table S) (started : Option Started) (p : t.Tree t.program) (s s' : Store) (z : S) (steps : ℕ) (last : Store) (w : S) (answer : Result (Completion × ℕ) Stop) → started ≡ Some (a_program p 0) → s ≡ s' → Ran answer (run_started T started s z steps) steps last w → Ran answer (run_program T p 0 s' z steps) steps last w
 run_told T started p s s' z steps last w answer begun from told =
     subst (λ x. Ran answer (run_program T p 0 x z steps) steps last w) from
     (subst (λ x. Ran answer (run_started T x s z steps) steps last w) begun told)

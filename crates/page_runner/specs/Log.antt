@@ -14,9 +14,9 @@ use Rattle.es3_heap.specs.declared.value.Tag.{Tag}
 use Rattle.es3_heap.specs.declared.value.Tag.TheVariants as tag
 use Rattle.es3_heap.specs.Objects.{Objects, object_at, class_of, tag_of}
 use Rattle.es3_heap.specs.Properties.{own, value_of}
-use Rattle.es3_meaning.specs.Meaning.{Run}
-use Rattle.es3_control.specs.declared.natives.Completion.{Completion}
-use Rattle.es3_control.specs.declared.natives.Completion.TheVariants.{Normal, Thrown}
+use Rattle.es3_language.specs.Meaning.{Run}
+use Rattle.es3_moves.specs.declared.natives.Completion.{Completion}
+use Rattle.es3_moves.specs.declared.natives.Completion.TheVariants.{Normal, Thrown}
 use Rattle.es3_machine.specs.Machine.{completed}
 use Rattle.module_loader.specs.Page.{module_run}
 use Rattle.page_runner.specs.declared.End.{End}

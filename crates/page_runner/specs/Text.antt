@@ -7,9 +7,9 @@ use Rattle.es3_heap.specs.declared.value.Attrs.{Attrs}
 use Rattle.es3_heap.specs.Objects.{Objects}
 use Rattle.es3_heap.specs.Properties.{define}
 use Rattle.es3_heap.specs.Making.{new_objects, made}
-use Rattle.es3_meaning.specs.Store.{Store}
-use Rattle.es3_meaning.specs.Natives.{throw_reply, Table}
-use Rattle.es3_meaning.specs.Meaning.{Run, run_program}
+use Rattle.es3_language.specs.Store.{Store}
+use Rattle.es3_language.specs.Natives.{throw_reply, Table}
+use Rattle.es3_language.specs.Meaning.{Run, run_program}
 use Rattle.page_runner.specs.declared.End.{End}
 use Rattle.page_runner.specs.Log.{run_log, run_end}
 
@@ -27,7 +27,7 @@ text_objects = define (made class.Object None new_objects) text_globals (codes "
 
 -- the store before anything ran
 abbrev pub text_store : Store
-text_store = record { heap = text_objects; scopes = []; codes = []; globals = text_globals }
+text_store = record { heap = text_objects; scopes = []; codes = []; globals = text_globals; shared = [] }
 
 -- there are no natives: the store has no function, and each that a text makes runs that text's own code. So this answer is never asked for
 abbrev pub no_natives : Table ⊤

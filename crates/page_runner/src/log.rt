@@ -9,8 +9,8 @@ ghost use Rattle.page_runner.specs.Log.{object_name, text_units, error_text, cla
 
 use caja_num::Whole;
 use caja_units::{Memory, Units};
-use es3_control::natives::Completion;
 use es3_heap::{Class, Heap, ObjId, Tag, Value};
+use es3_moves::natives::Completion;
 use std::alloc::Global;
 
 /// Appends bytes.

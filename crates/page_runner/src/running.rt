@@ -2,8 +2,8 @@
 
 ghost use Rattle.std.specs.Prelude.{◌≡◌, ℕ, [], IfOk};
 ghost use Rattle.es3_tree.specs.View.{program};
-ghost use Rattle.es3_meaning.specs.Meaning.{Run, run_program};
-ghost use Rattle.es3_meaning.specs.Store.{Store};
+ghost use Rattle.es3_language.specs.Meaning.{Run, run_program};
+ghost use Rattle.es3_language.specs.Store.{Store};
 ghost use Rattle.es3_machine.specs.Held.{new_store};
 ghost use Rattle.es3_machine.specs.Machine.{Ran};
 ghost use Rattle.page_runner.specs.Log.{run_log, run_end};
@@ -11,9 +11,9 @@ ghost use Rattle.page_runner.specs.Log.{run_log, run_end};
 use crate::log::completion_line;
 use crate::{End, Outcome};
 use caja_units::Memory;
-use es3_control::natives::{Completion, Natives};
 use es3_heap::{Heap, ObjId, Stop};
 use es3_machine::Machine;
+use es3_moves::natives::{Completion, Natives};
 use es3_tree::Program;
 use std::alloc::Global;
 

@@ -7,9 +7,9 @@ ghost use Rattle.page_runner.specs.Text.{text_objects, text_globals, no_natives,
 use crate::Outcome;
 use crate::running::run_among;
 use caja_units::{Memory, Units};
-use es3_control::natives::{Answer, Natives};
 use es3_heap::{Attrs, Class, Heap, ObjId, Tag, Value};
-use es3_meaning::Touch;
+use es3_language::Touch;
+use es3_moves::natives::{Answer, Natives};
 use es3_tree::Program;
 use std::alloc::Global;
 

@@ -1,6 +1,6 @@
 use Rattle.std.proofs.Common.{refl, ◌∙◌}
 use Rattle.es3_tree.specs.View.{program}
-use Rattle.es3_meaning.specs.Meaning.{run_program}
+use Rattle.es3_language.specs.Meaning.{run_program}
 use Rattle.es3_machine.specs.Machine.{Ran}
 use Rattle.es3_machine.specs.Held.{started_of, store_in, new_store}
 use Rattle.page_runner.proofs.Told.{run_told, log_told, end_told}
