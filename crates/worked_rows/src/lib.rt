@@ -11,6 +11,8 @@ mod control_rows;
 #[cfg(test)]
 mod convert_rows;
 #[cfg(test)]
+mod example_rows;
+#[cfg(test)]
 mod format_rows;
 #[cfg(test)]
 mod grouping_rows;
@@ -36,6 +38,14 @@ mod number_rows;
 mod page_rows;
 #[cfg(test)]
 mod phrase_rows;
+#[cfg(test)]
+mod program_end_tables;
+#[cfg(test)]
+mod program_rows;
+#[cfg(test)]
+mod program_statement_tables;
+#[cfg(test)]
+mod program_tables;
 #[cfg(test)]
 mod rewrite_rows;
 #[cfg(test)]

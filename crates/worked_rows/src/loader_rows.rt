@@ -2,8 +2,8 @@
 
 use crate::lists::alone;
 use caja_units::Memory;
-use es3_control::natives::{Answer, Natives};
 use es3_heap::{FuncKind, Value};
+use es3_moves::natives::{Answer, Natives};
 use module_loader::{Opened, PageNatives, open};
 use std::alloc::Global;
 use std::test::Fail;

@@ -1,16 +1,16 @@
 //! Programs that are run.
 
 ghost use Rattle.es3_heap.specs.declared.value.Value.TheVariants.{Undefined};
-ghost use Rattle.es3_meaning.specs.Natives.{throw_reply};
+ghost use Rattle.es3_language.specs.Natives.{throw_reply};
 
 use crate::lists::alone;
 use caja_num::Whole;
 use caja_units::{Memory, Units};
-use es3_control::Touch;
-use es3_control::natives::{Answer, Completion, Natives};
 use es3_convert::out_of_memory;
 use es3_heap::{Class, Heap, Proto, Stop, Tag, Value};
+use es3_language::Touch;
 use es3_machine::Machine;
+use es3_moves::natives::{Answer, Completion, Natives};
 use es3_tree::{
     BinOp, Expr, Func, Name, Program, Stmt, make_assign, make_binary, make_call, make_function,
     make_return,
@@ -146,6 +146,30 @@ fn is_text(completion: &Completion, text: &Units) -> bool {
         Completion::Normal(Value::Text(found)) => found.same(text),
         _ => false,
     }
+}
+
+/// `function (x) { return x; }`, and then a call of it from outside.
+fn called_from_outside(alloc: Global, argument: Value) -> Result<(Completion, u64), Stop> {
+    let mut heap = Heap::new(alloc).map_err(out_of_memory)?;
+    let function = identity(alloc).map_err(out_of_memory)?;
+    let body = alone(alloc, Stmt::Expr(function)).map_err(out_of_memory)?;
+    let mut machine = started(alloc, &mut heap, body).map_err(out_of_memory)?;
+    let (completion, _taken) = machine.run(&mut heap, &mut Silent, 100)?;
+    let function = match completion {
+        Completion::Normal(v) => v,
+        Completion::Thrown(v) => v,
+    };
+    let args = alone(alloc, argument).map_err(out_of_memory)?;
+    machine.start_call(function, Value::Undefined, args, 0);
+    machine.run(&mut heap, &mut Silent, 2)
+}
+
+#[test]
+fn a_call_from_outside_takes_the_steps_of_the_body(rt: HostRuntime) -> Result<(), Fail> {
+    let (completion, taken) = called_from_outside(rt.alloc(), Value::Bool(true))?;
+    assert_eq!(rt; taken, 2);
+    assert!(rt; matches!(completion, Completion::Normal(Value::Bool(true))));
+    Ok(())
 }
 
 #[test]

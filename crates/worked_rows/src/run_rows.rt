@@ -56,7 +56,7 @@ fn parts(row: &str) -> (&str, &str, &str) {
 }
 
 // Whether the text ends, and its log says that its load gave this.
-fn gives(alloc: Global, row: &str) -> Result<bool, Memory> {
+pub fn gives(alloc: Global, row: &str) -> Result<bool, Memory> {
     let (words, text, wanted) = parts(row);
     let (status, output) = run(alloc, words, text.as_bytes())?;
     let given = match output.strip_prefix(b"load main ") {
@@ -73,8 +73,18 @@ fn ends(alloc: Global, row: &str, ended: &Status) -> Result<bool, Memory> {
     Ok(status == *ended && is_line(&output, wanted))
 }
 
-// The first row of the table that ends in another way is the failure.
-fn check_ends(alloc: Global, table: &'static str, ended: Status) -> Result<(), Fail> {
+/// The first row of the table whose log says something else is the failure.
+pub fn check_gives(alloc: Global, table: &'static str) -> Result<(), Fail> {
+    for row in table.lines() {
+        if !row.is_empty() && !gives(alloc, row)? {
+            return Err(row.into());
+        }
+    }
+    Ok(())
+}
+
+/// The first row of the table that ends in another way is the failure.
+pub fn check_ends(alloc: Global, table: &'static str, ended: Status) -> Result<(), Fail> {
     for row in table.lines() {
         if !row.is_empty() && !ends(alloc, row, &ended)? {
             return Err(row.into());
@@ -85,13 +95,7 @@ fn check_ends(alloc: Global, table: &'static str, ended: Status) -> Result<(), F
 
 #[test]
 fn a_text_runs_as_it_stands(rt: HostRuntime) -> Result<(), Fail> {
-    let alloc = rt.alloc();
-    for row in DONE.lines() {
-        if !row.is_empty() && !gives(alloc, row)? {
-            return Err(row.into());
-        }
-    }
-    Ok(())
+    check_gives(rt.alloc(), DONE)
 }
 
 #[test]
