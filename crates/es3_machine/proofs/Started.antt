@@ -1,10 +1,9 @@
 -- The first move of a run is what was started.
-use Rattle.std.proofs.Common.{◌≡◌, ℕ, ◌≤◌, List, [], Option, Some, None, false, Result, Ok, Err, IfOk, OnOk, ap, ◌∙◌, Vec, Global}
+use Rattle.std.proofs.Common.{◌≡◌, ℕ, ◌≤◌, List, [], Some, None, false, Result, Ok, Err, IfOk, OnOk, ap, ◌∙◌, Vec, Global}
 use Rattle.plans.specs.Plans.{ends, run}
 use Rattle.es3_tree.specs.Tree as t
 use Rattle.caja_units.specs.declared.Memory.{Memory}
 use Rattle.es3_heap.specs.declared.value.Value.{Value}
-use Rattle.es3_heap.specs.Objects.{Objects}
 use Rattle.es3_language.specs.Store.{Store}
 use Rattle.es3_language.specs.Hoisting.{vars_of, functions_of}
 use Rattle.es3_language.specs.Natives.{Table}

@@ -2,13 +2,12 @@
 use Rattle.std.proofs.Common.{◌≡◌, ℕ, zero, suc, ◌+◌, ◌<◌, ◌≤◌, List, [], ◌∷◌, Option, Some, None, length, get_or, refl, sym, ap, ◌∙◌, arith, Global}
 use Rattle.std.proofs.lemmas.Option.{same_Some}
 use Rattle.std.specs.declared.rc.Rc.{Rc}
-use Rattle.plans.specs.Plans.{ends}
 use Rattle.es3_tree.specs.Tree as t
 use Rattle.es3_language.specs.Store.{Store}
 use Rattle.es3_language.specs.References.{reference}
 use Rattle.es3_language.specs.Tasks.{Plan, Env, with_value}
 use Rattle.es3_language.specs.Statements.{var_list, after_var}
-use Rattle.es3_moves.specs.Code.{plain_expr, plain_stmt, stmts_at, vars_at, names_at, maybe_expr}
+use Rattle.es3_moves.specs.Code.{plain_stmt, stmts_at, vars_at, names_at, maybe_expr}
 use Rattle.es3_moves.specs.declared.code.StmtCode.{StmtCode}
 use Rattle.es3_moves.specs.declared.code.VarCode.{VarCode}
 use Rattle.es3_statements.specs.Lists.{valued}
