@@ -11,7 +11,7 @@ use Rattle.es3_moves.specs.declared.frame.Move.TheVariants as move
 
 -- how much may follow a list of statements: that of a `catch` or a `finally`
 abbrev pub end_size : End → ℕ
-end_size (Try h f env) = 2
+end_size (Try w) = 2
 end_size (Catch f env) = 1
 end_size end = 0
 
@@ -35,7 +35,7 @@ size (move.Again l) = 18
 size (move.List xs at acc env end) = 18 + end_size end
 size (move.Items vs es at env) = 18
 size (move.Fields o fs at env) = 18
-size (move.Arguments f vs es at env) = 23
+size (move.Arguments c) = 23
 size (move.Vars is at end env) = 18
 size (move.Find v cs at ls env) = 18
 size (move.Tell n a) = after_size a + 1

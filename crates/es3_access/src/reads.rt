@@ -61,7 +61,7 @@ fn read_now(
 {
     match read(alloc, reference, h, texts)? {
         Some(v) => {
-            let noted = note::of_member(Touch::Get, reference, env.by, h)?;
+            let noted = note::of_member(Touch::Get, reference, env.by(), h)?;
             Ok(note::tell(noted, After::Then(then, v)))
         }
         None => throw_error(alloc, b"unbound", h, texts),

@@ -1,8 +1,10 @@
 //! Calls of functions, and what functions make by `new` (ES3 11.2.2, 11.2.3, 13.2.1, 13.2.2).
 
 ghost use Rattle.std.specs.Prelude.{◌≡◌, ◌<◌, IfOk, OnOk, true, length, option_map, slice_get};
+ghost use Rattle.plans.specs.Plans.{enter, ends};
 ghost use Rattle.es3_heap.specs.Objects.{object_at, callable_of};
 ghost use Rattle.es3_language.specs.Store.{Store};
+ghost use Rattle.es3_language.specs.Tasks.{native_call};
 ghost use Rattle.es3_language.specs.Expressions as e;
 ghost use Rattle.es3_moves.specs.Where.{plain_env};
 ghost use Rattle.es3_moves.specs.Texts.{store_of, plain_codes};
@@ -14,7 +16,7 @@ use crate::activation::{copies, first_scope, open_call};
 use caja_units::{Memory, Units};
 use es3_access::errors::throw_error;
 use es3_heap::{Class, FuncKind, Heap, ObjId, Proto, Value};
-use es3_moves::frame::{End, Env, Fault, Move, Task};
+use es3_moves::frame::{Context, End, Env, Fault, Move, NativeCall, Task};
 use es3_moves::texts::Texts;
 use std::alloc::Global;
 
@@ -51,6 +53,26 @@ pub fn apply(
     }
 }
 
+/// A call of a function that is no text.
+fn call_native(
+    alloc: Global,
+    which: u32,
+    this: Value,
+    args: Vec<Value>,
+    env: Env,
+) -> Result<Move, Memory>
+    ensures plan { IfOk result (λ x. (s : Store) → move_plan x s ≡ enter (native_call which this args.items (plain_env env)) s ends) }
+    ensures small { IfOk result (λ x. size x < 1) }
+{
+    let call = NativeCall {
+        which,
+        this,
+        args,
+        env,
+    };
+    Ok(Move::Go(Task::Native(Box::new(alloc, call)?)))
+}
+
 /// The object that is `this` in a function of a text (ES3 10.2.3).
 fn this_of(this: &Value, texts: &Texts) -> ObjId
     ensures { (h : _) → result ≡ e.this_of this.now (store_of h texts.now) }
@@ -81,11 +103,11 @@ fn apply_object(
     match callable(h, o) {
         Some((FuncKind::Code(c), by)) => {
             let this = this_of(&this, texts);
-            open_code(alloc, c, by, o, this, args, env.calls, None, h, texts)
+            open_code(alloc, c, by, o, this, args, env.calls(), None, h, texts)
         }
-        Some((FuncKind::Simple(w), _)) => Ok(Move::Go(Task::Native(w, this, args, env))),
-        Some((FuncKind::Constructor(w), _)) => Ok(Move::Go(Task::Native(w, this, args, env))),
-        Some((FuncKind::Exophoric(w, _), _)) => Ok(Move::Go(Task::Native(w, this, args, env))),
+        Some((FuncKind::Simple(w), _)) => call_native(alloc, w, this, args, env),
+        Some((FuncKind::Constructor(w), _)) => call_native(alloc, w, this, args, env),
+        Some((FuncKind::Exophoric(w, _), _)) => call_native(alloc, w, this, args, env),
         None => throw_error(alloc, b"not a function", h, texts),
     }
 }
@@ -120,12 +142,13 @@ fn open_code(
     let outer = code.chain.clone()?;
     let body = code.body.clone()?;
     let chain = open_call(alloc, scope, outer, &functions, by, h, texts)?;
-    let env = Env {
+    let context = Context {
         chain,
         calls: calls + 1,
         by,
         this,
     };
+    let env = Env::new(alloc, context)?;
     Ok(Move::List(body, 0, None, env, end_of(made)))
 }
 
@@ -178,10 +201,21 @@ fn construct_object(
     match callable(h, o) {
         Some((FuncKind::Code(c), by)) => {
             let made = make_object(alloc, o, h)?;
-            open_code(alloc, c, by, o, made, args, env.calls, Some(made), h, texts)
+            open_code(
+                alloc,
+                c,
+                by,
+                o,
+                made,
+                args,
+                env.calls(),
+                Some(made),
+                h,
+                texts,
+            )
         }
         Some((FuncKind::Constructor(w), _)) => {
-            Ok(Move::Go(Task::Native(w, Value::Undefined, args, env)))
+            call_native(alloc, w, Value::Undefined, args, env)
         }
         Some((FuncKind::Simple(_), _)) => throw_error(alloc, b"not a constructor", h, texts),
         Some((FuncKind::Exophoric(_, _), _)) => {

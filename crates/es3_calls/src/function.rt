@@ -99,9 +99,11 @@ pub fn enter_function(
 ) -> Result<Move, Memory>
     ensures { IfOk result (λ x. move_plan x (store_of h.new texts.new) ≡ e.function_plan (plain_func function.now) (plain_env env) (store_of h.old texts.old)) }
 {
+    let chain = env.chain().clone()?;
+    let maker = env.by();
     let object = match &function.name {
-        None => make_function(alloc, function, env.chain, env.by, h, texts)?,
-        Some(name) => make_named(alloc, function, name, env.chain, env.by, h, texts)?,
+        None => make_function(alloc, function, chain, maker, h, texts)?,
+        Some(name) => make_named(alloc, function, name, chain, maker, h, texts)?,
     };
     Ok(Move::End(Flow::Gave(Value::Obj(object))))
 }

@@ -33,7 +33,7 @@ pub fn enter_expr(
     ensures { IfOk result (λ x. move_plan x (store_of h.new texts.new) ≡ e.expr_plan (plain_expr code.now) (plain_env env) (store_of h.old texts.old)) }
 {
     match code {
-        ExprCode::This => Ok(give(Value::Obj(env.this))),
+        ExprCode::This => Ok(give(Value::Obj(env.this()))),
         ExprCode::Null => Ok(give(Value::Null)),
         ExprCode::Bool(b) => Ok(give(Value::Bool(*b))),
         ExprCode::Num(n) => Ok(give(Value::Num(*n))),
@@ -91,7 +91,7 @@ fn enter_name(
 ) -> Result<Move, Memory>
     ensures { IfOk result (λ x. move_plan x (store_of h.new texts.new) ≡ e.name_value_plan name.now.value (plain_env env.now) (store_of h.old texts.old)) }
 {
-    let found = reference(&env.chain, name, h, texts)?;
+    let found = reference(env.chain(), name, h, texts)?;
     with_read(alloc, &found, Then::Give, env, h, texts)
 }
 

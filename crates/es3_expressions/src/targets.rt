@@ -11,6 +11,7 @@ ghost use Rattle.es3_moves.specs.Moves.{move_plan, target_use};
 ghost use Rattle.es3_access.specs.Sizes.{size};
 
 use crate::enter::{enter_expr, give, value_part};
+use crate::lists::begin_arguments;
 use crate::writes::copy_ref;
 use caja_units::{Memory, Units};
 use es3_access::reads::with_read;
@@ -36,7 +37,7 @@ pub fn enter_target(
 {
     match code {
         ExprCode::Name(name) => {
-            let found = reference(&env.chain, name, h, texts)?;
+            let found = reference(env.chain(), name, h, texts)?;
             Ok(Move::End(Flow::Found(found)))
         }
         ExprCode::Dot(base, key) => target_dot(base, key, env),
@@ -126,13 +127,7 @@ pub fn use_target(
             Ok(give(Value::Bool(goes)))
         }
         Target::Typeof(env) => type_of(alloc, &reference, &env, h, texts),
-        Target::Called(args, env) => Ok(Move::Arguments(
-            Callee::Called(reference),
-            Vec::new(alloc),
-            args,
-            0,
-            env,
-        )),
+        Target::Called(args, env) => begin_arguments(alloc, Callee::Called(reference), args, env),
     }
 }
 

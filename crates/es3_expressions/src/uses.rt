@@ -12,6 +12,7 @@ ghost use Rattle.es3_operators.specs.Given.{plain_given};
 ghost use Rattle.es3_access.specs.Sizes.{size, then_size};
 
 use crate::enter::{give, value_part};
+use crate::lists::begin_arguments;
 use crate::members::{dot_target, dot_value, index_target, index_value};
 use crate::targets::give_type;
 use crate::writes::{assign, compound, step};
@@ -64,16 +65,10 @@ pub fn use_value(
         Use::CompoundValue(op, reference, old, env) => {
             compound(alloc, op, reference, &old, &v, &env, h, texts)
         }
-        Use::Maker(args, env) => Ok(Move::Arguments(
-            Callee::Maker(v),
-            Vec::new(alloc),
-            args,
-            0,
-            env,
-        )),
-        Use::Argument(callee, mut vs, es, at, env) => {
-            vs.push(v)?;
-            Ok(Move::Arguments(callee, vs, es, at, env))
+        Use::Maker(args, env) => begin_arguments(alloc, Callee::Maker(v), args, env),
+        Use::Argument(mut calling) => {
+            calling.values.push(v)?;
+            Ok(Move::Arguments(calling))
         }
         Use::Item(mut vs, es, at, env) => {
             vs.push(v)?;
@@ -186,6 +181,6 @@ fn call_value(
     ensures small { IfOk result (λ x. size x < 21) }
 {
     let this = base_of(alloc, reference)?;
-    let noted = note::of_call(Touch::Call, &f, env.by, h);
+    let noted = note::of_call(Touch::Call, &f, env.by(), h);
     Ok(note::tell(noted, After::Apply(f, this, args, env)))
 }

@@ -58,7 +58,7 @@ fn write_value(
     ensures plan { IfOk result (λ x. (s : Store) → s.heap ≡ h.now → move_plan x s ≡ e.write_plan (plain_ref reference) written given (plain_env env.now) s) }
     ensures small { IfOk result (λ x. size x < 11) }
 {
-    let noted = note::of_member(Touch::Set, &reference, env.by, h)?;
+    let noted = note::of_member(Touch::Set, &reference, env.by(), h)?;
     Ok(note::tell(noted, After::Write(reference, written, given)))
 }
 

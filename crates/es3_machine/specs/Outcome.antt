@@ -1,5 +1,5 @@
 -- How a run ended, and how much is left of it.
-use Rattle.std.specs.Prelude.{ℕ, ◌+◌, ◌-◌, ◌*◌, ◌<◌, List, Result, Ok, Err, length}
+use Rattle.std.specs.Prelude.{ℕ, ◌+◌, ◌-◌, ◌*◌, ◌==◌, Bool, true, false, List, Result, Ok, Err, length}
 use Rattle.plans.specs.Plans.{over, stopped, out, run, rest}
 use Rattle.es3_heap.specs.declared.value.Stop.{Stop}
 use Rattle.es3_heap.specs.declared.value.Stop.TheVariants as stop
@@ -14,13 +14,12 @@ use Rattle.es3_moves.specs.declared.natives.Completion.{Completion}
 use Rattle.es3_moves.specs.declared.frame.Fault.TheVariants.{Number, Depth, Convert}
 use Rattle.es3_moves.specs.declared.frame.Frame.{Frame}
 use Rattle.es3_moves.specs.declared.frame.Move.{Move}
+use Rattle.es3_moves.specs.declared.frame.Move.TheVariants as move
 use Rattle.es3_machine.specs.Machine.{completed}
 use Rattle.es3_access.specs.Sizes.{size}
 use Rattle.es3_machine.specs.declared.engine.Engine.{Engine}
 use Rattle.es3_machine.specs.declared.engine.Outcome.{Outcome}
 use Rattle.es3_machine.specs.declared.engine.Outcome.TheVariants.{Ended, Stopped, Spent}
-use Rattle.es3_machine.specs.declared.engine.Step.{Step}
-use Rattle.es3_machine.specs.declared.engine.Step.TheVariants.{Next, Done}
 
 -- what is left of a run: the move, and then the frames
 abbrev pub whole : {S : Type 0} → Table S → List Frame → Move → Store → S → ℕ → Run S
@@ -39,19 +38,23 @@ answer_of (Stopped Depth) steps left = Err stop.Depth
 answer_of (Stopped Convert) steps left = Err stop.Convert
 answer_of Spent steps left = Err stop.Steps
 
--- what is left of a run at a move, and after one
+-- what is left of a run at a move
 abbrev pub run_of : {S : Type 0} → Table S → Engine → Objects → S → Move → Run S
 run_of T e h z m = whole T e.frames.items m (store_of h e.texts) z e.left
 
-abbrev pub run_after : {S : Type 0} → Table S → Engine → Objects → S → Step → Run S
-run_after T e h z (Next m) = run_of T e h z m
-run_after T e h z (Done o) = ended o (store_of h e.texts) z e.left
+-- whether a run is over before a move: nothing waits where a node ended, a fault stops it, or a step is wanted and none is left
+abbrev pub is_over : Engine → Move → Bool
+is_over e (move.End flow) = length e.frames.items == 0
+is_over e (move.Stop f) = true
+is_over e (move.Go t) = e.left == 0
+is_over e m = false
+
+-- how such a run ended
+abbrev pub outcome_of : Move → Outcome
+outcome_of (move.End flow) = Ended flow
+outcome_of (move.Stop f) = Stopped f
+outcome_of m = Spent
 
 -- the steps, the frames and the move, as one number
 abbrev pub work : Engine → Move → ℕ
 work e m = 32 * e.left + 16 * length e.frames.items + size m
-
--- after a move there is less to do
-abbrev pub IsLess : Engine → Step → ℕ → Type 0
-IsLess e (Next m) before = work e m < before
-IsLess e (Done o) before = Unit {0}

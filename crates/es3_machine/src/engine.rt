@@ -1,15 +1,13 @@
 //! The machine's loop: one move after another, each of which leaves the rest of the run as it is.
 
-ghost use Rattle.std.specs.Prelude.{◌≡◌, ◌<◌, ◌≤◌, ◌+◌, [], IfOk, OnOk};
+ghost use Rattle.std.specs.Prelude.{◌≡◌, ◌<◌, false, IfOk};
 ghost use Rattle.es3_tree.specs.Tree as tree;
 ghost use Rattle.es3_heap.specs.Objects.{Objects};
 ghost use Rattle.es3_language.specs.Meaning.{outermost, run_program, run_call};
 ghost use Rattle.es3_moves.specs.Where.{plain_env};
 ghost use Rattle.es3_moves.specs.Code.{plain_stmts};
 ghost use Rattle.es3_moves.specs.Texts.{store_of};
-ghost use Rattle.es3_moves.specs.Moves.{move_plan};
-ghost use Rattle.es3_access.specs.Sizes.{size};
-ghost use Rattle.es3_machine.specs.Outcome.{run_of, run_after, ended, work, IsLess};
+ghost use Rattle.es3_machine.specs.Outcome.{run_of, ended, is_over, outcome_of, work};
 
 use crate::natives::record_touch;
 use crate::resume::{begin, follow, resume};
@@ -18,7 +16,7 @@ use es3_calls::declare_program;
 use es3_expressions::lists::{next_argument, next_field, next_item};
 use es3_heap::{Heap, Value};
 use es3_moves::code::StmtCode;
-use es3_moves::frame::{After, Chain, End, Env, Fault, Flow, Frame, Move};
+use es3_moves::frame::{After, Chain, Context, End, Env, Fault, Flow, Frame, Move};
 use es3_moves::natives::Natives;
 use es3_moves::texts::Texts;
 use es3_statements::lists::next_statement;
@@ -37,11 +35,15 @@ pub enum Outcome {
     Spent,
 }
 
-/// What a move leaves to do.
-#[derive(Drop)]
-pub enum Step {
-    Next(Move),
-    Done(Outcome),
+/// How a run ended that is over before a move.
+fn how_ended(now: Move) -> Outcome
+    ensures { result ≡ outcome_of now }
+{
+    match now {
+        Move::End(flow) => Outcome::Ended(flow),
+        Move::Stop(fault) => Outcome::Stopped(fault),
+        _ => Outcome::Spent,
+    }
 }
 
 /// The frames that wait, what the texts made, and the steps that are left.
@@ -54,75 +56,67 @@ pub struct Engine {
 }
 
 impl Engine {
+    /// Whether the run is over before a move: nothing waits where a node ended, a fault stops it, or a step is wanted and none is left.
+    fn is_over(&self, now: &Move) -> bool
+        ensures { result ≡ is_over self.now now.now }
+    {
+        match now {
+            Move::End(_) => self.frames.is_empty(),
+            Move::Stop(_) => true,
+            Move::Go(_) => self.left == 0,
+            Move::Enter(_, _) => false,
+            Move::Again(_) => false,
+            Move::List(_, _, _, _, _) => false,
+            Move::Items(_, _, _, _) => false,
+            Move::Fields(_, _, _, _) => false,
+            Move::Arguments(_) => false,
+            Move::Vars(_, _, _, _) => false,
+            Move::Find(_, _, _, _, _) => false,
+            Move::Tell(_, _) => false,
+            Move::Follow(_) => false,
+        }
+    }
+
     /// One move, after which the rest of the run is what it was.
-    #[tactic(auto, using(crate::proofs::Steps::size_small))]
-    fn step<N: Natives>(&mut self, now: Move, h: &mut Heap, natives: &mut N) -> Result<Step, Memory>
-        ensures same { IfOk result (λ r. run_after N.table self.new h.new (N.state natives.new) r ≡ run_of N.table self.old h.old (N.state natives.old) now) }
-        ensures less { IfOk result (λ r. IsLess self.new r (work self.old now)) }
+    fn step<N: Natives>(&mut self, now: Move, h: &mut Heap, natives: &mut N) -> Result<Move, Memory>
+        requires { is_over self.now now ≡ false }
+        ensures same { IfOk result (λ m. run_of N.table self.new h.new (N.state natives.new) m ≡ run_of N.table self.old h.old (N.state natives.old) now) }
+        ensures less { IfOk result (λ m. work self.new m < work self.old now) }
     {
         match now {
             Move::Enter(task, frame) => {
                 self.frames.push(frame)?;
-                Ok(Step::Next(Move::Go(task)))
+                Ok(Move::Go(task))
             }
             Move::Go(task) => {
-                if self.left == 0 {
-                    return Ok(Step::Done(Outcome::Spent));
-                }
                 self.left -= 1;
-                Ok(Step::Next(begin(self.alloc, task, h, natives, &mut self.texts)?))
+                begin(self.alloc, task, h, natives, &mut self.texts)
             }
-            Move::Again(looping) => Ok(Step::Next(first_node(looping)?)),
+            Move::Again(looping) => first_node(looping),
             Move::Tell(note, after) => {
                 record_touch(self.alloc, &note, natives)?;
-                Ok(Step::Next(Move::Follow(after)))
+                Ok(Move::Follow(after))
             }
             Move::End(flow) => match self.frames.pop() {
-                None => Ok(Step::Done(Outcome::Ended(flow))),
-                Some(frame) => Ok(Step::Next(resume(self.alloc, frame, flow, h, &mut self.texts)?)),
+                Some(frame) => resume(self.alloc, frame, flow, h, &mut self.texts),
+                None => unreachable!(),
             },
-            Move::Stop(fault) => Ok(Step::Done(Outcome::Stopped(fault))),
-            Move::List(xs, at, acc, env, end) => Ok(Step::Next(next_statement(
-                self.alloc,
-                xs,
-                at,
-                acc,
-                env,
-                end,
-                &mut self.texts,
-            )?)),
-            Move::Items(vs, es, at, env) => {
-                Ok(Step::Next(next_item(vs, es, at, env, h, &self.texts)?))
+            Move::Stop(_) => unreachable!(),
+            Move::List(xs, at, acc, env, end) => {
+                next_statement(self.alloc, xs, at, acc, env, end, &mut self.texts)
             }
-            Move::Fields(object, fields, at, env) => Ok(Step::Next(next_field(
-                object,
-                fields,
-                at,
-                env,
-                h,
-                &self.texts,
-            )?)),
-            Move::Arguments(callee, vs, es, at, env) => Ok(Step::Next(next_argument(
-                self.alloc,
-                callee,
-                vs,
-                es,
-                at,
-                env,
-                h,
-                &mut self.texts,
-            )?)),
-            Move::Vars(items, at, end, env) => {
-                Ok(Step::Next(next_var(items, at, end, env, h, &self.texts)?))
+            Move::Items(vs, es, at, env) => next_item(vs, es, at, env, h, &self.texts),
+            Move::Fields(object, fields, at, env) => {
+                next_field(object, fields, at, env, h, &self.texts)
             }
-            Move::Find(v, cases, at, labels, env) => {
-                Ok(Step::Next(find_case(v, cases, at, labels, env)?))
-            }
-            Move::Follow(after) => Ok(Step::Next(follow(self.alloc, after, h, &mut self.texts)?)),
+            Move::Arguments(calling) => next_argument(self.alloc, calling, h, &mut self.texts),
+            Move::Vars(items, at, end, env) => next_var(items, at, end, env, h, &self.texts),
+            Move::Find(v, cases, at, labels, env) => find_case(v, cases, at, labels, env),
+            Move::Follow(after) => follow(self.alloc, after, h, &mut self.texts),
         }
     }
 
-    /// Makes moves until the run has ended.
+    /// Makes moves until the run is over.
     fn run_from<N: Natives>(
         &mut self,
         first: Move,
@@ -132,12 +126,10 @@ impl Engine {
         ensures { IfOk result (λ o. ended o (store_of h.new self.new.texts) (N.state natives.new) self.new.left ≡ run_of N.table self.old h.old (N.state natives.old) first) }
     {
         let mut now = first;
-        'run: loop {
-            match self.step(now, h, natives)? {
-                Step::Next(next) => now = next,
-                Step::Done(outcome) => return Ok(outcome),
-            }
+        'run: while !self.is_over(&now) {
+            now = self.step(now, h, natives)?;
         }
+        Ok(how_ended(now))
     }
 
     /// Where the statements of a program stand, and what is called from outside (ES3 10.2.1).
@@ -145,12 +137,13 @@ impl Engine {
         ensures { IfOk result (λ e. (h : Objects) → plain_env e ≡ outermost by (store_of h self.now.texts)) }
     {
         let chain = Rc::new(self.alloc, Chain::End)?;
-        Ok(Env {
+        let context = Context {
             chain,
             calls: 0,
             by,
             this: self.texts.globals,
-        })
+        };
+        Env::new(self.alloc, context)
     }
 
     /// Runs the statements of a program as a module, with so many steps at most.

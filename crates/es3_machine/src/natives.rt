@@ -13,7 +13,7 @@ use caja_units::Memory;
 use es3_access::note;
 use es3_heap::{Heap, Stop, Value};
 use es3_language::Touch;
-use es3_moves::frame::{After, Env, Fault, Flow, Move, Note};
+use es3_moves::frame::{After, Env, Fault, Flow, Move, NativeCall, Note};
 use es3_moves::natives::{Answer, Natives};
 use es3_moves::texts::Texts;
 use std::alloc::Global;
@@ -21,18 +21,21 @@ use std::alloc::Global;
 /// What a call of a native does.
 pub fn call_native<N: Natives>(
     alloc: Global,
-    which: u32,
-    this: Value,
-    args: Vec<Value>,
-    env: Env,
+    call: NativeCall,
     h: &mut Heap,
     natives: &mut N,
     texts: &Texts,
 ) -> Result<Move, Memory>
-    ensures plan { IfOk result (λ x. move_plan x (store_of h.new texts.now) ≡ task_plan N.table (native_call which this args.items (plain_env env)) (store_of h.old texts.now) (N.state natives.old)) }
-    ensures state { OnOk result (N.state natives.new ≡ task_state N.table (native_call which this args.items (plain_env env)) (store_of h.old texts.now) (N.state natives.old)) }
+    ensures plan { IfOk result (λ x. move_plan x (store_of h.new texts.now) ≡ task_plan N.table (native_call call.which call.this call.args.items (plain_env call.env)) (store_of h.old texts.now) (N.state natives.old)) }
+    ensures state { OnOk result (N.state natives.new ≡ task_state N.table (native_call call.which call.this call.args.items (plain_env call.env)) (store_of h.old texts.now) (N.state natives.old)) }
 {
-    match natives.call(alloc, h, which, env.by, &this, &args) {
+    let NativeCall {
+        which,
+        this,
+        args,
+        env,
+    } = call;
+    match natives.call(alloc, h, which, env.by(), &this, &args) {
         Answer::Value(v) => Ok(Move::End(Flow::Gave(v))),
         Answer::Throw(v) => Ok(Move::End(Flow::Threw(v))),
         Answer::Invoke(true, f, this, args) => Ok(recorded_call(f, this, args, env, h)),
@@ -51,7 +54,7 @@ pub fn call_native<N: Natives>(
 fn recorded_call(f: Value, this: Value, args: Vec<Value>, env: Env, h: &Heap) -> Move
     ensures { (s : Store) → s.heap ≡ h.now → move_plan result s ≡ note_call touch.Call f (plain_env env) s (apply f this args.items (plain_env env) s) }
 {
-    let noted = note::of_call(Touch::Call, &f, env.by, h);
+    let noted = note::of_call(Touch::Call, &f, env.by(), h);
     note::tell(noted, After::Apply(f, this, args, env))
 }
 

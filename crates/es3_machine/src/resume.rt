@@ -43,9 +43,7 @@ pub fn begin<N: Natives>(
         Task::Effect(s, env) => enter_stmt(alloc, &s, None, env),
         Task::Labelled(s, labels, env) => enter_stmt(alloc, &s, Some(labels), env),
         Task::Key(key, keyed) => begin_key(alloc, key, keyed, h, texts),
-        Task::Native(which, this, args, env) => {
-            call_native(alloc, which, this, args, env, h, natives, texts)
-        }
+        Task::Native(call) => call_native(alloc, Box::into_inner(call), h, natives, texts),
     }
 }
 

@@ -8,6 +8,7 @@ use Rattle.es3_moves.specs.Code.{maybe_units, maybe_expr, plain_stmt}
 use Rattle.es3_moves.specs.declared.frame.Chain.{Chain, End, In'}
 use Rattle.es3_moves.specs.declared.frame.Labels.{Labels}
 use Rattle.es3_moves.specs.declared.frame.Labels as labels
+use Rattle.es3_moves.specs.declared.frame.Context.{Context}
 use Rattle.es3_moves.specs.declared.frame.Env.{Env}
 use Rattle.es3_moves.specs.declared.frame.Looping.{Looping}
 use Rattle.es3_moves.specs.declared.frame.Callee.{Callee}
@@ -27,8 +28,15 @@ abbrev pub plain_labels : Labels → List (List ℕ)
 plain_labels labels.End = []
 plain_labels (labels.In' l p rest) = l.value ∷ plain_labels rest
 
+abbrev pub plain_context : Context → PlainEnv
+plain_context c = record { chain = plain_chain c.chain.value; calls = c.calls; by = c.by; this = c.this }
+
 abbrev pub plain_env : Env → PlainEnv
-plain_env e = record { chain = plain_chain e.chain.value; calls = e.calls; by = e.by; this = e.this }
+plain_env e = plain_context e.context.value
+
+-- the same place in other scopes
+abbrev pub with_chain : PlainEnv → List ℕ → PlainEnv
+with_chain e chain = record e { chain = chain }
 
 abbrev pub plain_loop : Looping → Loop
 plain_loop l = record { test = maybe_expr l.test; update = maybe_expr l.update; body = plain_stmt l.body.value }

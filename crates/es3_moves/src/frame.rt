@@ -1,7 +1,7 @@
 //! What the machine keeps of the work that waits, and what it does next.
 
 ghost use Rattle.std.specs.Prelude.{◌≡◌, IfOk};
-ghost use Rattle.es3_moves.specs.Where.{plain_env};
+ghost use Rattle.es3_moves.specs.Where.{plain_chain, plain_context, plain_env, with_chain};
 
 use crate::code::{
     CaseCode, CatchCode, ExprCode, FieldCode, FinallyCode, Prefix, StmtCode, TargetCode, VarCode,
@@ -10,6 +10,7 @@ use caja_units::{Memory, Units};
 use es3_heap::{ObjId, Tag, Value};
 use es3_language::Touch;
 use es3_tree::BinOp;
+use std::alloc::Global;
 use std::rc::Rc;
 
 /// The scopes around a place, each by its number, the innermost first (ES3 10.1.4).
@@ -19,27 +20,79 @@ pub enum Chain {
     In(u32, Rc<Chain>),
 }
 
-/// Where a node stands: the scopes around it, how many calls are open, the running module, and the object that is `this`
-/// (ES3 10.2).
+/// An execution context (ES3 10.2): the scope chain, how many calls are open, the running module, and the object that is `this`.
 #[derive(Drop)]
-pub struct Env {
+pub struct Context {
     pub chain: Rc<Chain>,
     pub calls: u32,
     pub by: u32,
     pub this: ObjId,
 }
 
+/// Where a node stands: its execution context, which the nodes of one body share.
+#[derive(Drop)]
+pub struct Env {
+    pub context: Rc<Context>,
+}
+
 impl Env {
+    /// A place in an execution context.
+    pub fn new(alloc: Global, context: Context) -> Result<Env, Memory>
+        ensures { IfOk result (λ e. plain_env e ≡ plain_context context) }
+    {
+        let context = Rc::new(alloc, context)?;
+        Ok(Env { context })
+    }
+
+    /// The scopes around the place.
+    pub fn chain(&self) -> &Rc<Chain>
+        ensures { plain_chain result.now.value ≡ (plain_env self.now).chain }
+    {
+        &self.context.chain
+    }
+
+    /// How many calls are open.
+    pub fn calls(&self) -> u32
+        ensures { result ≡ (plain_env self.now).calls }
+    {
+        self.context.calls
+    }
+
+    /// The module that runs.
+    pub fn by(&self) -> u32
+        ensures { result ≡ (plain_env self.now).by }
+    {
+        self.context.by
+    }
+
+    /// The object that is `this`.
+    pub fn this(&self) -> ObjId
+        ensures { result ≡ (plain_env self.now).this }
+    {
+        self.context.this
+    }
+
     /// The same place once more.
     pub fn copy(&self) -> Result<Env, Memory>
         ensures { IfOk result (λ e. plain_env e ≡ plain_env self.now) }
     {
-        Ok(Env {
-            chain: self.chain.clone()?,
-            calls: self.calls,
-            by: self.by,
-            this: self.this,
-        })
+        let context = self.context.clone()?;
+        Ok(Env { context })
+    }
+
+    /// The same place in other scopes.
+    pub fn within(&self, alloc: Global, chain: Rc<Chain>) -> Result<Env, Memory>
+        ensures { IfOk result (λ e. plain_env e ≡ with_chain (plain_env self.now) (plain_chain chain.value)) }
+    {
+        Env::new(
+            alloc,
+            Context {
+                chain,
+                calls: self.context.calls,
+                by: self.context.by,
+                this: self.context.this,
+            },
+        )
     }
 }
 
@@ -95,12 +148,20 @@ pub enum End {
     Body,
     /// The body of a function that makes an object by `new` (ES3 13.2.2).
     New(ObjId),
-    Try(Option<Rc<CatchCode>>, Option<Rc<FinallyCode>>, Env),
+    Try(Box<Handlers>),
     Catch(Option<Rc<FinallyCode>>, Env),
     /// A `finally`, with how what stood before it ended.
-    Finally(Flow),
+    Finally(Box<Flow>),
     /// A clause of a `switch`: the clauses from a place on are left.
     Cases(Rc<Vec<CaseCode>>, usize, Rc<Labels>, Env),
+}
+
+/// What follows the block of a `try`.
+#[derive(Drop)]
+pub struct Handlers {
+    pub handler: Option<Rc<CatchCode>>,
+    pub last: Option<Rc<FinallyCode>>,
+    pub env: Env,
 }
 
 /// A loop that runs: its parts, the value so far, and its labels (ES3 12.6).
@@ -135,6 +196,16 @@ pub enum Callee {
     Maker(Value),
 }
 
+/// A call, or what `new` makes, whose arguments are being found: those that are there, and the list of them from a place on.
+#[derive(Drop)]
+pub struct Calling {
+    pub callee: Callee,
+    pub values: Vec<Value>,
+    pub list: Rc<Vec<Rc<ExprCode>>>,
+    pub at: usize,
+    pub env: Env,
+}
+
 /// What an expression does with a value. A list goes with the place, from 0, of the node in it that comes next.
 #[derive(Drop)]
 pub enum Use {
@@ -154,7 +225,7 @@ pub enum Use {
     AssignValue(Ref, Env),
     CompoundValue(BinOp, Ref, Value, Env),
     Maker(Rc<Vec<Rc<ExprCode>>>, Env),
-    Argument(Callee, Vec<Value>, Rc<Vec<Rc<ExprCode>>>, usize, Env),
+    Argument(Box<Calling>),
     Item(Vec<Value>, Rc<Vec<Rc<ExprCode>>>, usize, Env),
     /// The value of a key of an object that is made.
     Field(ObjId, Rc<Units>, Rc<Vec<FieldCode>>, usize, Env),
@@ -165,7 +236,7 @@ pub enum Use {
 pub enum VarsEnd {
     Statement,
     /// The test of the `for` that declares them.
-    Loop(Looping),
+    Loop(Box<Looping>),
 }
 
 /// What a statement does with a value.
@@ -176,8 +247,8 @@ pub enum Effect {
     ToThrew,
     Var(Ref, Rc<Vec<VarCode>>, usize, VarsEnd, Env),
     IfSide(Rc<StmtCode>, Option<Rc<StmtCode>>, Env),
-    LoopTest(Looping),
-    AfterUpdate(Looping),
+    LoopTest(Box<Looping>),
+    AfterUpdate(Box<Looping>),
     ForKeys(Rc<TargetCode>, Rc<StmtCode>, Rc<Labels>, Env),
     WithBody(Rc<StmtCode>, Env),
     SwitchOn(Rc<Vec<CaseCode>>, Rc<Labels>, Env),
@@ -203,12 +274,12 @@ pub enum Frame {
     Effect(Effect),
     Target(Target),
     /// The reference that a key is written to.
-    KeyTarget(Rc<Units>, Keyed),
+    KeyTarget(Rc<Units>, Box<Keyed>),
     /// The statements of a list that are left, and the value so far.
     Statement(Rc<Vec<Rc<StmtCode>>>, usize, Option<Value>, Env, End),
     Label(Rc<Units>),
-    LoopNext(Looping),
-    KeyNext(Keyed),
+    LoopNext(Box<Looping>),
+    KeyNext(Box<Keyed>),
 }
 
 /// What takes a step when it is entered.
@@ -222,9 +293,18 @@ pub enum Task {
     /// A statement behind labels.
     Labelled(Rc<StmtCode>, Rc<Labels>, Env),
     /// A key that a `for` .. `in` reaches.
-    Key(Rc<Units>, Keyed),
-    /// A function that is no text, by its number, with the receiver and the arguments.
-    Native(u32, Value, Vec<Value>, Env),
+    Key(Rc<Units>, Box<Keyed>),
+    /// A function that is no text.
+    Native(Box<NativeCall>),
+}
+
+/// A call of a function that is no text, by its number, with the receiver and the arguments.
+#[derive(Drop)]
+pub struct NativeCall {
+    pub which: u32,
+    pub this: Value,
+    pub args: Vec<Value>,
+    pub env: Env,
 }
 
 /// What is recorded of a touch of an object with a name: by which module, how, which one, and at which key.
@@ -258,7 +338,7 @@ pub enum After {
     /// The first value is written, and the second is given.
     Write(Ref, Value, Value),
     /// A key is written, and the body of the loop follows.
-    WriteKey(Ref, Rc<Units>, Keyed),
+    WriteKey(Ref, Rc<Units>, Box<Keyed>),
 }
 
 /// What the machine does next.
@@ -269,7 +349,7 @@ pub enum Move {
     /// Enter a task in place of what ran.
     Go(Task),
     /// Enter the first node of a later turn of a loop.
-    Again(Looping),
+    Again(Box<Looping>),
     /// The statements that are left, with the value so far, and what follows them.
     List(Rc<Vec<Rc<StmtCode>>>, usize, Option<Value>, Env, End),
     /// The items of an array that are left, behind those that are there.
@@ -277,7 +357,7 @@ pub enum Move {
     /// The properties of an object literal that are left.
     Fields(ObjId, Rc<Vec<FieldCode>>, usize, Env),
     /// The arguments that are left, and then the call.
-    Arguments(Callee, Vec<Value>, Rc<Vec<Rc<ExprCode>>>, usize, Env),
+    Arguments(Box<Calling>),
     /// The variables of a `var` that are left, and what follows them.
     Vars(Rc<Vec<VarCode>>, usize, VarsEnd, Env),
     /// The clauses of a `switch` from a place on, of which the first with the value counts.

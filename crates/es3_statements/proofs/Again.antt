@@ -20,7 +20,7 @@ module _ {S : Type 0} (T : Table S) where
   turn_plan l (task.Reference x env) f h s z = absurd h
   turn_plan l (task.Labelled x ls env) f h s z = absurd h
   turn_plan l (task.Key k w) f h s z = absurd h
-  turn_plan l (task.Native n this vs env) f h s z = absurd h
+  turn_plan l (task.Native c) f h s z = absurd h
 
   pub turn_state : (l : Looping) (t : Task) (f : Frame) → BeginsTurn l t f → (s : Store) (z : S) → task_state T (plain_task t) s z ≡ z
   turn_state l (task.Value x env) f h s z = refl
@@ -28,4 +28,4 @@ module _ {S : Type 0} (T : Table S) where
   turn_state l (task.Reference x env) f h s z = absurd h
   turn_state l (task.Labelled x ls env) f h s z = absurd h
   turn_state l (task.Key k w) f h s z = absurd h
-  turn_state l (task.Native n this vs env) f h s z = absurd h
+  turn_state l (task.Native c) f h s z = absurd h

@@ -17,7 +17,7 @@ use crate::switch::after_clause;
 use caja_units::Memory;
 use es3_heap::{ObjId, Value};
 use es3_moves::code::{CatchCode, FinallyCode};
-use es3_moves::frame::{End, Env, Flow, Move};
+use es3_moves::frame::{End, Env, Flow, Handlers, Move};
 use es3_moves::texts::{Names, Owner, Scope, Texts};
 use std::alloc::Global;
 use std::rc::Rc;
@@ -32,9 +32,9 @@ pub fn close(alloc: Global, end: End, flow: Flow, texts: &mut Texts) -> Result<M
         End::Block => Ok(Move::End(flow)),
         End::Body => Ok(Move::End(body_end(flow))),
         End::New(object) => Ok(Move::End(new_end(object, flow))),
-        End::Try(handler, last, env) => after_try(alloc, handler, last, env, flow, texts),
-        End::Catch(last, env) => begin_finally(last, env, flow),
-        End::Finally(before) => Ok(Move::End(restored(before, flow))),
+        End::Try(handlers) => after_try(alloc, Box::into_inner(handlers), flow, texts),
+        End::Catch(last, env) => begin_finally(alloc, last, env, flow),
+        End::Finally(before) => Ok(Move::End(restored(Box::into_inner(before), flow))),
         End::Cases(cs, at, labels, env) => after_clause(cs, at, labels, env, flow),
     }
 }
@@ -86,26 +86,25 @@ fn made(object: ObjId, v: Value) -> Value
 /// What follows the block of a `try`: a `catch` takes what was thrown (ES3 12.14).
 fn after_try(
     alloc: Global,
-    handler: Option<Rc<CatchCode>>,
-    last: Option<Rc<FinallyCode>>,
-    env: Env,
+    handlers: Handlers,
     flow: Flow,
     texts: &mut Texts,
 ) -> Result<Move, Memory>
-    ensures plan { IfOk result (λ x. (h : Objects) → move_plan x (store_of h texts.new) ≡ st.after_try (maybe_catch handler) (maybe_finally last) (plain_env env) (plain_flow flow) (store_of h texts.old)) }
+    ensures plan { IfOk result (λ x. (h : Objects) → move_plan x (store_of h texts.new) ≡ st.after_try (maybe_catch handlers.handler) (maybe_finally handlers.last) (plain_env handlers.env) (plain_flow flow) (store_of h texts.old)) }
     ensures small { IfOk result (λ x. size x < 20) }
 {
+    let Handlers { handler, last, env } = handlers;
     match handler {
         Some(handler) => match flow {
             Flow::Threw(v) => begin_catch(alloc, &handler, last, env, v, texts),
-            Flow::Gave(v) => begin_finally(last, env, Flow::Gave(v)),
-            Flow::Found(reference) => begin_finally(last, env, Flow::Found(reference)),
-            Flow::Normal(v) => begin_finally(last, env, Flow::Normal(v)),
-            Flow::Broke(jump, v) => begin_finally(last, env, Flow::Broke(jump, v)),
-            Flow::Continued(jump, v) => begin_finally(last, env, Flow::Continued(jump, v)),
-            Flow::Returned(v) => begin_finally(last, env, Flow::Returned(v)),
+            Flow::Gave(v) => begin_finally(alloc, last, env, Flow::Gave(v)),
+            Flow::Found(reference) => begin_finally(alloc, last, env, Flow::Found(reference)),
+            Flow::Normal(v) => begin_finally(alloc, last, env, Flow::Normal(v)),
+            Flow::Broke(jump, v) => begin_finally(alloc, last, env, Flow::Broke(jump, v)),
+            Flow::Continued(jump, v) => begin_finally(alloc, last, env, Flow::Continued(jump, v)),
+            Flow::Returned(v) => begin_finally(alloc, last, env, Flow::Returned(v)),
         },
-        None => begin_finally(last, env, flow),
+        None => begin_finally(alloc, last, env, flow),
     }
 }
 
@@ -122,7 +121,7 @@ fn begin_catch(
     ensures small { IfOk result (λ x. size x < 20) }
 {
     let body = handler.body.clone()?;
-    let outer = env.chain.clone()?;
+    let outer = env.chain().clone()?;
     let mut names = Names::new(alloc);
     names.put(&handler.name, v)?;
     let scope = Scope {
@@ -130,24 +129,25 @@ fn begin_catch(
         names,
     };
     let chain = texts.open_scope(alloc, scope, outer)?;
-    let inner = Env {
-        chain,
-        calls: env.calls,
-        by: env.by,
-        this: env.this,
-    };
+    let inner = env.within(alloc, chain)?;
     Ok(Move::List(body, 0, None, inner, End::Catch(last, env)))
 }
 
 /// The statements of a `finally`, if there is one, with how what stood before it ended (ES3 12.14).
-fn begin_finally(last: Option<Rc<FinallyCode>>, env: Env, flow: Flow) -> Result<Move, Memory>
+fn begin_finally(
+    alloc: Global,
+    last: Option<Rc<FinallyCode>>,
+    env: Env,
+    flow: Flow,
+) -> Result<Move, Memory>
     ensures plan { IfOk result (λ x. (s : Store) → move_plan x s ≡ st.finally_plan (maybe_finally last) (plain_env env) (plain_flow flow) s) }
     ensures small { IfOk result (λ x. size x < 19) }
 {
     match last {
         Some(last) => {
             let body = last.body.clone()?;
-            Ok(Move::List(body, 0, None, env, End::Finally(flow)))
+            let before = Box::new(alloc, flow)?;
+            Ok(Move::List(body, 0, None, env, End::Finally(before)))
         }
         None => Ok(Move::End(flow)),
     }

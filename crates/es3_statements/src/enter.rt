@@ -16,7 +16,9 @@ use es3_heap::Value;
 use es3_moves::code::{
     CaseCode, CatchCode, ExprCode, FinallyCode, FirstCode, StmtCode, TargetCode,
 };
-use es3_moves::frame::{Effect, End, Env, Flow, Frame, Labels, Looping, Move, Task, VarsEnd};
+use es3_moves::frame::{
+    Effect, End, Env, Flow, Frame, Handlers, Labels, Looping, Move, Task, VarsEnd,
+};
 use std::alloc::Global;
 use std::rc::Rc;
 
@@ -53,7 +55,7 @@ pub fn enter_stmt(
         StmtCode::Switch(e, cs) => enter_switch(alloc, e, cs, labels, env),
         StmtCode::Label(label, x) => enter_label(alloc, label, x, labels, env),
         StmtCode::Throw(e) => enter_value(e, Effect::ToThrew, env),
-        StmtCode::Try(xs, handler, last) => enter_try(xs, handler, last, env),
+        StmtCode::Try(xs, handler, last) => enter_try(alloc, xs, handler, last, env),
         StmtCode::Function(_) => Ok(Move::End(Flow::Normal(None))),
     }
 }
@@ -123,14 +125,15 @@ fn enter_while(
 {
     let e = e.clone()?;
     let x = x.clone()?;
-    begin_test(Looping {
+    let looping = Looping {
         test: Some(e),
         update: None,
         body: x,
         acc: None,
         labels: shared_labels(alloc, labels)?,
         env,
-    })
+    };
+    begin_test(Box::new(alloc, looping)?)
 }
 
 /// `do` .. `while` (ES3 12.6.1).
@@ -145,14 +148,15 @@ fn enter_do(
 {
     let e = e.clone()?;
     let x = x.clone()?;
-    begin_body(Looping {
+    let looping = Looping {
         test: Some(e),
         update: None,
         body: x,
         acc: None,
         labels: shared_labels(alloc, labels)?,
         env,
-    })
+    };
+    begin_body(Box::new(alloc, looping)?)
 }
 
 /// An expression of a `for`, if it has one.
@@ -181,24 +185,22 @@ fn enter_for(
     let update = expression_of(u)?;
     let body = x.clone()?;
     let labels = shared_labels(alloc, labels)?;
-    begin_for(
-        first,
-        Looping {
-            test,
-            update,
-            body,
-            acc: None,
-            labels,
-            env,
-        },
-    )
+    let looping = Looping {
+        test,
+        update,
+        body,
+        acc: None,
+        labels,
+        env,
+    };
+    begin_for(first, Box::new(alloc, looping)?)
 }
 
 /// What stands before the test of a `for`, and then the test (ES3 12.6.3).
 #[tactic(auto, using(es3_moves::proofs::Rows::view_first_var))]
-fn begin_for(first: &FirstCode, l: Looping) -> Result<Move, Memory>
-    requires { l.acc ≡ None }
-    ensures { IfOk result (λ m. (s : Store) → move_plan m s ≡ st.for_first (plain_first first.now) (plain_loop l) (plain_labels l.labels.value) (plain_env l.env) s) }
+fn begin_for(first: &FirstCode, l: Box<Looping>) -> Result<Move, Memory>
+    requires { l.value.acc ≡ None }
+    ensures { IfOk result (λ m. (s : Store) → move_plan m s ≡ st.for_first (plain_first first.now) (plain_loop l.value) (plain_labels l.value.labels.value) (plain_env l.value.env) s) }
 {
     match first {
         FirstCode::None => begin_test(l),
@@ -307,6 +309,7 @@ fn finally_of(last: &Option<Rc<FinallyCode>>) -> Result<Option<Rc<FinallyCode>>,
 
 /// `try` (ES3 12.14).
 fn enter_try(
+    alloc: Global,
     xs: &Rc<Vec<Rc<StmtCode>>>,
     handler: &Option<Rc<CatchCode>>,
     last: &Option<Rc<FinallyCode>>,
@@ -318,5 +321,11 @@ fn enter_try(
     let handler = catch_of(handler)?;
     let last = finally_of(last)?;
     let outer = env.copy()?;
-    Ok(Move::List(xs, 0, None, env, End::Try(handler, last, outer)))
+    let handlers = Handlers {
+        handler,
+        last,
+        env: outer,
+    };
+    let end = End::Try(Box::new(alloc, handlers)?);
+    Ok(Move::List(xs, 0, None, env, end))
 }

@@ -29,13 +29,13 @@ use std::rc::Rc;
 
 /// The next key, if there is one left.
 #[tactic(auto, using(crate::proofs::Places::names_more, crate::proofs::Places::names_end))]
-fn next_key(mut w: Keyed) -> Result<Move, Memory>
-    ensures plan { IfOk result (λ x. (s : Store) → move_plan x s ≡ keys_of w s) }
+fn next_key(mut w: Box<Keyed>) -> Result<Move, Memory>
+    ensures plan { IfOk result (λ x. (s : Store) → move_plan x s ≡ keys_of w.value s) }
     ensures small { IfOk result (λ x. size x < 9) }
 {
     let at = w.at;
     if at >= w.keys.len() {
-        return Ok(Move::End(Flow::Normal(w.acc)));
+        return Ok(Move::End(Flow::Normal(w.acc.take())));
     }
     let key = w.keys[at].clone()?;
     w.at = at + 1;
@@ -43,11 +43,12 @@ fn next_key(mut w: Keyed) -> Result<Move, Memory>
 }
 
 /// What follows the body, by how it ended: the next key, or the end of the loop.
-pub fn after_key(mut w: Keyed, flow: Flow) -> Result<Move, Memory>
+pub fn after_key(mut w: Box<Keyed>, flow: Flow) -> Result<Move, Memory>
     ensures plan { IfOk result (λ x. (s : Store) → move_plan x s ≡ moves.resume (frame.KeyNext w) (plain_flow flow) s) }
     ensures small { IfOk result (λ x. size x < 9) }
 {
-    match turned(&w.labels, w.acc.take(), flow) {
+    let acc = w.acc.take();
+    match turned(&w.labels, acc, flow) {
         Turn::Turns(v) => {
             w.acc = v;
             next_key(w)
@@ -57,8 +58,8 @@ pub fn after_key(mut w: Keyed, flow: Flow) -> Result<Move, Memory>
 }
 
 /// The body, once a key is written.
-fn begin_body(w: Keyed) -> Result<Move, Memory>
-    ensures plan { IfOk result (λ x. (s : Store) → move_plan x s ≡ body_of w s) }
+fn begin_body(w: Box<Keyed>) -> Result<Move, Memory>
+    ensures plan { IfOk result (λ x. (s : Store) → move_plan x s ≡ body_of w.value s) }
     ensures small { IfOk result (λ x. size x < 18) }
 {
     let body = w.body.clone()?;
@@ -71,7 +72,7 @@ pub fn write_key(
     alloc: Global,
     reference: &Ref,
     k: &Rc<Units>,
-    w: Keyed,
+    w: Box<Keyed>,
     h: &mut Heap,
     texts: &mut Texts,
 ) -> Result<Move, Memory>
@@ -84,11 +85,11 @@ pub fn write_key(
 }
 
 /// What is done once it is known what a key is written to.
-pub fn key_target(k: Rc<Units>, w: Keyed, reference: Ref, h: &Heap) -> Result<Move, Memory>
-    ensures plan { IfOk result (λ x. (s : Store) → s.heap ≡ h.now → move_plan x s ≡ target_of k.value w (plain_ref reference) s) }
+pub fn key_target(k: Rc<Units>, w: Box<Keyed>, reference: Ref, h: &Heap) -> Result<Move, Memory>
+    ensures plan { IfOk result (λ x. (s : Store) → s.heap ≡ h.now → move_plan x s ≡ target_of k.value w.value (plain_ref reference) s) }
     ensures small { IfOk result (λ x. size x < 24) }
 {
-    let noted = note::of_member(Touch::Set, &reference, w.env.by, h)?;
+    let noted = note::of_member(Touch::Set, &reference, w.env.by(), h)?;
     Ok(note::tell(noted, After::WriteKey(reference, k, w)))
 }
 
@@ -96,11 +97,11 @@ pub fn key_target(k: Rc<Units>, w: Keyed, reference: Ref, h: &Heap) -> Result<Mo
 pub fn begin_key(
     alloc: Global,
     k: Rc<Units>,
-    w: Keyed,
+    w: Box<Keyed>,
     h: &mut Heap,
     texts: &mut Texts,
 ) -> Result<Move, Memory>
-    ensures plan { IfOk result (λ x. move_plan x (store_of h.new texts.new) ≡ key_of k.value w (store_of h.old texts.old)) }
+    ensures plan { IfOk result (λ x. move_plan x (store_of h.new texts.new) ≡ key_of k.value w.value (store_of h.old texts.old)) }
     ensures small { IfOk result (λ x. size x < 18) }
 {
     if h.has(w.object, &k) {
@@ -114,16 +115,16 @@ pub fn begin_key(
 fn write_to_target(
     alloc: Global,
     k: Rc<Units>,
-    w: Keyed,
+    w: Box<Keyed>,
     h: &mut Heap,
     texts: &mut Texts,
 ) -> Result<Move, Memory>
-    ensures plan { IfOk result (λ x. move_plan x (store_of h.new texts.new) ≡ written_of k.value w (store_of h.old texts.old)) }
+    ensures plan { IfOk result (λ x. move_plan x (store_of h.new texts.new) ≡ written_of k.value w.value (store_of h.old texts.old)) }
     ensures small { IfOk result (λ x. size x < 18) }
 {
     match &*w.target {
         TargetCode::Var(name) => {
-            let reference = reference(&w.env.chain, name, h, texts)?;
+            let reference = reference(w.env.chain(), name, h, texts)?;
             write_key(alloc, &reference, &k, w, h, texts)
         }
         TargetCode::Expr(e) => {
@@ -177,7 +178,7 @@ pub fn for_keys(
         return throw_error(alloc, b"no object", h, texts);
     };
     let keys = shared_keys(alloc, h.keys(object)?)?;
-    next_key(Keyed {
+    let keyed = Keyed {
         object,
         keys: Rc::new(alloc, keys)?,
         at: 0,
@@ -186,5 +187,6 @@ pub fn for_keys(
         acc: None,
         labels,
         env,
-    })
+    };
+    next_key(Box::new(alloc, keyed)?)
 }

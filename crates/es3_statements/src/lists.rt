@@ -37,7 +37,7 @@ fn kept(end: &End, acc: Option<Value>) -> Option<Value>
         End::Block => acc,
         End::Body => acc,
         End::New(_) => acc,
-        End::Try(_, _, _) => acc,
+        End::Try(_) => acc,
         End::Catch(_, _) => acc,
         End::Finally(_) => acc,
         End::Cases(_, _, _, _) => acc,

@@ -80,11 +80,12 @@ pub fn turned(labels: &Labels, acc: Option<Value>, flow: Flow) -> Turn
 }
 
 /// What follows the body of a loop: the next turn, or the end of the loop.
-pub fn after_turn(mut l: Looping, flow: Flow) -> Move
+pub fn after_turn(mut l: Box<Looping>, flow: Flow) -> Move
     ensures plan { (s : Store) → move_plan result s ≡ moves.resume (frame.LoopNext l) (plain_flow flow) s }
     ensures small { size result < 24 }
 {
-    match turned(&l.labels, l.acc.take(), flow) {
+    let acc = l.acc.take();
+    match turned(&l.labels, acc, flow) {
         Turn::Turns(v) => {
             l.acc = v;
             Move::Again(l)
@@ -133,8 +134,8 @@ fn unlabelled(label: &Rc<Units>, flow: Flow) -> Flow
 }
 
 /// The body of a loop, and what follows it.
-pub fn begin_body(l: Looping) -> Result<Move, Memory>
-    ensures plan { IfOk result (λ x. (s : Store) → move_plan x s ≡ st.loop_body (plain_loop l) l.acc (plain_labels l.labels.value) (plain_env l.env) s) }
+pub fn begin_body(l: Box<Looping>) -> Result<Move, Memory>
+    ensures plan { IfOk result (λ x. (s : Store) → move_plan x s ≡ st.loop_body (plain_loop l.value) l.value.acc (plain_labels l.value.labels.value) (plain_env l.value.env) s) }
     ensures small { IfOk result (λ x. size x < 18) }
 {
     let body = l.body.clone()?;
@@ -143,8 +144,8 @@ pub fn begin_body(l: Looping) -> Result<Move, Memory>
 }
 
 /// The test of a loop, or its body where it has none.
-pub fn begin_test(l: Looping) -> Result<Move, Memory>
-    ensures plan { IfOk result (λ x. (s : Store) → move_plan x s ≡ st.at_test (plain_loop l) l.acc (plain_labels l.labels.value) (plain_env l.env) s) }
+pub fn begin_test(l: Box<Looping>) -> Result<Move, Memory>
+    ensures plan { IfOk result (λ x. (s : Store) → move_plan x s ≡ st.at_test (plain_loop l.value) l.value.acc (plain_labels l.value.labels.value) (plain_env l.value.env) s) }
     ensures small { IfOk result (λ x. size x < 18) }
 {
     match &l.test {
@@ -158,20 +159,20 @@ pub fn begin_test(l: Looping) -> Result<Move, Memory>
 }
 
 /// What is done with the value of a loop's test.
-pub fn tested(v: &Value, l: Looping) -> Result<Move, Memory>
-    ensures plan { IfOk result (λ x. (s : Store) → move_plan x s ≡ st.loop_test (plain_loop l) l.acc (plain_labels l.labels.value) (plain_env l.env) v.now s) }
+pub fn tested(v: &Value, mut l: Box<Looping>) -> Result<Move, Memory>
+    ensures plan { IfOk result (λ x. (s : Store) → move_plan x s ≡ st.loop_test (plain_loop l.value) l.value.acc (plain_labels l.value.labels.value) (plain_env l.value.env) v.now s) }
     ensures small { IfOk result (λ x. size x < 24) }
 {
     if to_bool(v) {
         begin_body(l)
     } else {
-        Ok(Move::End(Flow::Normal(l.acc)))
+        Ok(Move::End(Flow::Normal(l.acc.take())))
     }
 }
 
 /// The first node of a later turn of a loop, and what follows it: what is done after a turn, or else the test, or else the body.
-pub fn first_node(l: Looping) -> Result<Move, Memory>
-    ensures plan { IfOk result (λ x. IsFirst l x) }
+pub fn first_node(l: Box<Looping>) -> Result<Move, Memory>
+    ensures plan { IfOk result (λ x. IsFirst l.value x) }
     ensures small { IfOk result (λ x. size x < 18) }
 {
     match &l.update {
@@ -188,9 +189,9 @@ pub fn first_node(l: Looping) -> Result<Move, Memory>
 }
 
 /// The first node of a later turn of a loop after whose turns nothing is done.
-fn first_test(l: Looping) -> Result<Move, Memory>
-    requires { l.update ≡ None }
-    ensures plan { IfOk result (λ x. IsFirst l x) }
+fn first_test(l: Box<Looping>) -> Result<Move, Memory>
+    requires { l.value.update ≡ None }
+    ensures plan { IfOk result (λ x. IsFirst l.value x) }
     ensures small { IfOk result (λ x. size x < 18) }
 {
     match &l.test {

@@ -60,13 +60,9 @@ fn begin_with(
         owner: Owner::WithObject(object),
         names: Names::new(alloc),
     };
-    let chain = texts.open_scope(alloc, scope, env.chain)?;
-    let inner = Env {
-        chain,
-        calls: env.calls,
-        by: env.by,
-        this: env.this,
-    };
+    let outer = env.chain().clone()?;
+    let chain = texts.open_scope(alloc, scope, outer)?;
+    let inner = env.within(alloc, chain)?;
     Ok(Move::Go(Task::Effect(body, inner)))
 }
 

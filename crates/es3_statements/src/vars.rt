@@ -79,7 +79,7 @@ pub fn next_var(
         None => end_vars(end),
         Some(found) => {
             let Valued { name, value, next } = found;
-            let reference = reference(&env.chain, &name, h, texts)?;
+            let reference = reference(env.chain(), &name, h, texts)?;
             let inner = env.copy()?;
             Ok(Move::Enter(
                 Task::Value(value, inner),

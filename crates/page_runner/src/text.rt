@@ -23,7 +23,7 @@ const GLOBAL: Attrs = Attrs {
 
 /// No natives. A text has no function but those that it makes itself, so what they answer is never asked for.
 #[derive(Drop)]
-struct NoNatives;
+pub struct NoNatives;
 
 impl Natives for NoNatives {
     ghost State = { ⊤ };

@@ -1,57 +1,19 @@
 //! Programs that are run.
 
-ghost use Rattle.es3_heap.specs.declared.value.Value.TheVariants.{Undefined};
-ghost use Rattle.es3_language.specs.Natives.{throw_reply};
-
 use crate::lists::alone;
 use caja_num::Whole;
 use caja_units::{Memory, Units};
 use es3_convert::out_of_memory;
-use es3_heap::{Class, Heap, Proto, Stop, Tag, Value};
-use es3_language::Touch;
+use es3_heap::{Class, Heap, Proto, Stop, Value};
 use es3_machine::Machine;
-use es3_moves::natives::{Answer, Completion, Natives};
+use es3_moves::natives::Completion;
 use es3_tree::{
     BinOp, Expr, Func, Name, Program, Stmt, make_assign, make_binary, make_call, make_function,
     make_return,
 };
+use page_runner::NoNatives;
 use std::alloc::Global;
 use std::test::Fail;
-
-/// Natives of which there are none.
-#[derive(Drop)]
-struct Silent;
-
-impl Natives for Silent {
-    ghost State = { Unit {0} };
-
-    ghost state = { λ s. tt };
-
-    ghost table = { record { answer = λ w by this vs h z. record { reply = throw_reply Undefined; heap = h; state = z }; touch = λ i z. z } };
-
-    fn call(
-        &mut self,
-        _alloc: Global,
-        _h: &mut Heap,
-        _which: u32,
-        _by: u32,
-        _this: &Value,
-        _args: &[Value],
-    ) -> Answer {
-        Answer::Throw(Value::Undefined)
-    }
-
-    fn touch(
-        &mut self,
-        _alloc: Global,
-        _by: u32,
-        _what: Touch,
-        _on: Tag,
-        _key: Option<&Units>,
-    ) -> Result<(), Memory> {
-        Ok(())
-    }
-}
 
 /// A machine that is about to run a program.
 fn started(alloc: Global, heap: &mut Heap, body: Vec<Stmt>) -> Result<Machine, Memory> {
@@ -66,7 +28,7 @@ fn started(alloc: Global, heap: &mut Heap, body: Vec<Stmt>) -> Result<Machine, M
 fn run(alloc: Global, body: Vec<Stmt>, steps: u64) -> Result<(Completion, u64), Stop> {
     let mut heap = Heap::new(alloc).map_err(out_of_memory)?;
     let mut machine = started(alloc, &mut heap, body).map_err(out_of_memory)?;
-    machine.run(&mut heap, &mut Silent, steps)
+    machine.run(&mut heap, &mut NoNatives, steps)
 }
 
 fn name(alloc: Global, text: &str) -> Result<Name, Memory> {
@@ -154,14 +116,14 @@ fn called_from_outside(alloc: Global, argument: Value) -> Result<(Completion, u6
     let function = identity(alloc).map_err(out_of_memory)?;
     let body = alone(alloc, Stmt::Expr(function)).map_err(out_of_memory)?;
     let mut machine = started(alloc, &mut heap, body).map_err(out_of_memory)?;
-    let (completion, _taken) = machine.run(&mut heap, &mut Silent, 100)?;
+    let (completion, _taken) = machine.run(&mut heap, &mut NoNatives, 100)?;
     let function = match completion {
         Completion::Normal(v) => v,
         Completion::Thrown(v) => v,
     };
     let args = alone(alloc, argument).map_err(out_of_memory)?;
     machine.start_call(function, Value::Undefined, args, 0);
-    machine.run(&mut heap, &mut Silent, 2)
+    machine.run(&mut heap, &mut NoNatives, 2)
 }
 
 #[test]

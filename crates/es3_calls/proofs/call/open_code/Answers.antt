@@ -1,7 +1,9 @@
-use Rattle.std.proofs.Common.{◌≡◌, ◌<◌, ◌∷◌, true, false, length, arith, ap, ◌∙◌}
+use Rattle.std.proofs.Common.{◌≡◌, ◌<◌, ◌∷◌, true, false, length, arith, ap, ◌∙◌, None}
 use Rattle.std.specs.Prelude.{nat_lt, slice_get}
 use Rattle.std.proofs.lemmas.Bool.Decides.{nat_tests}
 use Rattle.es3_heap.specs.declared.value.Value.TheVariants.{Obj}
+use Rattle.es3_language.specs.Tasks.{Env}
+use Rattle.es3_language.specs.Lists.{list}
 use Rattle.es3_moves.specs.Code.{plain_stmts, stmts_at}
 use Rattle.es3_moves.specs.Where.{plain_chain}
 use Rattle.es3_moves.specs.Texts.{store_of, funcs_of, plain_code, plain_codes, plain_owner, plain_scopes}
@@ -33,4 +35,6 @@ returns-clause-plan c =
     let around = ap plain_chain c.in_ok-outer.ensures.cases in
     let declared = ap funcs_of c.deref-2.ensures.value ∙ c.in_ok-functions.ensures ∙ ap funcs_of c.deref.ensures.value in
     let store = c.in_ok-chain.ensures.store ∙ entered_alike s (plain_code x) f c.args.args.items c.args.by (plain_owner scope.owner) scope.names (plain_chain outer) (funcs_of c.deref-2.result.now) c.in_ok-scope.ensures around declared in
-    code_opened (slice_get (plain_codes t) c.args.c) (plain_code x) c.args.by f c.args.this c.args.args.items c.args.calls s (store_of c.open_call.new.h c.open_call.new.texts) (keeps c.end_of.result) (stmts_at c.in_ok-body.body.value.items 0) (plain_chain c.in_ok-chain.chain.value) (end_plan c.end_of.result) (call_end c.args.made) (code_here t.codes.items c.args.c x within c.index-code.ensures) few c.end_of.ensures.kept (ap (λ b. plain_stmts b.items) c.in_ok-body.ensures.cases) (c.in_ok-chain.ensures.chain ∙ ap (λ o. n ∷ o) around) store c.end_of.ensures.plan
+    let stands = λ (w : Env). list (keeps c.end_of.result) (stmts_at c.in_ok-body.body.value.items 0) None w (store_of c.open_call.new.h c.open_call.new.texts) (end_plan c.end_of.result) in
+    ap stands c.in_ok-env.ensures
+    ∙ code_opened (slice_get (plain_codes t) c.args.c) (plain_code x) c.args.by f c.args.this c.args.args.items c.args.calls s (store_of c.open_call.new.h c.open_call.new.texts) (keeps c.end_of.result) (stmts_at c.in_ok-body.body.value.items 0) (plain_chain c.in_ok-chain.chain.value) (end_plan c.end_of.result) (call_end c.args.made) (code_here t.codes.items c.args.c x within c.index-code.ensures) few c.end_of.ensures.kept (ap (λ b. plain_stmts b.items) c.in_ok-body.ensures.cases) (c.in_ok-chain.ensures.chain ∙ ap (λ o. n ∷ o) around) store c.end_of.ensures.plan
