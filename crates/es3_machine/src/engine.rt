@@ -42,7 +42,10 @@ fn how_ended(now: Move) -> Outcome
     match now {
         Move::End(flow) => Outcome::Ended(flow),
         Move::Stop(fault) => Outcome::Stopped(fault),
-        _ => Outcome::Spent,
+        other => {
+            other.let_go();
+            Outcome::Spent
+        }
     }
 }
 

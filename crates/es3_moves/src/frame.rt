@@ -368,3 +368,23 @@ pub enum Move {
     End(Flow),
     Stop(Fault),
 }
+
+// A drop of an enum in place is a case of the proof for each of its variants, and of theirs; in these calls it is one step.
+
+fn let_go<T: Drop>(value: T) {
+    let _ = value;
+}
+
+impl Flow {
+    /// Lets it go.
+    pub fn let_go(self) {
+        let_go(self);
+    }
+}
+
+impl Move {
+    /// Lets it go.
+    pub fn let_go(self) {
+        let_go(self);
+    }
+}

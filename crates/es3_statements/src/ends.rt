@@ -46,11 +46,10 @@ fn body_end(flow: Flow) -> Flow
     match flow {
         Flow::Returned(v) => Flow::Gave(v),
         Flow::Threw(v) => Flow::Threw(v),
-        Flow::Gave(_v) => Flow::Gave(Value::Undefined),
-        Flow::Found(_reference) => Flow::Gave(Value::Undefined),
-        Flow::Normal(_v) => Flow::Gave(Value::Undefined),
-        Flow::Broke(_jump, _v) => Flow::Gave(Value::Undefined),
-        Flow::Continued(_jump, _v) => Flow::Gave(Value::Undefined),
+        other => {
+            other.let_go();
+            Flow::Gave(Value::Undefined)
+        }
     }
 }
 
@@ -61,11 +60,10 @@ fn new_end(object: ObjId, flow: Flow) -> Flow
     match flow {
         Flow::Returned(v) => Flow::Gave(made(object, v)),
         Flow::Threw(v) => Flow::Threw(v),
-        Flow::Gave(_v) => Flow::Gave(Value::Obj(object)),
-        Flow::Found(_reference) => Flow::Gave(Value::Obj(object)),
-        Flow::Normal(_v) => Flow::Gave(Value::Obj(object)),
-        Flow::Broke(_jump, _v) => Flow::Gave(Value::Obj(object)),
-        Flow::Continued(_jump, _v) => Flow::Gave(Value::Obj(object)),
+        other => {
+            other.let_go();
+            Flow::Gave(Value::Obj(object))
+        }
     }
 }
 
@@ -97,12 +95,7 @@ fn after_try(
     match handler {
         Some(handler) => match flow {
             Flow::Threw(v) => begin_catch(alloc, &handler, last, env, v, texts),
-            Flow::Gave(v) => begin_finally(alloc, last, env, Flow::Gave(v)),
-            Flow::Found(reference) => begin_finally(alloc, last, env, Flow::Found(reference)),
-            Flow::Normal(v) => begin_finally(alloc, last, env, Flow::Normal(v)),
-            Flow::Broke(jump, v) => begin_finally(alloc, last, env, Flow::Broke(jump, v)),
-            Flow::Continued(jump, v) => begin_finally(alloc, last, env, Flow::Continued(jump, v)),
-            Flow::Returned(v) => begin_finally(alloc, last, env, Flow::Returned(v)),
+            other => begin_finally(alloc, last, env, other),
         },
         None => begin_finally(alloc, last, env, flow),
     }
@@ -145,8 +138,8 @@ fn begin_finally(
 {
     match last {
         Some(last) => {
-            let body = last.body.clone()?;
             let before = Box::new(alloc, flow)?;
+            let body = last.body.clone()?;
             Ok(Move::List(body, 0, None, env, End::Finally(before)))
         }
         None => Ok(Move::End(flow)),
@@ -159,11 +152,9 @@ fn restored(before: Flow, flow: Flow) -> Flow
 {
     match flow {
         Flow::Normal(_v) => before,
-        Flow::Gave(v) => Flow::Gave(v),
-        Flow::Found(reference) => Flow::Found(reference),
-        Flow::Broke(jump, v) => Flow::Broke(jump, v),
-        Flow::Continued(jump, v) => Flow::Continued(jump, v),
-        Flow::Returned(v) => Flow::Returned(v),
-        Flow::Threw(v) => Flow::Threw(v),
+        other => {
+            before.let_go();
+            other
+        }
     }
 }
