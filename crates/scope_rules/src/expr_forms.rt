@@ -17,6 +17,7 @@ ghost use Rattle.scope_rules.specs.Resolve.{
   unary_of,
 };
 
+use crate::together::joined;
 use crate::words::is_arguments;
 use caja_units::{Memory, Units};
 use cajita_tree::{
@@ -126,7 +127,7 @@ pub(crate) fn index(
         → Gives object view.expr x → Gives key view.expr y
         → Gives result view.expr (both (λ o k. tree.read o (tree.computed k)) x y) }
 {
-    let (Some(object), Some(key)) = (object?, key?) else {
+    let Some((object, key)) = joined(object, key)? else {
         return Ok(None);
     };
     let key = make_computed(alloc, key)?;
@@ -143,7 +144,7 @@ pub(crate) fn call(
         → Gives callee view.expr x → Gives arguments (λ v. view.of_exprs v.items) y
         → Gives result view.expr (both called x y) }
 {
-    let (Some(callee), Some(arguments)) = (callee?, arguments?) else {
+    let Some((callee, arguments)) = joined(callee, arguments)? else {
         return Ok(None);
     };
     Ok(Some(callee.called(alloc, arguments)?))
@@ -159,7 +160,7 @@ pub(crate) fn new(
         → Gives constructor view.expr x → Gives arguments (λ v. view.of_exprs v.items) y
         → Gives result view.expr (both tree.new x y) }
 {
-    let (Some(constructor), Some(arguments)) = (constructor?, arguments?) else {
+    let Some((constructor, arguments)) = joined(constructor, arguments)? else {
         return Ok(None);
     };
     Ok(Some(make_new(alloc, constructor, arguments)?))
@@ -224,7 +225,7 @@ pub(crate) fn assign(
         → Gives written view.target x → Gives value view.expr y
         → Gives result view.expr (both (tree.assign op) x y) }
 {
-    let (Some(written), Some(value)) = (written?, value?) else {
+    let Some((written, value)) = joined(written, value)? else {
         return Ok(None);
     };
     Ok(Some(make_assign(alloc, op, written, value)?))
@@ -241,7 +242,7 @@ pub(crate) fn binary(
         → Gives left view.expr x → Gives right view.expr y
         → Gives result view.expr (both (tree.binary op) x y) }
 {
-    let (Some(left), Some(right)) = (left?, right?) else {
+    let Some((left, right)) = joined(left, right)? else {
         return Ok(None);
     };
     Ok(Some(make_binary(alloc, op, left, right)?))
@@ -257,7 +258,7 @@ pub(crate) fn and(
         → Gives left view.expr x → Gives right view.expr y
         → Gives result view.expr (both tree.and x y) }
 {
-    let (Some(left), Some(right)) = (left?, right?) else {
+    let Some((left, right)) = joined(left, right)? else {
         return Ok(None);
     };
     Ok(Some(make_and(alloc, left, right)?))
@@ -273,7 +274,7 @@ pub(crate) fn or(
         → Gives left view.expr x → Gives right view.expr y
         → Gives result view.expr (both tree.or x y) }
 {
-    let (Some(left), Some(right)) = (left?, right?) else {
+    let Some((left, right)) = joined(left, right)? else {
         return Ok(None);
     };
     Ok(Some(make_or(alloc, left, right)?))
@@ -289,7 +290,7 @@ pub(crate) fn comma(
         → Gives left view.expr x → Gives right view.expr y
         → Gives result view.expr (both tree.comma x y) }
 {
-    let (Some(left), Some(right)) = (left?, right?) else {
+    let Some((left, right)) = joined(left, right)? else {
         return Ok(None);
     };
     Ok(Some(make_comma(alloc, left, right)?))
@@ -306,7 +307,7 @@ pub(crate) fn conditional(
         → Gives test view.expr x → Gives yes view.expr y → Gives no view.expr z
         → Gives result view.expr (three tree.choice x y z) }
 {
-    let (Some(test), Some(yes), Some(no)) = (test?, yes?, no?) else {
+    let Some(((test, yes), no)) = joined(joined(test, yes), no)? else {
         return Ok(None);
     };
     Ok(Some(make_cond(alloc, test, yes, no)?))

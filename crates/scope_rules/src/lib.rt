@@ -28,6 +28,7 @@ mod once;
 mod resolve;
 mod scope;
 mod stmt_forms;
+mod together;
 mod words;
 
 use caja_units::{Memory, Units};

@@ -6,6 +6,7 @@ ghost use Rattle.cajita_tree.specs.View as view;
 ghost use Rattle.scope_rules.specs.Gives.{Gives};
 ghost use Rattle.scope_rules.specs.Resolve.{one, both, three, four};
 
+use crate::together::joined;
 use caja_units::{Memory, Units};
 use cajita_tree::{
     CCase, CExpr, CFirst, CStmt, CVarItem, Target, make_block, make_do, make_first_var, make_for,
@@ -61,7 +62,7 @@ pub(crate) fn branch(
         → Gives test view.expr x → Gives then view.stmt y → Gives otherwise view.of_else z
         → Gives result view.stmt (three tree.branch x y z) }
 {
-    let (Some(test), Some(then), Some(otherwise)) = (test?, then?, otherwise?) else {
+    let Some(((test, then), otherwise)) = joined(joined(test, then), otherwise)? else {
         return Ok(None);
     };
     Ok(Some(make_if(alloc, test, then, otherwise)?))
@@ -77,7 +78,7 @@ pub(crate) fn while_loop(
         → Gives test view.expr x → Gives body view.stmt y
         → Gives result view.stmt (both tree.while_loop x y) }
 {
-    let (Some(test), Some(body)) = (test?, body?) else {
+    let Some((test, body)) = joined(test, body)? else {
         return Ok(None);
     };
     Ok(Some(make_while(alloc, test, body)?))
@@ -93,7 +94,7 @@ pub(crate) fn do_loop(
         → Gives body view.stmt x → Gives test view.expr y
         → Gives result view.stmt (both tree.do_loop x y) }
 {
-    let (Some(body), Some(test)) = (body?, test?) else {
+    let Some((body, test)) = joined(body, test)? else {
         return Ok(None);
     };
     Ok(Some(make_do(alloc, body, test)?))
@@ -139,7 +140,8 @@ pub(crate) fn for_loop(
         → Gives start view.first x → Gives test view.of_maybe_expr y → Gives update view.of_maybe_expr z → Gives body view.stmt w
         → Gives result view.stmt (four tree.for_loop x y z w) }
 {
-    let (Some(start), Some(test), Some(update), Some(body)) = (start?, test?, update?, body?) else {
+    let Some(((start, test), (update, body))) = joined(joined(start, test), joined(update, body))?
+    else {
         return Ok(None);
     };
     Ok(Some(make_for(alloc, start, test, update, body)?))
@@ -156,7 +158,7 @@ pub(crate) fn for_in(
         → Gives target view.target x → Gives object view.expr y → Gives body view.stmt z
         → Gives result view.stmt (three tree.for_in x y z) }
 {
-    let (Some(target), Some(object), Some(body)) = (target?, object?, body?) else {
+    let Some(((target, object), body)) = joined(joined(target, object), body)? else {
         return Ok(None);
     };
     Ok(Some(make_for_in(alloc, target, object, body)?))
@@ -185,7 +187,7 @@ pub(crate) fn switch(
         → Gives value view.expr x → Gives cases (λ v. view.of_cases v.items) y
         → Gives result view.stmt (both tree.switch x y) }
 {
-    let (Some(value), Some(cases)) = (value?, cases?) else {
+    let Some((value, cases)) = joined(value, cases)? else {
         return Ok(None);
     };
     Ok(Some(make_switch(value, cases)))
@@ -262,7 +264,7 @@ pub(crate) fn try_catch(
         → Gives body (λ v. view.of_stmts v.items) x → Gives handler view.of_handler y → Gives last view.of_maybe_block z
         → Gives result view.stmt (three tree.try x y z) }
 {
-    let (Some(body), Some(handler), Some(last)) = (body?, handler?, last?) else {
+    let Some(((body, handler), last)) = joined(joined(body, handler), last)? else {
         return Ok(None);
     };
     Ok(Some(make_try(body, handler, last)))
