@@ -1,7 +1,7 @@
 //! Texts of ES3: lists of 16-bit units (ECMA-262 third edition, 4.3.16 and 8.4).
 #![tactic(auto)]
 
-ghost use Rattle.std.specs.Prelude.{◌≡◌, ℕ, ◌+◌, ◌<◌, ◌≤◌, ◌^◌, ◌↔◌, ◌++◌, [], List, length, slice_get, vec_len, IsTrue, IfOk, IfSome, IfNone, OnOk, OnErr, All};
+ghost use Rattle.std.specs.Prelude.{◌≡◌, ℕ, ◌+◌, ◌<◌, ◌≤◌, ◌^◌, ◌↔◌, ◌++◌, [], List, length, slice_get, vec_len, IsTrue, IfOk, IfSome, OnOk, OnErr, All};
 ghost use Rattle.std.specs.List.{slice_range};
 ghost use Rattle.caja_units.specs.Units.{same_units, comes_before, first_place, is_hidden};
 ghost use Rattle.caja_units.specs.Utf8.{decoded, Decodes, utf8_of};

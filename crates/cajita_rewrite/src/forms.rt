@@ -1,7 +1,7 @@
 ghost use Rattle.std.specs.Prelude.{◌≡◌, IfOk};
 ghost use Rattle.es3_tree.specs.Tree as tree;
-ghost use Rattle.es3_tree.specs.View.{expr, text as text_in, of_exprs, of_items};
-ghost use Rattle.cajita_rewrite.specs.Rewrite.{runtime_call as call_of_runtime, runtime_name, imports_name, result_name};
+ghost use Rattle.es3_tree.specs.View.{expr, text as text_in, of_exprs};
+ghost use Rattle.cajita_rewrite.specs.Rewrite.{runtime_call as call_of_runtime};
 
 use caja_units::{Memory, Units};
 use es3_tree::{Expr, Name, make_call, make_dot};

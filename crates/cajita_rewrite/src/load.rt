@@ -3,7 +3,7 @@ ghost use Rattle.es3_tree.specs.Tree as tree;
 ghost use Rattle.es3_tree.specs.View.{stmt, of_stmts, of_maybe_expr};
 ghost use Rattle.cajita_tree.specs.Tree as source;
 ghost use Rattle.cajita_tree.specs.View.{body as body_view};
-ghost use Rattle.cajita_rewrite.specs.Rewrite.{declares, import_stmts, joined, load_stmt, result_name, result_stmts, rewritten};
+ghost use Rattle.cajita_rewrite.specs.Rewrite.{declares, import_stmts, joined, load_stmt, result_name, rewritten};
 ghost use Rattle.cajita_rewrite.specs.Given.{IsGiven};
 
 use crate::forms::{

@@ -1,6 +1,6 @@
 //! The items of an array (ES3 15.4).
 
-ghost use Rattle.std.specs.Prelude.{◌≡◌, ◌<◌, ◌^◌, IfOk};
+ghost use Rattle.std.specs.Prelude.{◌≡◌, ◌<◌, IfOk};
 ghost use Rattle.caja_units.specs.Index.{number_units};
 ghost use Rattle.es3_convert.specs.Conversions.{array_items};
 ghost use Rattle.es3_heap.specs.Properties.{own, value_of, length_key, length_of};

@@ -9,7 +9,7 @@ ghost use Rattle.es3_tokens.specs.Characters.{is_digit, is_hex, begins};
 ghost use Rattle.es3_tokens.specs.Numbers.{is_x};
 ghost use Rattle.es3_convert.specs.Answers.{Answers};
 ghost use Rattle.es3_convert.specs.Conversions.{plain_number};
-ghost use Rattle.es3_convert.specs.Numbers.{is_blank, trimmed, decimal, hexadecimal, begins_hexadecimal, unsigned, literal, text_number, found_number, primitive_number, number_of};
+ghost use Rattle.es3_convert.specs.Numbers.{is_blank, trimmed, decimal, hexadecimal, unsigned, literal, text_number, found_number, primitive_number, number_of};
 
 use crate::out_of_memory;
 use crate::text::{push_text, to_text};

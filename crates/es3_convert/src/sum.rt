@@ -1,6 +1,5 @@
 //! Primitive values (ES3 9.1), and `+` (11.6.1).
 
-ghost use Rattle.std.specs.Prelude.{◌≡◌};
 ghost use Rattle.es3_convert.specs.Answers.{Answers};
 ghost use Rattle.es3_convert.specs.Conversions.{primitive_of, plain_number, number_or_fault, sum_of_numbers, sum_of_primitives, sum_of};
 

@@ -3,7 +3,7 @@
 ghost use Rattle.std.specs.Prelude.{◌≡◌, ◌<◌, ◌^◌, IfOk, OnOk, OnErr, codes, pos, vec_len, ◌++◌, ◌∷◌, []};
 ghost use Rattle.caja_units.specs.Index.{array_index, number_units};
 ghost use Rattle.es3_heap.specs.Properties.{find, value_of, length_of, at_least, lengthened, written};
-ghost use Rattle.es3_heap.specs.Making.{bare, plain_object, length_property, array_object, error_object, item_properties, proto_id};
+ghost use Rattle.es3_heap.specs.Making.{bare, plain_object, length_property, array_object, error_object, item_properties};
 
 use crate::slots;
 use crate::slots::Slot;

@@ -14,7 +14,7 @@ pub struct ObjId {
 }
 
 impl Model for ObjId {
-    ghost use Rattle.std.specs.Prelude.{ℕ, ◌<◌, ◌^◌};
+    ghost use Rattle.std.specs.Prelude.{ℕ, ◌<◌};
 
     ghost Value = { ℕ };
 

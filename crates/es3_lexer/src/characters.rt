@@ -1,6 +1,6 @@
 //! The classes of characters (ES3 7.2, 7.3, 7.6, 7.8).
 
-ghost use Rattle.std.specs.Prelude.{◌≡◌, ◌<◌, Bool, true, ℕ, nat_eq};
+ghost use Rattle.std.specs.Prelude.{◌≡◌, ◌<◌, true, nat_eq};
 ghost use Rattle.std.specs.Char.{digit_value};
 ghost use Rattle.es3_tokens.specs.Characters as class;
 

@@ -1,10 +1,9 @@
 //! The tokens of a source.
 
-ghost use Rattle.std.specs.Prelude.{◌≡◌, ◌+◌, ◌<◌, ◌^◌, ◌++◌, ◌∷◌, [], true, false, length, Some, OnOk, IfOk, nat_eq};
+ghost use Rattle.std.specs.Prelude.{◌≡◌, ◌+◌, ◌<◌, ◌^◌, ◌++◌, ◌∷◌, [], true, false, length, Some, OnOk, IfOk};
 ghost use Rattle.std.specs.List.{sum_by};
 ghost use Rattle.std.specs.Char.{len_utf8};
 ghost use Rattle.std.specs.Str.{chars};
-ghost use Rattle.es3_tokens.specs.Characters.{begins};
 ghost use Rattle.es3_tokens.specs.Cut.{cut, cut_chars as chars_spec, cut_from};
 ghost use Rattle.es3_lexer.specs.Views.{refusal_view};
 ghost use Rattle.es3_lexer.specs.Answers.{Gives, Cuts, refusal_of};

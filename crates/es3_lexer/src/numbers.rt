@@ -1,7 +1,7 @@
 //! Numbers (ES3 7.8.3).
 
 ghost use Rattle.std.specs.Prelude.{◌≡◌, ◌≤◌, ◌<◌, ◌^◌, Bool, true, length, drop, min};
-ghost use Rattle.std.specs.List.{prefix_len, list_all, All};
+ghost use Rattle.std.specs.List.{prefix_len, All};
 ghost use Rattle.std.specs.Str.Parse.{digits_value};
 ghost use Rattle.es3_tokens.specs.Characters.{is_digit as digit_spec, is_hex as hex_spec, begins};
 ghost use Rattle.es3_tokens.specs.Numbers.{number as number_spec, is_x};

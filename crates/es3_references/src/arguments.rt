@@ -1,6 +1,6 @@
 //! The arguments objects of calls, whose items have the values of parameters (ES3 10.1.8).
 
-ghost use Rattle.std.specs.Prelude.{◌≡◌, ◌+◌, ◌++◌, ◌<◌, ◌^◌, IfOk, OnOk, is_some, length, map, position, option_map, slice_get};
+ghost use Rattle.std.specs.Prelude.{◌≡◌, ◌+◌, ◌<◌, IfOk, OnOk, is_some, length, map, position, option_map, slice_get};
 ghost use Rattle.caja_units.specs.Units.{same_units};
 ghost use Rattle.caja_units.specs.Index.{number_units};
 ghost use Rattle.es3_heap.specs.Objects.{hidden_attrs};

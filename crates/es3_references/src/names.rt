@@ -1,6 +1,6 @@
 //! What a name stands for (ES3 10.1.4, 11.1.2).
 
-ghost use Rattle.std.specs.Prelude.{◌≡◌, codes, IfOk, is_some, slice_get};
+ghost use Rattle.std.specs.Prelude.{◌≡◌, IfOk, is_some, slice_get};
 ghost use Rattle.es3_language.specs.Store.{name_value, scope_at};
 ghost use Rattle.es3_language.specs.References as r;
 ghost use Rattle.es3_moves.specs.Where.{plain_chain, plain_ref};

@@ -5,7 +5,7 @@
 //! doesn't divide.
 #![tactic(auto)]
 
-ghost use Rattle.std.specs.Prelude.{◌≡◌, ℕ, suc, ◌+◌, ◌≤◌, ◌<◌, List, ◌∷◌, ◌++◌, Bool, true, false, Option, Some, None, map, take, length};
+ghost use Rattle.std.specs.Prelude.{◌≡◌, ℕ, suc, ◌+◌, ◌≤◌, ◌<◌, List, ◌∷◌, ◌++◌, Bool, true, false, Some, None, map, take, length};
 ghost use Rattle.std.specs.List.{prefix_len, list_any, All};
 ghost use Rattle.es3_tree.specs.Token.{Token};
 ghost use Rattle.es3_tokens.specs.Characters.{is_white, is_line, is_letter, is_digit, is_part, is_quote};
@@ -14,7 +14,7 @@ ghost use Rattle.es3_tokens.specs.Tokens.{named};
 ghost use Rattle.es3_tokens.specs.Numbers.{number};
 ghost use Rattle.es3_tokens.specs.Texts.{body};
 ghost use Rattle.es3_tokens.specs.Gaps.{comment_end, not_line};
-ghost use Rattle.es3_tokens.specs.Refusals.{open_comment, escape_in_name};
+ghost use Rattle.es3_tokens.specs.Refusals.{open_comment};
 ghost use Rattle.es3_tokens.specs.Cut.{point, skip, accept, refuse, cut, cut_from};
 ghost use Rattle.es3_tokens.specs.Steps.{number_step, text_step, sign_step, begins_sign, is_sign};
 ghost use Rattle.es3_tokens.specs.Back.{spelling, IsToken, stays, spelled, AllStay, tokens_in};
