@@ -1,3 +1,4 @@
+pub mod Boxed
 pub mod Ending
 pub mod FrameViews
 pub mod Kept

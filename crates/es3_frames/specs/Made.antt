@@ -6,4 +6,4 @@ use Rattle.es3_frames.specs.declared.parts.Part.{Part}
 
 abbrev pub made_of : Option Part → Option E
 made_of None = None
-made_of (Some x) = Some (expr x.tree)
+made_of (Some x) = Some (expr x.tree.value)

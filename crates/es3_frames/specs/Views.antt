@@ -1,7 +1,8 @@
 -- What the values of the reader say.
 use Rattle.std.specs.Prelude.{◌≡◌, ℕ, Bool, true, false, [], ◌∷◌, map, Option, Some, None}
 use Rattle.es3_tree.specs.Token.{punct}
-use Rattle.es3_tree.specs.PlacedView.{word, words, expr, stmt, first, of_maybe_expr}
+use Rattle.es3_tree.specs.PlacedView.{word, words, expr, stmt, first}
+use Rattle.es3_frames.specs.Boxed.{of_maybe_boxed}
 use Rattle.es3_frames.specs.Lists.{field_of, item_of}
 pub use Rattle.es3_frames.specs.FrameViews.{opened_of, head_of, waiting_of, bracket_of, root_of, outer_of, body_of, frame_of}
 use Rattle.es3_lexer.specs.Tables.{punct_number}
@@ -28,7 +29,7 @@ after_of a.Start k = m.start k
 after_of a.Brace k = m.await (open_brace ∷ []) (m.start k)
 after_of (a.Params h) k = m.params (head_of h) k
 after_of a.ForOpen k = m.for_open k
-after_of (a.Clauses x) k = m.clauses (expr x.tree) k
+after_of (a.Clauses x) k = m.clauses (expr x.tree.value) k
 after_of (a.CatchName ss) k = m.catch_name (map stmt ss.list.items) k
 
 -- one more token before these
@@ -38,10 +39,10 @@ behind n x k = m.await (punct n ∷ []) (after_of x k)
 
 abbrev pub state_of : State → m.Stack → m.State
 state_of s.Want k = m.want k
-state_of (s.Have x) k = m.have (expr x.tree) k
-state_of (s.Past x) k = m.past (expr x.tree) k
+state_of (s.Have x) k = m.have (expr x.tree.value) k
+state_of (s.Past x) k = m.past (expr x.tree.value) k
 state_of (s.Listed o xs) k = m.listed (opened_of o) (map expr xs.list.items) k
-state_of (s.Member x) k = m.member (expr x.tree) k
+state_of (s.Member x) k = m.member (expr x.tree.value) k
 state_of (s.Key fs) k = m.key (map field_of fs.list.items) k
 state_of (s.Func d at) k = m.func d at k
 state_of (s.Params h) k = m.params (head_of h) k
@@ -49,16 +50,16 @@ state_of (s.Param h ps) k = m.param (head_of h) (words ps.items) k
 state_of (s.ParamEnd h ps) k = m.param_end (head_of h) (words ps.items) k
 state_of s.Start k = m.start k
 state_of (s.Begun n) k = m.begun (word n) k
-state_of (s.Ended x) k = m.ended (stmt x.tree) k
-state_of (s.Closing x) k = m.closing (stmt x.tree) k
+state_of (s.Ended x) k = m.ended (stmt x.tree.value) k
+state_of (s.Closing x) k = m.closing (stmt x.tree.value) k
 state_of (s.Item h is) k = m.item h (map item_of is.list.items) k
 state_of (s.ItemEnd h n is) k = m.item_end h (word n) (map item_of is.list.items) k
 state_of s.ForOpen k = m.for_open k
-state_of (s.ForSecond x) k = m.for_second (first x.tree) k
-state_of (s.ForThird x y) k = m.for_third (first x.tree) (of_maybe_expr y.tree) k
+state_of (s.ForSecond x) k = m.for_second (first x.tree.value) k
+state_of (s.ForThird x y) k = m.for_third (first x.tree.value) (of_maybe_boxed y.tree) k
 state_of (s.Returned at) k = m.returned at k
 state_of (s.Jumped b at) k = m.jumped b at k
-state_of (s.Clauses x) k = m.clauses (expr x.tree) k
+state_of (s.Clauses x) k = m.clauses (expr x.tree.value) k
 state_of (s.Tried ss) k = m.tried (map stmt ss.list.items) k
 state_of (s.Caught ss n hs) k = m.caught (map stmt ss.list.items) (word n) (map stmt hs.list.items) k
 state_of (s.CatchName ss) k = m.catch_name (map stmt ss.list.items) k

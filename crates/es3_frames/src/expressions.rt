@@ -10,35 +10,33 @@ ghost use Rattle.es3_frames.specs.Made.{made_of};
 use crate::parts::{Part, above};
 use caja_units::Memory;
 use es3_expr::{Join, is_target};
-use es3_tree::{UnOp, make_cond, make_index, make_new, make_step, make_unary};
+use es3_tree::{Expr, UnOp};
 use std::alloc::Global;
 
 impl Part {
     /// A `new` without arguments (ES3 11.2.2).
+    #[tactic(auto, using(es3_tree::proofs::PlacedRows::placed_new))]
     pub fn constructed(alloc: Global, constructor: Part) -> Result<Part, Memory>
-        ensures { IfOk result (λ x. expr x.tree ≡ placed.new (expr constructor.tree) placed.no_exprs) }
+        ensures { IfOk result (λ x. expr x.tree.value ≡ placed.new (expr constructor.tree.value) placed.no_exprs) }
     {
         let depth = above(constructor.depth);
-        let tree = make_new(alloc, constructor.tree, Vec::new(alloc))?;
-        Ok(Part { tree, depth })
+        Part::made(alloc, Expr::New(constructor.tree, Vec::new(alloc)), depth)
     }
 
     /// The member of an object by a key between brackets (ES3 11.2.1).
     pub fn indexed(alloc: Global, object: Part, key: Part) -> Result<Part, Memory>
-        ensures { IfOk result (λ x. expr x.tree ≡ placed.index (expr object.tree) (expr key.tree)) }
+        ensures { IfOk result (λ x. expr x.tree.value ≡ placed.index (expr object.tree.value) (expr key.tree.value)) }
     {
         let depth = above(object.depth.max(key.depth));
-        let tree = make_index(alloc, object.tree, key.tree)?;
-        Ok(Part { tree, depth })
+        Part::made(alloc, Expr::Index(object.tree, key.tree), depth)
     }
 
     /// A prefix operator that is no `++` or `--`, which begins at the byte `at`, and its operand (ES3 11.4).
     pub fn prefixed(alloc: Global, op: UnOp, operand: Part, at: u32) -> Result<Part, Memory>
-        ensures { IfOk result (λ x. expr x.tree ≡ placed.unary op (expr operand.tree) at) }
+        ensures { IfOk result (λ x. expr x.tree.value ≡ placed.unary op (expr operand.tree.value) at) }
     {
         let depth = above(operand.depth);
-        let tree = make_unary(alloc, op, operand.tree, at)?;
-        Ok(Part { tree, depth })
+        Part::made(alloc, Expr::Unary(op, operand.tree, at), depth)
     }
 
     /// `++` where `up`, else `--`, before its operand where `before`, else behind it; none where the operand can't be assigned to
@@ -51,31 +49,36 @@ impl Part {
     ) -> Result<Option<Part>, Memory>
         ensures { IfOk result (λ x.
             made_of x
-            ≡ (if is_target_spec (expr operand.tree) then Some (placed.step up before (expr operand.tree)) else None)) }
+            ≡ (if is_target_spec (expr operand.tree.value) then Some (placed.step up before (expr operand.tree.value)) else None)) }
     {
         if !is_target(&operand.tree) {
             return Ok(None);
         }
         let depth = above(operand.depth);
-        let tree = make_step(alloc, up, before, operand.tree)?;
-        Ok(Some(Part { tree, depth }))
+        let step = Expr::Step(up, before, operand.tree);
+        Ok(Some(Part::made(alloc, step, depth)?))
     }
 
     /// An operator between two parts (ES3 11.5 to 11.11, 11.13, 11.14).
     pub fn joined(alloc: Global, join: Join, left: Part, right: Part) -> Result<Part, Memory>
-        ensures { IfOk result (λ x. expr x.tree ≡ joined_spec (join_of join) (expr left.tree) (expr right.tree)) }
+        ensures { IfOk result (λ x. expr x.tree.value ≡ joined_spec (join_of join) (expr left.tree.value) (expr right.tree.value)) }
     {
         let depth = above(left.depth.max(right.depth));
-        let tree = join.make(alloc, left.tree, right.tree)?;
-        Ok(Part { tree, depth })
+        let tree = match join {
+            Join::Op(op) => Expr::Binary(op, left.tree, right.tree),
+            Join::And => Expr::And(left.tree, right.tree),
+            Join::Or => Expr::Or(left.tree, right.tree),
+            Join::Assign(op) => Expr::Assign(op, left.tree, right.tree),
+            Join::Comma => Expr::Comma(left.tree, right.tree),
+        };
+        Part::made(alloc, tree, depth)
     }
 
     /// A conditional (ES3 11.12).
     pub fn chosen(alloc: Global, test: Part, yes: Part, no: Part) -> Result<Part, Memory>
-        ensures { IfOk result (λ x. expr x.tree ≡ placed.choice (expr test.tree) (expr yes.tree) (expr no.tree)) }
+        ensures { IfOk result (λ x. expr x.tree.value ≡ placed.choice (expr test.tree.value) (expr yes.tree.value) (expr no.tree.value)) }
     {
         let depth = above(test.depth.max(yes.depth).max(no.depth));
-        let tree = make_cond(alloc, test.tree, yes.tree, no.tree)?;
-        Ok(Part { tree, depth })
+        Part::made(alloc, Expr::Cond(test.tree, yes.tree, no.tree), depth)
     }
 }

@@ -5,6 +5,7 @@
 //! (src/limit.rt).
 #![tactic(auto)]
 
+mod boxed;
 pub mod brackets;
 pub mod expressions;
 pub mod frames;

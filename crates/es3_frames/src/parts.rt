@@ -3,12 +3,14 @@
 ghost use Rattle.std.specs.Prelude.{◌≡◌, ◌+◌, ◌++◌, ◌∷◌, [], List, map, IfOk, None};
 ghost use Rattle.es3_tree.specs.Tree as t;
 ghost use Rattle.es3_tree.specs.Placed as placed;
-ghost use Rattle.es3_tree.specs.PlacedView.{word, expr, stmt, first, loop_target, of_exprs, of_fields, of_stmts, of_items, of_cases, of_maybe_expr, of_handler};
+ghost use Rattle.es3_tree.specs.PlacedView.{word, expr, stmt, first, loop_target, of_exprs, of_fields, of_stmts, of_items, of_cases, of_handler};
 ghost use Rattle.es3_grammar.specs.Plain.{deep};
 ghost use Rattle.es3_grammar.specs.Sums.{capped};
+ghost use Rattle.es3_frames.specs.Boxed.{of_maybe_boxed};
 ghost use Rattle.es3_frames.specs.Lists.{field_of, item_of, clause_of};
 ghost use Rattle.es3_grammar.specs.Grammar.{has_default as default_spec};
 
+use crate::boxed::{boxed, unboxed};
 use caja_units::Memory;
 use es3_tree::{Case, Expr, First, Loop, Name, Stmt, VarItem};
 use std::alloc::Global;
@@ -16,41 +18,41 @@ use std::alloc::Global;
 /// An expression.
 #[derive(Drop)]
 pub struct Part {
-    pub tree: Expr,
+    pub tree: Box<Expr>,
     pub depth: u32,
-    ghost right: { depth ≡ capped (deep t.expr (expr tree)) },
+    ghost right: { depth ≡ capped (deep t.expr (expr tree.value)) },
 }
 
 /// A statement.
 #[derive(Drop)]
 pub struct Done {
-    pub tree: Stmt,
+    pub tree: Box<Stmt>,
     pub depth: u32,
-    ghost right: { depth ≡ capped (deep t.stmt (stmt tree)) },
+    ghost right: { depth ≡ capped (deep t.stmt (stmt tree.value)) },
 }
 
 /// An expression that may be absent.
 #[derive(Drop)]
 pub struct Maybe {
-    pub tree: Option<Expr>,
+    pub tree: Option<Box<Expr>>,
     pub depth: u32,
-    ghost right: { depth ≡ capped (deep t.maybe_expr (of_maybe_expr tree)) },
+    ghost right: { depth ≡ capped (deep t.maybe_expr (of_maybe_boxed tree)) },
 }
 
 /// The first part of the head of a `for` (ES3 12.6.3).
 #[derive(Drop)]
 pub struct Front {
-    pub tree: First,
+    pub tree: Box<First>,
     pub depth: u32,
-    ghost right: { depth ≡ capped (deep t.first (first tree)) },
+    ghost right: { depth ≡ capped (deep t.first (first tree.value)) },
 }
 
 /// What the head of a `for` .. `in` writes to (ES3 12.6.4).
 #[derive(Drop)]
 pub struct Target {
-    pub tree: Loop,
+    pub tree: Box<Loop>,
     pub depth: u32,
-    ghost right: { depth ≡ capped (deep t.loop_target (loop_target tree)) },
+    ghost right: { depth ≡ capped (deep t.loop_target (loop_target tree.value)) },
 }
 
 /// A `catch`, if there is one (ES3 12.14).
@@ -111,12 +113,32 @@ pub fn above(depth: u32) -> u32
 }
 
 impl Part {
-    /// An expression without parts (ES3 11.1).
-    pub fn leaf(tree: Expr) -> Part
-        requires { deep t.expr (expr tree) ≡ 1 }
-        ensures { result.tree ≡ tree }
+    /// An expression that is so deep.
+    pub fn made(alloc: Global, tree: Expr, depth: u32) -> Result<Part, Memory>
+        requires { depth ≡ capped (deep t.expr (expr tree)) }
+        ensures { IfOk result (λ x. x.tree.value ≡ tree) }
     {
-        Part { tree, depth: 1 }
+        let tree = boxed(alloc, tree)?;
+        Ok(Part { tree, depth })
+    }
+
+    /// An expression without parts (ES3 11.1).
+    pub fn leaf(alloc: Global, tree: Expr) -> Result<Part, Memory>
+        requires { deep t.expr (expr tree) ≡ 1 }
+        ensures { IfOk result (λ x. x.tree.value ≡ tree) }
+    {
+        Part::made(alloc, tree, 1)
+    }
+}
+
+impl Done {
+    /// A statement that is so deep.
+    pub fn made(alloc: Global, tree: Stmt, depth: u32) -> Result<Done, Memory>
+        requires { depth ≡ capped (deep t.stmt (stmt tree)) }
+        ensures { IfOk result (λ s. s.tree.value ≡ tree) }
+    {
+        let tree = boxed(alloc, tree)?;
+        Ok(Done { tree, depth })
     }
 }
 
@@ -133,7 +155,7 @@ impl Maybe {
 
     /// This expression.
     pub fn some(part: Part) -> Maybe
-        ensures { of_maybe_expr result.tree ≡ placed.some_expr (expr part.tree) }
+        ensures { of_maybe_boxed result.tree ≡ placed.some_expr (expr part.tree.value) }
     {
         Maybe {
             tree: Some(part.tree),
@@ -155,10 +177,10 @@ impl Exprs {
 
     /// With one more at the end.
     pub fn with(self, part: Part) -> Result<Exprs, Memory>
-        ensures { IfOk result (λ xs. map expr xs.list.items ≡ map expr self.list.items ++ expr part.tree ∷ []) }
+        ensures { IfOk result (λ xs. map expr xs.list.items ≡ map expr self.list.items ++ expr part.tree.value ∷ []) }
     {
         let Exprs { mut list, depth } = self;
-        list.push(part.tree)?;
+        list.push(Box::into_inner(part.tree))?;
         Ok(Exprs {
             list,
             depth: depth.max(part.depth),
@@ -179,10 +201,10 @@ impl Stmts {
 
     /// With one more at the end.
     pub fn with(self, done: Done) -> Result<Stmts, Memory>
-        ensures { IfOk result (λ xs. map stmt xs.list.items ≡ map stmt self.list.items ++ stmt done.tree ∷ []) }
+        ensures { IfOk result (λ xs. map stmt xs.list.items ≡ map stmt self.list.items ++ stmt done.tree.value ∷ []) }
     {
         let Stmts { mut list, depth } = self;
-        list.push(done.tree)?;
+        list.push(Box::into_inner(done.tree))?;
         Ok(Stmts {
             list,
             depth: depth.max(done.depth),
@@ -204,10 +226,10 @@ impl Fields {
     /// With one more at the end.
     pub fn with(self, key: Name, value: Part) -> Result<Fields, Memory>
         ensures { IfOk result (λ xs.
-            map field_of xs.list.items ≡ map field_of self.list.items ++ (word key, expr value.tree) ∷ []) }
+            map field_of xs.list.items ≡ map field_of self.list.items ++ (word key, expr value.tree.value) ∷ []) }
     {
         let Fields { mut list, depth } = self;
-        list.push((key, value.tree))?;
+        list.push((key, Box::into_inner(value.tree)))?;
         Ok(Fields {
             list,
             depth: depth.max(value.depth),
@@ -229,12 +251,12 @@ impl Items {
     /// With one more at the end.
     pub fn with(self, name: Name, value: Maybe) -> Result<Items, Memory>
         ensures { IfOk result (λ xs.
-            map item_of xs.list.items ≡ map item_of self.list.items ++ (word name, of_maybe_expr value.tree) ∷ []) }
+            map item_of xs.list.items ≡ map item_of self.list.items ++ (word name, of_maybe_boxed value.tree) ∷ []) }
     {
         let Items { mut list, depth } = self;
         list.push(VarItem {
             name,
-            value: value.tree,
+            value: unboxed(value.tree),
         })?;
         Ok(Items {
             list,
@@ -259,16 +281,17 @@ impl Clauses {
     pub fn with(self, test: Maybe, body: Stmts) -> Result<Clauses, Memory>
         ensures { IfOk result (λ xs.
             map clause_of xs.list.items
-            ≡ map clause_of self.list.items ++ (of_maybe_expr test.tree, map stmt body.list.items) ∷ []) }
+            ≡ map clause_of self.list.items ++ (of_maybe_boxed test.tree, map stmt body.list.items) ∷ []) }
     {
         let Clauses {
             mut list,
             has_default,
             depth,
         } = self;
-        let is_default = test.tree.is_none();
+        let tree = unboxed(test.tree);
+        let is_default = tree.is_none();
         list.push(Case {
-            test: test.tree,
+            test: tree,
             body: body.list,
         })?;
         Ok(Clauses {

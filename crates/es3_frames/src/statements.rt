@@ -2,17 +2,18 @@
 
 ghost use Rattle.std.specs.Prelude.{◌≡◌, map, IfOk};
 ghost use Rattle.es3_tree.specs.Placed as placed;
-ghost use Rattle.es3_tree.specs.PlacedView.{word, word_of, expr, stmt, first, loop_target, of_maybe_expr, of_handler};
+ghost use Rattle.es3_tree.specs.PlacedView.{word, word_of, expr, stmt, first, loop_target, of_handler};
 ghost use Rattle.es3_grammar.specs.Frames.{stmts_of, items_of, cases_of};
 ghost use Rattle.es3_grammar.specs.Machine.{jump as jump_spec, caught_made};
+ghost use Rattle.es3_frames.specs.Boxed.{of_maybe_boxed};
 ghost use Rattle.es3_frames.specs.Lists.{item_of, clause_of};
 
+use crate::boxed::{boxed, unboxed};
 use crate::parts::{Clauses, Done, Front, Handler, Items, Maybe, Part, Stmts, Target, above};
 use caja_units::Memory;
 use es3_tree::{
-    First, Loop, Name, Stmt, make_block, make_break, make_continue, make_do, make_first_var,
-    make_for, make_for_in, make_if, make_label, make_return, make_switch, make_try, make_var,
-    make_while, make_with,
+    First, Loop, Name, Stmt, make_block, make_break, make_continue, make_first_var, make_return,
+    make_switch, make_try, make_var,
 };
 use std::alloc::Global;
 
@@ -41,124 +42,111 @@ impl Handler {
 
 impl Front {
     /// The head of a `for` begins with a semicolon (ES3 12.6.3).
-    pub fn none() -> Front
-        ensures { first result.tree ≡ placed.no_first }
+    pub fn none(alloc: Global) -> Result<Front, Memory>
+        ensures { IfOk result (λ x. first x.tree.value ≡ placed.no_first) }
     {
-        Front {
-            tree: First::None,
-            depth: 0,
-        }
+        let tree = boxed(alloc, First::None)?;
+        Ok(Front { tree, depth: 0 })
     }
 
     /// The head of a `for` begins with variables (ES3 12.6.3).
     #[tactic(auto, using(crate::proofs::Rows::items_mapped))]
-    pub fn variables(items: Items) -> Front
-        ensures { first result.tree ≡ placed.first_var (items_of (map item_of items.list.items)) }
+    pub fn variables(alloc: Global, items: Items) -> Result<Front, Memory>
+        ensures { IfOk result (λ x. first x.tree.value ≡ placed.first_var (items_of (map item_of items.list.items))) }
     {
         let depth = items.depth;
-        Front {
-            tree: make_first_var(items.list),
-            depth,
-        }
+        let tree = boxed(alloc, make_first_var(items.list))?;
+        Ok(Front { tree, depth })
     }
 
     /// The head of a `for` begins with an expression (ES3 12.6.3).
-    pub fn expression(part: Part) -> Front
-        ensures { first result.tree ≡ placed.first_expr (expr part.tree) }
+    pub fn expression(alloc: Global, part: Part) -> Result<Front, Memory>
+        ensures { IfOk result (λ x. first x.tree.value ≡ placed.first_expr (expr part.tree.value)) }
     {
-        Front {
-            tree: First::Expr(part.tree),
-            depth: part.depth,
-        }
+        let depth = part.depth;
+        let tree = boxed(alloc, First::Expr(Box::into_inner(part.tree)))?;
+        Ok(Front { tree, depth })
     }
 }
 
 impl Target {
     /// The head of a `for` .. `in` declares this variable (ES3 12.6.4).
-    pub fn variable(name: Name) -> Target
-        ensures { loop_target result.tree ≡ placed.loop_var (word name) }
+    pub fn variable(alloc: Global, name: Name) -> Result<Target, Memory>
+        ensures { IfOk result (λ x. loop_target x.tree.value ≡ placed.loop_var (word name)) }
     {
-        Target {
-            tree: Loop::Var(name),
-            depth: 0,
-        }
+        let tree = boxed(alloc, Loop::Var(name))?;
+        Ok(Target { tree, depth: 0 })
     }
 
     /// The head of a `for` .. `in` writes to what this expression names (ES3 12.6.4).
-    pub fn expression(part: Part) -> Target
-        ensures { loop_target result.tree ≡ placed.loop_expr (expr part.tree) }
+    pub fn expression(alloc: Global, part: Part) -> Result<Target, Memory>
+        ensures { IfOk result (λ x. loop_target x.tree.value ≡ placed.loop_expr (expr part.tree.value)) }
     {
-        Target {
-            tree: Loop::Target(part.tree),
-            depth: part.depth,
-        }
+        let depth = part.depth;
+        let tree = boxed(alloc, Loop::Target(Box::into_inner(part.tree)))?;
+        Ok(Target { tree, depth })
     }
 }
 
 impl Done {
     /// The empty statement (ES3 12.3).
-    pub fn empty() -> Done
-        ensures { stmt result.tree ≡ placed.empty }
+    pub fn empty(alloc: Global) -> Result<Done, Memory>
+        ensures { IfOk result (λ s. stmt s.tree.value ≡ placed.empty) }
     {
-        Done {
-            tree: Stmt::Empty,
-            depth: 1,
-        }
+        Done::made(alloc, Stmt::Empty, 1)
     }
 
     /// A block (ES3 12.1).
     #[tactic(auto, using(crate::proofs::Rows::stmts_mapped))]
-    pub fn block(body: Stmts) -> Done
-        ensures { stmt result.tree ≡ placed.block (stmts_of (map stmt body.list.items)) }
+    pub fn block(alloc: Global, body: Stmts) -> Result<Done, Memory>
+        ensures { IfOk result (λ s. stmt s.tree.value ≡ placed.block (stmts_of (map stmt body.list.items))) }
     {
         let depth = above(body.depth);
-        Done {
-            tree: make_block(body.list),
-            depth,
-        }
+        Done::made(alloc, make_block(body.list), depth)
     }
 
     /// A `var` (ES3 12.2).
     #[tactic(auto, using(crate::proofs::Rows::items_mapped))]
-    pub fn variables(items: Items) -> Done
-        ensures { stmt result.tree ≡ placed.var (items_of (map item_of items.list.items)) }
+    pub fn variables(alloc: Global, items: Items) -> Result<Done, Memory>
+        ensures { IfOk result (λ s. stmt s.tree.value ≡ placed.var (items_of (map item_of items.list.items))) }
     {
         let depth = above(items.depth);
-        Done {
-            tree: make_var(items.list),
-            depth,
-        }
+        Done::made(alloc, make_var(items.list), depth)
     }
 
     /// An `if` with no `else` (ES3 12.5).
+    #[tactic(auto, using(es3_tree::proofs::PlacedRows::placed_if))]
     pub fn branch(alloc: Global, test: Part, then: Done) -> Result<Done, Memory>
-        ensures { IfOk result (λ s. stmt s.tree ≡ placed.branch (expr test.tree) (stmt then.tree) placed.no_stmt) }
+        ensures { IfOk result (λ s. stmt s.tree.value ≡ placed.branch (expr test.tree.value) (stmt then.tree.value) placed.no_stmt) }
     {
         let depth = above(test.depth.max(then.depth));
-        let tree = make_if(alloc, test.tree, then.tree, None)?;
-        Ok(Done { tree, depth })
+        let test = Box::into_inner(test.tree);
+        Done::made(alloc, Stmt::If(test, then.tree, None), depth)
     }
 
     /// An `if` with its `else` (ES3 12.5).
+    #[tactic(auto, using(es3_tree::proofs::PlacedRows::placed_if))]
     pub fn either(alloc: Global, test: Part, then: Done, otherwise: Done) -> Result<Done, Memory>
         ensures { IfOk result (λ s.
-            stmt s.tree ≡ placed.branch (expr test.tree) (stmt then.tree) (placed.some_stmt (stmt otherwise.tree))) }
+            stmt s.tree.value ≡ placed.branch (expr test.tree.value) (stmt then.tree.value) (placed.some_stmt (stmt otherwise.tree.value))) }
     {
         let depth = above(test.depth.max(then.depth).max(otherwise.depth));
-        let tree = make_if(alloc, test.tree, then.tree, Some(otherwise.tree))?;
-        Ok(Done { tree, depth })
+        let test = Box::into_inner(test.tree);
+        let tree = Stmt::If(test, then.tree, Some(otherwise.tree));
+        Done::made(alloc, tree, depth)
     }
 
     /// A `while` (ES3 12.6.2).
     pub fn while_loop(alloc: Global, test: Part, body: Done) -> Result<Done, Memory>
-        ensures { IfOk result (λ s. stmt s.tree ≡ placed.while_loop (expr test.tree) (stmt body.tree)) }
+        ensures { IfOk result (λ s. stmt s.tree.value ≡ placed.while_loop (expr test.tree.value) (stmt body.tree.value)) }
     {
         let depth = above(test.depth.max(body.depth));
-        let tree = make_while(alloc, test.tree, body.tree)?;
-        Ok(Done { tree, depth })
+        let test = Box::into_inner(test.tree);
+        Done::made(alloc, Stmt::While(test, body.tree), depth)
     }
 
     /// A `for` whose head has three parts (ES3 12.6.3).
+    #[tactic(auto, using(es3_tree::proofs::PlacedRows::placed_for))]
     pub fn for_loop(
         alloc: Global,
         start: Front,
@@ -167,8 +155,8 @@ impl Done {
         body: Done,
     ) -> Result<Done, Memory>
         ensures { IfOk result (λ s.
-            stmt s.tree
-            ≡ placed.for_loop (first start.tree) (of_maybe_expr test.tree) (of_maybe_expr update.tree) (stmt body.tree)) }
+            stmt s.tree.value
+            ≡ placed.for_loop (first start.tree.value) (of_maybe_boxed test.tree) (of_maybe_boxed update.tree) (stmt body.tree.value)) }
     {
         let depth = above(
             start
@@ -177,126 +165,119 @@ impl Done {
                 .max(update.depth)
                 .max(body.depth),
         );
-        let tree = make_for(alloc, start.tree, test.tree, update.tree, body.tree)?;
-        Ok(Done { tree, depth })
+        let start = Box::into_inner(start.tree);
+        let (test, update) = (unboxed(test.tree), unboxed(update.tree));
+        Done::made(alloc, Stmt::For(start, test, update, body.tree), depth)
     }
 
     /// A `for` .. `in` (ES3 12.6.4).
     pub fn for_in(alloc: Global, target: Target, object: Part, body: Done) -> Result<Done, Memory>
         ensures { IfOk result (λ s.
-            stmt s.tree ≡ placed.for_in (loop_target target.tree) (expr object.tree) (stmt body.tree)) }
+            stmt s.tree.value ≡ placed.for_in (loop_target target.tree.value) (expr object.tree.value) (stmt body.tree.value)) }
     {
         let depth = above(target.depth.max(object.depth).max(body.depth));
-        let tree = make_for_in(alloc, target.tree, object.tree, body.tree)?;
-        Ok(Done { tree, depth })
+        let target = Box::into_inner(target.tree);
+        let object = Box::into_inner(object.tree);
+        Done::made(alloc, Stmt::ForIn(target, object, body.tree), depth)
     }
 
     /// A `break`, where `breaks`, else a `continue`, that begins at the byte `at`, with its label if it has one (ES3 12.7, 12.8).
-    pub fn jump(breaks: bool, label: Option<Name>, at: u32) -> Done
-        ensures { stmt result.tree ≡ jump_spec breaks (word_of label) at }
+    pub fn jump(alloc: Global, breaks: bool, label: Option<Name>, at: u32) -> Result<Done, Memory>
+        ensures { IfOk result (λ s. stmt s.tree.value ≡ jump_spec breaks (word_of label) at) }
     {
-        let tree = if breaks {
-            make_break(label, at)
+        if breaks {
+            Done::made(alloc, make_break(label, at), 1)
         } else {
-            make_continue(label, at)
-        };
-        Done { tree, depth: 1 }
+            Done::made(alloc, make_continue(label, at), 1)
+        }
     }
 
     /// A `return` that begins at the byte `at`, with its value if it has one (ES3 12.9).
-    pub fn returned(value: Maybe, at: u32) -> Done
-        ensures { stmt result.tree ≡ placed.return (of_maybe_expr value.tree) at }
+    pub fn returned(alloc: Global, value: Maybe, at: u32) -> Result<Done, Memory>
+        ensures { IfOk result (λ s. stmt s.tree.value ≡ placed.return (of_maybe_boxed value.tree) at) }
     {
         let depth = above(value.depth);
-        Done {
-            tree: make_return(value.tree, at),
-            depth,
-        }
+        Done::made(alloc, make_return(unboxed(value.tree), at), depth)
     }
 
     /// A `with` that begins at the byte `at` (ES3 12.10).
     pub fn with_object(alloc: Global, object: Part, body: Done, at: u32) -> Result<Done, Memory>
-        ensures { IfOk result (λ s. stmt s.tree ≡ placed.with_object (expr object.tree) (stmt body.tree) at) }
+        ensures { IfOk result (λ s. stmt s.tree.value ≡ placed.with_object (expr object.tree.value) (stmt body.tree.value) at) }
     {
         let depth = above(object.depth.max(body.depth));
-        let tree = make_with(alloc, object.tree, body.tree, at)?;
-        Ok(Done { tree, depth })
+        let object = Box::into_inner(object.tree);
+        Done::made(alloc, Stmt::With(object, body.tree, at), depth)
     }
 
     /// A `switch` (ES3 12.11).
     #[tactic(auto, using(crate::proofs::Rows::cases_mapped))]
-    pub fn switch(value: Part, clauses: Clauses) -> Done
-        ensures { stmt result.tree ≡ placed.switch (expr value.tree) (cases_of (map clause_of clauses.list.items)) }
+    pub fn switch(alloc: Global, value: Part, clauses: Clauses) -> Result<Done, Memory>
+        ensures { IfOk result (λ s.
+            stmt s.tree.value ≡ placed.switch (expr value.tree.value) (cases_of (map clause_of clauses.list.items))) }
     {
         let depth = above(value.depth.max(clauses.depth));
-        Done {
-            tree: make_switch(value.tree, clauses.list),
-            depth,
-        }
+        let value = Box::into_inner(value.tree);
+        Done::made(alloc, make_switch(value, clauses.list), depth)
     }
 
     /// A statement with a label before it (ES3 12.12).
     pub fn label(alloc: Global, name: Name, body: Done) -> Result<Done, Memory>
-        ensures { IfOk result (λ s. stmt s.tree ≡ placed.label (word name) (stmt body.tree)) }
+        ensures { IfOk result (λ s. stmt s.tree.value ≡ placed.label (word name) (stmt body.tree.value)) }
     {
         let depth = above(body.depth);
-        let tree = make_label(alloc, name, body.tree)?;
-        Ok(Done { tree, depth })
+        Done::made(alloc, Stmt::Label(name, body.tree), depth)
     }
 
     /// A `try` with its `catch` and no `finally` (ES3 12.14).
     #[tactic(auto, using(crate::proofs::Rows::stmts_mapped))]
-    pub fn caught(body: Stmts, name: Name, handler: Stmts) -> Done
-        ensures { stmt result.tree ≡ caught_made (map stmt body.list.items) (word name) (map stmt handler.list.items) }
+    pub fn caught(alloc: Global, body: Stmts, name: Name, handler: Stmts) -> Result<Done, Memory>
+        ensures { IfOk result (λ s.
+            stmt s.tree.value ≡ caught_made (map stmt body.list.items) (word name) (map stmt handler.list.items)) }
     {
         let depth = above(body.depth.max(handler.depth));
-        Done {
-            tree: make_try(body.list, Some((name, handler.list)), None),
-            depth,
-        }
+        let tree = make_try(body.list, Some((name, handler.list)), None);
+        Done::made(alloc, tree, depth)
     }
 
     /// A `try` with its `finally`, and its `catch` if it has one (ES3 12.14).
     #[tactic(auto, using(crate::proofs::Rows::stmts_mapped))]
-    pub fn finished(body: Stmts, handler: Handler, last: Stmts) -> Done
-        ensures { stmt result.tree
-            ≡ placed.try (stmts_of (map stmt body.list.items)) (of_handler handler.tree) (placed.some_block (stmts_of (map stmt last.list.items))) }
+    pub fn finished(
+        alloc: Global,
+        body: Stmts,
+        handler: Handler,
+        last: Stmts,
+    ) -> Result<Done, Memory>
+        ensures { IfOk result (λ s.
+            stmt s.tree.value
+            ≡ placed.try (stmts_of (map stmt body.list.items)) (of_handler handler.tree) (placed.some_block (stmts_of (map stmt last.list.items)))) }
     {
         let depth = above(body.depth.max(handler.depth).max(last.depth));
-        Done {
-            tree: make_try(body.list, handler.tree, Some(last.list)),
-            depth,
-        }
+        let tree = make_try(body.list, handler.tree, Some(last.list));
+        Done::made(alloc, tree, depth)
     }
 
     /// An expression as a statement (ES3 12.4).
-    pub fn expression(value: Part) -> Done
-        ensures { stmt result.tree ≡ placed.expression (expr value.tree) }
+    pub fn expression(alloc: Global, value: Part) -> Result<Done, Memory>
+        ensures { IfOk result (λ s. stmt s.tree.value ≡ placed.expression (expr value.tree.value)) }
     {
         let depth = above(value.depth);
-        Done {
-            tree: Stmt::Expr(value.tree),
-            depth,
-        }
+        Done::made(alloc, Stmt::Expr(Box::into_inner(value.tree)), depth)
     }
 
     /// A `do` .. `while` (ES3 12.6.1).
     pub fn do_loop(alloc: Global, body: Done, test: Part) -> Result<Done, Memory>
-        ensures { IfOk result (λ s. stmt s.tree ≡ placed.do_loop (stmt body.tree) (expr test.tree)) }
+        ensures { IfOk result (λ s. stmt s.tree.value ≡ placed.do_loop (stmt body.tree.value) (expr test.tree.value)) }
     {
         let depth = above(body.depth.max(test.depth));
-        let tree = make_do(alloc, body.tree, test.tree)?;
-        Ok(Done { tree, depth })
+        let test = Box::into_inner(test.tree);
+        Done::made(alloc, Stmt::Do(body.tree, test), depth)
     }
 
     /// A `throw` (ES3 12.13).
-    pub fn thrown(value: Part) -> Done
-        ensures { stmt result.tree ≡ placed.throw (expr value.tree) }
+    pub fn thrown(alloc: Global, value: Part) -> Result<Done, Memory>
+        ensures { IfOk result (λ s. stmt s.tree.value ≡ placed.throw (expr value.tree.value)) }
     {
         let depth = above(value.depth);
-        Done {
-            tree: Stmt::Throw(value.tree),
-            depth,
-        }
+        Done::made(alloc, Stmt::Throw(Box::into_inner(value.tree)), depth)
     }
 }

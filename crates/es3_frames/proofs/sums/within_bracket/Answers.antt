@@ -11,5 +11,5 @@ returns-in-Subscript c = rw c.in-Subscript.is (λ k h. c.round_part.ensures k.ta
 
 pub returns-in-Test : goal.returns-in-Test
 returns-in-Test c =
-    let deeper : c.max.result ≡ capped (max (deep t.expr (expr c.in-Test.part.tree)) 1) = (let right = c.in-Test.part.right in omega arith) in
+    let deeper : c.max.result ≡ capped (max (deep t.expr (expr c.in-Test.part.tree.value)) 1) = (let right = c.in-Test.part.right in omega arith) in
     rw c.in-Test.is (λ k h. c.round_part-in-Test.ensures k.other _ k.part_opens false h.other_is deeper h.part_opens_is refl)

@@ -1,12 +1,15 @@
-use Rattle.std.proofs.Common.{ap, ◌∙◌}
+use Rattle.std.proofs.Common.{ap, sym, ◌∙◌}
 use Rattle.es3_tree.specs.Tree as t
-use Rattle.es3_tree.specs.PlacedView.{of_fields}
+use Rattle.es3_tree.specs.PlacedView.{expr, of_fields}
 use Rattle.es3_grammar.specs.Plain.{deep}
+use Rattle.es3_grammar.specs.Sums.{capped}
 use Rattle.es3_frames.proofs.Depths.{of_two}
 use Rattle.es3_frames.proofs.Rows.{fields_deeper}
 use Rattle.es3_frames.proofs.parts.Fields.with.Goals as goal
 
 pub invariant_of-result : goal.invariant_of-result
-invariant_of-result c = record {
-  right = of_two _ _ _ _ _ _ c.args.self.right c.args.value.right c.max.ensures (ap (λ xs. deep t.fields (of_fields xs)) c.in_ok-push.ensures.items ∙ fields_deeper c.args.self.list.items _);
-}
+invariant_of-result c =
+    let right = c.args.value.right ∙ ap (λ x. capped (deep t.expr (expr x))) (sym c.into_inner.ensures) in
+    record {
+      right = of_two _ _ _ _ _ _ c.args.self.right right c.max.ensures (ap (λ xs. deep t.fields (of_fields xs)) c.in_ok-push.ensures.items ∙ fields_deeper c.args.self.list.items _);
+    }

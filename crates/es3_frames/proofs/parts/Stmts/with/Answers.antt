@@ -1,12 +1,15 @@
-use Rattle.std.proofs.Common.{ap, ◌∙◌}
+use Rattle.std.proofs.Common.{ap, sym, ◌∙◌}
 use Rattle.es3_tree.specs.Tree as t
-use Rattle.es3_tree.specs.PlacedView.{of_stmts}
+use Rattle.es3_tree.specs.PlacedView.{stmt, of_stmts}
 use Rattle.es3_grammar.specs.Plain.{deep}
+use Rattle.es3_grammar.specs.Sums.{capped}
 use Rattle.es3_frames.proofs.Depths.{of_two}
 use Rattle.es3_frames.proofs.Rows.{stmts_deeper}
 use Rattle.es3_frames.proofs.parts.Stmts.with.Goals as goal
 
 pub invariant_of-result : goal.invariant_of-result
-invariant_of-result c = record {
-  right = of_two _ _ _ _ _ _ c.args.self.right c.args.done.right c.max.ensures (ap (λ xs. deep t.stmts (of_stmts xs)) c.in_ok-push.ensures.items ∙ stmts_deeper c.args.self.list.items _);
-}
+invariant_of-result c =
+    let right = c.args.done.right ∙ ap (λ x. capped (deep t.stmt (stmt x))) (sym c.into_inner.ensures) in
+    record {
+      right = of_two _ _ _ _ _ _ c.args.self.right right c.max.ensures (ap (λ xs. deep t.stmts (of_stmts xs)) c.in_ok-push.ensures.items ∙ stmts_deeper c.args.self.list.items _);
+    }
