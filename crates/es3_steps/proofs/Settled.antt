@@ -119,10 +119,10 @@ under : (b : Bool) (k j : m.Stack) (f : m.Frame) (c : Spot) (o : Option Infix) (
 under b k j f c o t a h s = ap (λ k. bound o (m.asked k)) (sym s) ∙ sym a.level ∙ h
 
 pub goes_filled : (b : Bool) (k j : m.Stack) (x : E) (c : Spot) (o : Option Infix) (t : Bool) (z : Option m.State) (g : Frame) (w : Waiting) (r : Option Part) (y : Part)
-    → Asked b c k o t → t ≡ false → k ≡ frame_of g ∷ j → g ≡ f.Waiting w → made_of r ≡ filled (waiting_of w) x → r ≡ Some y → settle b k x c ≡ z → settle b j (expr y.tree) c ≡ z
+    → Asked b c k o t → t ≡ false → k ≡ frame_of g ∷ j → g ≡ f.Waiting w → made_of r ≡ filled (waiting_of w) x → r ≡ Some y → settle b k x c ≡ z → settle b j (expr y.tree.value) c ≡ z
 goes_filled b k j x c o t z g w r y a h s i p q e =
     let n : k ≡ waiting_of w ∷ j = s ∙ ap (λ g. frame_of g ∷ j) i in
-    sym (settle_fills b (waiting_of w) j x (expr y.tree) c o (sym a.token) (under b k j (waiting_of w) c o t a h n) (sym p ∙ ap made_of q))
+    sym (settle_fills b (waiting_of w) j x (expr y.tree.value) c o (sym a.token) (under b k j (waiting_of w) c o t a h n) (sym p ∙ ap made_of q))
     ∙ ap (λ k. settle b k x c) (sym n) ∙ e
 
 pub goes_unfilled : (b : Bool) (k j : m.Stack) (x : E) (c : Spot) (o : Option Infix) (t : Bool) (z : Option m.State) (g : Frame) (w : Waiting) (r : Option Part)

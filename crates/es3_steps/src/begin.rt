@@ -107,10 +107,11 @@ fn word_begin(sign: Word) -> Option<Beginning>
 }
 
 /// A `switch` ends behind these clauses (ES3 12.11).
-fn cases_closed(value: Part, clauses: Clauses) -> State
-    ensures { (k : Frames) → state_of result k ≡ cases_closed_spec (expr value.tree) (map clause_of clauses.list.items) k }
+fn cases_closed(alloc: Global, value: Part, clauses: Clauses) -> Result<State, Memory>
+    ensures { IfOk result (λ s. (k : Frames) →
+        state_of s k ≡ cases_closed_spec (expr value.tree.value) (map clause_of clauses.list.items) k) }
 {
-    State::Ended(Done::switch(value, clauses))
+    Ok(State::Ended(Done::switch(alloc, value, clauses)?))
 }
 
 /// A list of statements begins.
@@ -131,7 +132,7 @@ pub fn clause(
 ) -> Result<Option<State>, Memory>
     ensures { IfOk result (λ s.
         next_of s (stack_of stack.new)
-        ≡ clause_step (expr value.tree) (map clause_of clauses.list.items) (stack_of stack.old) (spot_of token.now)) }
+        ≡ clause_step (expr value.tree.value) (map clause_of clauses.list.items) (stack_of stack.old) (spot_of token.now)) }
 {
     if is_word(&token.kind, Word::Case) {
         stack.push(Frame::Root(Root::Case(value, clauses)))?;
@@ -147,7 +148,7 @@ pub fn clause(
     if !is_punct(&token.kind, Punct::CloseBrace) {
         return Ok(None);
     }
-    Ok(Some(cases_closed(value, clauses)))
+    Ok(Some(cases_closed(alloc, value, clauses)?))
 }
 
 /// The list of statements ends at its `}`.
@@ -163,19 +164,20 @@ fn body_closed(
 {
     match body {
         Body::Program => Ok(None),
-        Body::Block => Ok(Some(State::Ended(Done::block(statements)))),
+        Body::Block => Ok(Some(State::Ended(Done::block(alloc, statements)?))),
         Body::Function(head, params) => {
             let made = func_made(alloc, stack, head, params, statements)?;
             Ok(Some(made))
         }
         Body::Clause(value, clauses, test) => {
             let clauses = clauses.with(test, statements)?;
-            Ok(Some(cases_closed(value, clauses)))
+            Ok(Some(cases_closed(alloc, value, clauses)?))
         }
         Body::Try => Ok(Some(State::Tried(statements))),
         Body::Catch(tried, name) => Ok(Some(State::Caught(tried, name, statements))),
         Body::Finally(tried, handler) => {
-            Ok(Some(State::Ended(Done::finished(tried, handler, statements))))
+            let done = Done::finished(alloc, tried, handler, statements)?;
+            Ok(Some(State::Ended(done)))
         }
     }
 }
@@ -270,7 +272,7 @@ fn begin_by(
     match begin {
         Beginning::ListEnd => list_closed(alloc, stack),
         Beginning::NextClause => next_clause(alloc, stack, token),
-        Beginning::Empty => Ok(Some(State::Ended(Done::empty()))),
+        Beginning::Empty => Ok(Some(State::Ended(Done::empty(alloc)?))),
         Beginning::Jump(breaks) => Ok(Some(State::Jumped(breaks, token.start))),
         Beginning::For => Ok(Some(State::Await(Punct::OpenParen, After::ForOpen))),
         Beginning::Return => Ok(Some(State::Returned(token.start))),
@@ -340,5 +342,6 @@ pub fn begun(
         return Ok(Some(State::Start));
     }
     stack.push(Frame::Root(Root::Statement))?;
-    have(alloc, stack, Part::leaf(Expr::Name(name)), token)
+    let part = Part::leaf(alloc, Expr::Name(name))?;
+    have(alloc, stack, part, token)
 }

@@ -62,7 +62,7 @@ fn subscript_closed(
     token: &Token,
 ) -> Result<Option<State>, Memory>
     ensures { IfOk result (λ s. (k : m.Stack) →
-        next_of s k ≡ closes_spec (m.subscript (expr object.tree)) (expr key.tree) k (spot_of token.now)) }
+        next_of s k ≡ closes_spec (m.subscript (expr object.tree.value)) (expr key.tree.value) k (spot_of token.now)) }
 {
     let member = Part::indexed(alloc, object, key)?;
     Ok(at(token, Punct::CloseBracket, State::Have(member)))
@@ -78,13 +78,13 @@ fn bracket_closes(
 ) -> Result<Option<State>, Memory>
     ensures { IfOk result (λ s.
         next_of s (stack_of stack.new)
-        ≡ closes_spec (bracket_of bracket) (expr part.tree) (stack_of stack.old) (spot_of token.now)) }
+        ≡ closes_spec (bracket_of bracket) (expr part.tree.value) (stack_of stack.old) (spot_of token.now)) }
 {
     match bracket {
         Bracket::Paren => Ok(at(token, Punct::CloseParen, State::Have(part))),
         Bracket::Subscript(object) => subscript_closed(alloc, object, part, token),
         Bracket::List(opened, list) => after_item(alloc, stack, opened, list.with(part)?, token),
-        Bracket::Field(fields, key) => Ok(after_field(fields.with(key, part)?, token)),
+        Bracket::Field(fields, key) => after_field(alloc, fields.with(key, part)?, token),
         Bracket::Test(test) => {
             let branch = Frame::Waiting(Waiting::Branch(test, part));
             within(stack, token, Punct::Colon, branch, State::Want)
@@ -110,29 +110,32 @@ fn starts(stack: &mut Stack, token: &Token, outer: Outer) -> Result<Option<State
 /// The test of a `do` .. `while` is closed (ES3 12.6.1).
 fn do_closed(alloc: Global, body: Done, test: Part, token: &Token) -> Result<Option<State>, Memory>
     ensures { IfOk result (λ s. (k : m.Stack) →
-        next_of s k ≡ closes_spec (m.do_test (stmt body.tree)) (expr test.tree) k (spot_of token.now)) }
+        next_of s k ≡ closes_spec (m.do_test (stmt body.tree.value)) (expr test.tree.value) k (spot_of token.now)) }
 {
     let done = Done::do_loop(alloc, body, test)?;
     Ok(at(token, Punct::CloseParen, State::Closing(done)))
 }
 
 /// The first part of the head of a `for` ends, or is what a `for` .. `in` writes to (ES3 12.6.3, 12.6.4).
-fn first_closes(stack: &mut Stack, part: Part, token: &Token) -> Result<Option<State>, Memory>
+fn first_closes(
+    alloc: Global,
+    stack: &mut Stack,
+    part: Part,
+    token: &Token,
+) -> Result<Option<State>, Memory>
     ensures { IfOk result (λ s.
         next_of s (stack_of stack.new)
-        ≡ closes_spec m.for_first (expr part.tree) (stack_of stack.old) (spot_of token.now)) }
+        ≡ closes_spec m.for_first (expr part.tree.value) (stack_of stack.old) (spot_of token.now)) }
 {
     if !is_word(&token.kind, Word::In) {
-        return Ok(at(
-            token,
-            Punct::Semicolon,
-            State::ForSecond(Front::expression(part)),
-        ));
+        let front = Front::expression(alloc, part)?;
+        return Ok(at(token, Punct::Semicolon, State::ForSecond(front)));
     }
     if !is_target(&part.tree) {
         return Ok(None);
     }
-    stack.push(Frame::Root(Root::ForObject(Target::expression(part))))?;
+    let target = Target::expression(alloc, part)?;
+    stack.push(Frame::Root(Root::ForObject(target)))?;
     Ok(Some(State::Want))
 }
 
@@ -147,7 +150,7 @@ fn case_closes(
 ) -> Result<Option<State>, Memory>
     ensures { IfOk result (λ s.
         next_of s (stack_of stack.new)
-        ≡ closes_spec (m.case_test (expr value.tree) (map clause_of clauses.list.items)) (expr test.tree) (stack_of stack.old) (spot_of token.now)) }
+        ≡ closes_spec (m.case_test (expr value.tree.value) (map clause_of clauses.list.items)) (expr test.tree.value) (stack_of stack.old) (spot_of token.now)) }
 {
     let clause = Body::Clause(value, clauses, Maybe::some(test));
     let list = Frame::List(clause, Stmts::new(alloc));
@@ -164,21 +167,21 @@ fn root_closes(
 ) -> Result<Option<State>, Memory>
     ensures { IfOk result (λ s.
         next_of s (stack_of stack.new)
-        ≡ closes_spec (root_of root) (expr part.tree) (stack_of stack.old) (spot_of token.now)) }
+        ≡ closes_spec (root_of root) (expr part.tree.value) (stack_of stack.old) (spot_of token.now)) }
 {
     match root {
         Root::Statement => {
-            let done = Done::expression(part);
+            let done = Done::expression(alloc, part)?;
             Ok(at(token, Punct::Semicolon, State::Ended(done)))
         }
         Root::Value(heading, name, items) => {
             let items = items.with(name, Maybe::some(part))?;
-            Ok(after_variable(heading, items, token))
+            after_variable(alloc, heading, items, token)
         }
         Root::If => starts(stack, token, Outer::Then(part)),
         Root::While => starts(stack, token, Outer::While(part)),
         Root::Do(body) => do_closed(alloc, body, part, token),
-        Root::ForFirst => first_closes(stack, part, token),
+        Root::ForFirst => first_closes(alloc, stack, part, token),
         Root::ForTest(first) => {
             let third = State::ForThird(first, Maybe::some(part));
             Ok(at(token, Punct::Semicolon, third))
@@ -188,10 +191,13 @@ fn root_closes(
         }
         Root::ForObject(target) => starts(stack, token, Outer::ForIn(target, part)),
         Root::Return(byte) => {
-            let done = Done::returned(Maybe::some(part), byte);
+            let done = Done::returned(alloc, Maybe::some(part), byte)?;
             Ok(at(token, Punct::Semicolon, State::Ended(done)))
         }
-        Root::Throw => Ok(at(token, Punct::Semicolon, State::Ended(Done::thrown(part)))),
+        Root::Throw => {
+            let done = Done::thrown(alloc, part)?;
+            Ok(at(token, Punct::Semicolon, State::Ended(done)))
+        }
         Root::With(byte) => starts(stack, token, Outer::With(part, byte)),
         Root::Switch => {
             let clauses = State::Await(Punct::OpenBrace, After::Clauses(part));
@@ -211,7 +217,7 @@ pub fn closes(
 ) -> Result<Option<State>, Memory>
     ensures { IfOk result (λ s.
         next_of s (stack_of stack.new)
-        ≡ closes_spec (frame_of frame) (expr part.tree) (stack_of stack.old) (spot_of token.now)) }
+        ≡ closes_spec (frame_of frame) (expr part.tree.value) (stack_of stack.old) (spot_of token.now)) }
 {
     match frame {
         Frame::Bracket(bracket) => bracket_closes(alloc, stack, bracket, part, token),

@@ -116,16 +116,14 @@ pub fn param_end(
 }
 
 /// A declaration is one more statement of the list that it stands in.
-fn declare(stack: &mut Stack, function: Func, depth: u32) -> Result<State, Memory>
+fn declare(alloc: Global, stack: &mut Stack, function: Func, depth: u32) -> Result<State, Memory>
     requires { depth ≡ capped (deep t.stmt (placed.declare (func_view function))) }
     ensures { IfOk result (λ s.
         state_of s (stack_of stack.new) ≡ func_made_spec true (func_view function) (stack_of stack.old)) }
 {
+    let done = Done::made(alloc, make_declaration(function), depth)?;
     match stack.pop() {
-        Some(Frame::List(body, list)) => {
-            let tree = make_declaration(function);
-            stack.push(longer(body, list, Done { tree, depth })?)?;
-        }
+        Some(Frame::List(body, list)) => stack.push(longer(body, list, done)?)?,
         Some(frame) => stack.push(frame)?,
         None => {}
     }
@@ -152,8 +150,8 @@ pub fn func_made(
         at: head.at,
     };
     if head.declared {
-        return declare(stack, function, depth);
+        return declare(alloc, stack, function, depth);
     }
     let tree = make_function(alloc, function)?;
-    Ok(State::Have(Part { tree, depth }))
+    Ok(State::Have(Part::made(alloc, tree, depth)?))
 }

@@ -1,10 +1,11 @@
 //! The head of a `for`, jumps, and the semicolon of a statement (ES3 12.6 to 12.9).
 
 ghost use Rattle.std.specs.Prelude.{◌≡◌, IfOk};
-ghost use Rattle.es3_tree.specs.PlacedView.{stmt, first, of_maybe_expr};
+ghost use Rattle.es3_tree.specs.PlacedView.{stmt, first};
 ghost use Rattle.es3_grammar.specs.Grammar.{ends_statement};
 ghost use Rattle.es3_grammar.specs.Frames.{Stack as Frames, ended};
 ghost use Rattle.es3_grammar.specs.Machine.{when, for_open_step, for_second_step, for_third_step, returned_step, jumped_step};
+ghost use Rattle.es3_frames.specs.Boxed.{of_maybe_boxed};
 ghost use Rattle.es3_frames.specs.Views.{next_of, spot_of, stack_of};
 
 use crate::operand::operand;
@@ -25,7 +26,7 @@ pub fn for_open(alloc: Global, stack: &mut Stack, token: &Token) -> Result<Optio
         return Ok(Some(State::Item(true, Items::new(alloc))));
     }
     if is_punct(&token.kind, Punct::Semicolon) {
-        return Ok(Some(State::ForSecond(Front::none())));
+        return Ok(Some(State::ForSecond(Front::none(alloc)?)));
     }
     stack.push(Frame::Root(Root::ForFirst))?;
     operand(alloc, stack, token)
@@ -40,7 +41,7 @@ pub fn for_second(
 ) -> Result<Option<State>, Memory>
     ensures { IfOk result (λ s.
         next_of s (stack_of stack.new)
-        ≡ for_second_step (first start.tree) (stack_of stack.old) (spot_of token.now)) }
+        ≡ for_second_step (first start.tree.value) (stack_of stack.old) (spot_of token.now)) }
 {
     if is_punct(&token.kind, Punct::Semicolon) {
         return Ok(Some(State::ForThird(start, Maybe::none())));
@@ -59,7 +60,7 @@ pub fn for_third(
 ) -> Result<Option<State>, Memory>
     ensures { IfOk result (λ s.
         next_of s (stack_of stack.new)
-        ≡ for_third_step (first start.tree) (of_maybe_expr test.tree) (stack_of stack.old) (spot_of token.now)) }
+        ≡ for_third_step (first start.tree.value) (of_maybe_boxed test.tree) (stack_of stack.old) (spot_of token.now)) }
 {
     if is_punct(&token.kind, Punct::CloseParen) {
         stack.push(Frame::Outer(Outer::For(start, test, Maybe::none())))?;
@@ -80,7 +81,8 @@ pub fn returned(
         next_of s (stack_of stack.new) ≡ returned_step at (stack_of stack.old) (spot_of token.now)) }
 {
     if is_punct(&token.kind, Punct::Semicolon) {
-        return Ok(Some(State::Ended(Done::returned(Maybe::none(), at))));
+        let done = Done::returned(alloc, Maybe::none(), at)?;
+        return Ok(Some(State::Ended(done)));
     }
     stack.push(Frame::Root(Root::Return(at)))?;
     operand(alloc, stack, token)
@@ -93,17 +95,18 @@ pub fn jumped(alloc: Global, breaks: bool, at: u32, token: &Token) -> Result<Opt
     match &token.kind {
         Kind::Name(text) => {
             let label = named(alloc, text, token.start)?;
-            Ok(Some(State::Closing(Done::jump(breaks, Some(label), at))))
+            let done = Done::jump(alloc, breaks, Some(label), at)?;
+            Ok(Some(State::Closing(done)))
         }
         Kind::Word(_) | Kind::Punct(_) | Kind::Num(_) | Kind::Text(_) => {
-            Ok(closing(Done::jump(breaks, None, at), token))
+            Ok(closing(Done::jump(alloc, breaks, None, at)?, token))
         }
     }
 }
 
 /// The token is the semicolon of the statement.
 pub fn closing(done: Done, token: &Token) -> Option<State>
-    ensures { (k : Frames) → next_of result k ≡ when (ends_statement (spot_of token.now)) (ended (stmt done.tree) k) }
+    ensures { (k : Frames) → next_of result k ≡ when (ends_statement (spot_of token.now)) (ended (stmt done.tree.value) k) }
 {
     if is_punct(&token.kind, Punct::Semicolon) {
         Some(State::Ended(done))

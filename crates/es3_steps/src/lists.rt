@@ -32,7 +32,7 @@ use es3_frames::parts::{Exprs, Fields, Part, above};
 use es3_frames::stack::Stack;
 use es3_frames::tokens::{is_punct, named};
 use es3_lexer::{Kind, Punct, Token};
-use es3_tree::{Name, make_array, make_call, make_dot, make_new, make_object};
+use es3_tree::{Expr, Name, make_array, make_object};
 use std::alloc::Global;
 
 /// The bracket that ends the list.
@@ -46,23 +46,19 @@ fn closer(opened: &Opened) -> Punct
 }
 
 /// The expression of a list that has ended.
+#[tactic(auto, using(es3_frames::proofs::Rows::exprs_mapped, es3_tree::proofs::PlacedRows::placed_call, es3_tree::proofs::PlacedRows::placed_new))]
 fn closed(alloc: Global, opened: Opened, items: Exprs) -> Result<Part, Memory>
-    ensures { IfOk result (λ x. expr x.tree ≡ closed_list (opened_of opened) (map expr items.list.items)) }
+    ensures { IfOk result (λ x. expr x.tree.value ≡ closed_list (opened_of opened) (map expr items.list.items)) }
 {
     match opened {
-        Opened::Array => Ok(Part {
-            tree: make_array(items.list),
-            depth: above(items.depth),
-        }),
+        Opened::Array => Part::made(alloc, make_array(items.list), above(items.depth)),
         Opened::Call(callee) => {
             let depth = above(callee.depth.max(items.depth));
-            let tree = make_call(alloc, callee.tree, items.list)?;
-            Ok(Part { tree, depth })
+            Part::made(alloc, Expr::Call(callee.tree, items.list), depth)
         }
         Opened::New(constructor) => {
             let depth = above(constructor.depth.max(items.depth));
-            let tree = make_new(alloc, constructor.tree, items.list)?;
-            Ok(Part { tree, depth })
+            Part::made(alloc, Expr::New(constructor.tree, items.list), depth)
         }
     }
 }
@@ -147,24 +143,23 @@ fn key_name(alloc: Global, token: &Token) -> Result<Option<Name>, Memory>
 }
 
 /// The object of these properties.
-fn object(fields: Fields) -> Part
-    ensures { expr result.tree ≡ placed.object (fields_of (map field_of fields.list.items)) }
+#[tactic(auto, using(es3_frames::proofs::Rows::fields_mapped))]
+fn object(alloc: Global, fields: Fields) -> Result<Part, Memory>
+    ensures { IfOk result (λ x. expr x.tree.value ≡ placed.object (fields_of (map field_of fields.list.items))) }
 {
-    Part {
-        tree: make_object(fields.list),
-        depth: above(fields.depth),
-    }
+    let depth = above(fields.depth);
+    Part::made(alloc, make_object(fields.list), depth)
 }
 
 /// An object without properties, if there is none.
-fn empty_object(fields: Fields) -> Option<State>
-    ensures { (k : machine.Stack) →
-        next_of result k ≡ when (none_yet (map field_of fields.list.items)) (machine.have (placed.object placed.no_fields) k) }
+fn empty_object(alloc: Global, fields: Fields) -> Result<Option<State>, Memory>
+    ensures { IfOk result (λ s. (k : machine.Stack) →
+        next_of s k ≡ when (none_yet (map field_of fields.list.items)) (machine.have (placed.object placed.no_fields) k)) }
 {
     if fields.list.is_empty() {
-        Some(State::Have(object(fields)))
+        Ok(Some(State::Have(object(alloc, fields)?)))
     } else {
-        None
+        Ok(None)
     }
 }
 
@@ -180,7 +175,7 @@ pub fn key(
         ≡ key_step (map field_of fields.list.items) (stack_of stack.old) (spot_of token.now)) }
 {
     if is_punct(&token.kind, Punct::CloseBrace) {
-        return Ok(empty_object(fields));
+        return empty_object(alloc, fields);
     }
     match key_name(alloc, token)? {
         Some(name) => {
@@ -192,30 +187,30 @@ pub fn key(
 }
 
 /// What stands behind a property: a comma, or the `}` that ends the object.
-pub fn after_field(fields: Fields, token: &Token) -> Option<State>
-    ensures { (k : machine.Stack) →
-        next_of result k ≡ after_field_spec (map field_of fields.list.items) k (spot_of token.now) }
+pub fn after_field(alloc: Global, fields: Fields, token: &Token) -> Result<Option<State>, Memory>
+    ensures { IfOk result (λ s. (k : machine.Stack) →
+        next_of s k ≡ after_field_spec (map field_of fields.list.items) k (spot_of token.now)) }
 {
     if is_punct(&token.kind, Punct::Comma) {
-        return Some(State::Key(fields));
+        return Ok(Some(State::Key(fields)));
     }
     if is_punct(&token.kind, Punct::CloseBrace) {
-        return Some(State::Have(object(fields)));
+        return Ok(Some(State::Have(object(alloc, fields)?)));
     }
-    None
+    Ok(None)
 }
 
 /// The name behind a point.
 pub fn member(alloc: Global, object: Part, token: &Token) -> Result<Option<State>, Memory>
     ensures { IfOk result (λ s.
-        (k : machine.Stack) → next_of s k ≡ member_step (expr object.tree) k (spot_of token.now)) }
+        (k : machine.Stack) → next_of s k ≡ member_step (expr object.tree.value) k (spot_of token.now)) }
 {
     match &token.kind {
         Kind::Name(text) => {
             let name = named(alloc, text, token.start)?;
             let depth = above(object.depth);
-            let tree = make_dot(alloc, object.tree, name)?;
-            Ok(Some(State::Have(Part { tree, depth })))
+            let part = Part::made(alloc, Expr::Dot(object.tree, name), depth)?;
+            Ok(Some(State::Have(part)))
         }
         Kind::Word(_) | Kind::Punct(_) | Kind::Num(_) | Kind::Text(_) => Ok(None),
     }

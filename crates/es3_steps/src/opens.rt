@@ -27,7 +27,7 @@ pub(crate) fn opens(stack: &mut Stack, frame: Frame, state: State) -> Result<Opt
 /// The list of statements with one more at the end.
 pub(crate) fn longer(body: Body, statements: Stmts, done: Done) -> Result<Frame, Memory>
     ensures { IfOk result (λ f.
-        frame_of f ≡ body_frame (body_of body) (map stmt statements.list.items ++ stmt done.tree ∷ [])) }
+        frame_of f ≡ body_frame (body_of body) (map stmt statements.list.items ++ stmt done.tree.value ∷ [])) }
 {
     match statements.with(done) {
         Ok(statements) => Ok(Frame::List(body, statements)),

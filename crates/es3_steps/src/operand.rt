@@ -39,9 +39,9 @@ fn opened(
         next_of s (stack_of stack.new) ≡ opened_spec (stack_of stack.old) at (Some (opening_of opening))) }
 {
     Ok(Some(match opening {
-        Opening::This => State::Have(Part::leaf(Expr::This(at))),
-        Opening::Null => State::Have(Part::leaf(Expr::Null)),
-        Opening::Bool(value) => State::Have(Part::leaf(Expr::Bool(value))),
+        Opening::This => State::Have(Part::leaf(alloc, Expr::This(at))?),
+        Opening::Null => State::Have(Part::leaf(alloc, Expr::Null)?),
+        Opening::Bool(value) => State::Have(Part::leaf(alloc, Expr::Bool(value))?),
         Opening::Paren => {
             stack.push(Frame::Bracket(Bracket::Paren))?;
             State::Want
@@ -66,10 +66,13 @@ pub fn operand(alloc: Global, stack: &mut Stack, token: &Token) -> Result<Option
     match &token.kind {
         Kind::Name(text) => {
             let name = named(alloc, text, token.start)?;
-            Ok(Some(State::Have(Part::leaf(Expr::Name(name)))))
+            Ok(Some(State::Have(Part::leaf(alloc, Expr::Name(name))?)))
         }
-        Kind::Num(number) => Ok(Some(State::Have(Part::leaf(Expr::Num(*number))))),
-        Kind::Text(text) => Ok(Some(State::Have(Part::leaf(Expr::Text(text.copy(alloc)?))))),
+        Kind::Num(number) => Ok(Some(State::Have(Part::leaf(alloc, Expr::Num(*number))?))),
+        Kind::Text(text) => {
+            let text = text.copy(alloc)?;
+            Ok(Some(State::Have(Part::leaf(alloc, Expr::Text(text))?)))
+        }
         Kind::Word(_) | Kind::Punct(_) => match as_opening(&token.kind) {
             Some(opening) => opened(alloc, stack, opening, token.start),
             None => Ok(None),

@@ -35,7 +35,7 @@ pub enum Resumed {
 fn after_then(alloc: Global, test: Part, then: Done, token: &Token) -> Result<Resumed, Memory>
     ensures { IfOk result (λ r. (k : Frames) →
         resumed r k (spot_of token.now)
-        ≡ resume_spec (then_of (expr test.tree) ∷ k) (stmt then.tree) (spot_of token.now)) }
+        ≡ resume_spec (then_of (expr test.tree.value) ∷ k) (stmt then.tree.value) (spot_of token.now)) }
 {
     if is_word(&token.kind, Word::Else) {
         let otherwise = Frame::Outer(Outer::Else(test, then));
@@ -48,7 +48,7 @@ fn after_then(alloc: Global, test: Part, then: Done, token: &Token) -> Result<Re
 #[tactic(auto, unfolding(es3_grammar::specs::Machine::resume))]
 fn after_do(body: Done, token: &Token) -> Resumed
     ensures { (k : Frames) →
-        resumed result k (spot_of token.now) ≡ resume_spec (do_body ∷ k) (stmt body.tree) (spot_of token.now) }
+        resumed result k (spot_of token.now) ≡ resume_spec (do_body ∷ k) (stmt body.tree.value) (spot_of token.now) }
 {
     if is_word(&token.kind, Word::While) {
         let test = Frame::Root(Root::Do(body));
@@ -62,7 +62,7 @@ fn after_do(body: Done, token: &Token) -> Resumed
 #[tactic(auto, unfolding(es3_grammar::specs::Machine::resume))]
 fn after_outer(alloc: Global, outer: Outer, done: Done, token: &Token) -> Result<Resumed, Memory>
     ensures { IfOk result (λ r. (k : Frames) →
-        resumed r k (spot_of token.now) ≡ resume_spec (outer_of outer ∷ k) (stmt done.tree) (spot_of token.now)) }
+        resumed r k (spot_of token.now) ≡ resume_spec (outer_of outer ∷ k) (stmt done.tree.value) (spot_of token.now)) }
 {
     match outer {
         Outer::Then(test) => after_then(alloc, test, done, token),
@@ -86,7 +86,7 @@ fn after_outer(alloc: Global, outer: Outer, done: Done, token: &Token) -> Result
 #[tactic(auto, unfolding(es3_grammar::specs::Machine::resume))]
 fn within(alloc: Global, frame: Frame, done: Done, token: &Token) -> Result<Resumed, Memory>
     ensures { IfOk result (λ r. (k : Frames) →
-        resumed r k (spot_of token.now) ≡ resume_spec (frame_of frame ∷ k) (stmt done.tree) (spot_of token.now)) }
+        resumed r k (spot_of token.now) ≡ resume_spec (frame_of frame ∷ k) (stmt done.tree.value) (spot_of token.now)) }
 {
     match frame {
         Frame::Outer(outer) => after_outer(alloc, outer, done, token),
@@ -107,7 +107,7 @@ pub fn resume(
     token: &Token,
 ) -> Result<Option<State>, Memory>
     ensures { IfOk result (λ s.
-        next_of s (stack_of stack.new) ≡ resume_spec (stack_of stack.old) (stmt done.tree) (spot_of token.now)) }
+        next_of s (stack_of stack.new) ≡ resume_spec (stack_of stack.old) (stmt done.tree.value) (spot_of token.now)) }
 {
     let mut whole = done;
     while let Some(frame) = stack.pop() {

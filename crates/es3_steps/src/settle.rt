@@ -21,7 +21,7 @@ use std::alloc::Global;
 
 /// What an operator that waits, or a `new`, makes of the part behind it; none where that part can't be assigned to and must.
 pub fn filled(alloc: Global, waiting: Waiting, part: Part) -> Result<Option<Part>, Memory>
-    ensures { IfOk result (λ x. made_of x ≡ filled_spec (waiting_of waiting) (expr part.tree)) }
+    ensures { IfOk result (λ x. made_of x ≡ filled_spec (waiting_of waiting) (expr part.tree.value)) }
 {
     match waiting {
         Waiting::New => Ok(Some(Part::constructed(alloc, part)?)),
@@ -36,7 +36,7 @@ pub fn filled(alloc: Global, waiting: Waiting, part: Part) -> Result<Option<Part
 fn joins(stack: &mut Stack, join: Join, left: Part) -> Result<Option<State>, Memory>
     ensures { IfOk result (λ s.
         next_of s (stack_of stack.new)
-        ≡ shifted_spec (Some (joins_spec (join_of join))) (expr left.tree) (stack_of stack.old)) }
+        ≡ shifted_spec (Some (joins_spec (join_of join))) (expr left.tree.value) (stack_of stack.old)) }
 {
     if !join.takes(&left.tree) {
         return Ok(None);
@@ -53,7 +53,7 @@ fn shifted(
     part: Part,
 ) -> Result<Option<State>, Memory>
     ensures { IfOk result (λ s.
-        next_of s (stack_of stack.new) ≡ shifted_spec (maybe_behind behind) (expr part.tree) (stack_of stack.old)) }
+        next_of s (stack_of stack.new) ≡ shifted_spec (maybe_behind behind) (expr part.tree.value) (stack_of stack.old)) }
 {
     match behind {
         None => Ok(None),
@@ -89,7 +89,7 @@ fn settle(
 ) -> Result<Option<State>, Memory>
     ensures { IfOk result (λ s.
         next_of s (stack_of stack.new)
-        ≡ settle_spec no_in (stack_of stack.old) (expr part.tree) (spot_of token.now)) }
+        ≡ settle_spec no_in (stack_of stack.old) (expr part.tree.value) (spot_of token.now)) }
 {
     let behind = as_behind(no_in, &token.kind);
     let mut part = part;
@@ -116,7 +116,7 @@ pub fn past(
     token: &Token,
 ) -> Result<Option<State>, Memory>
     ensures { IfOk result (λ s.
-        next_of s (stack_of stack.new) ≡ past_step (expr part.tree) (stack_of stack.old) (spot_of token.now)) }
+        next_of s (stack_of stack.new) ≡ past_step (expr part.tree.value) (stack_of stack.old) (spot_of token.now)) }
 {
     let no_in = stack.no_in();
     settle(alloc, stack, no_in, part, token)
@@ -124,7 +124,7 @@ pub fn past(
 
 /// The arguments of the innermost `new`, if its constructor is what was read, or those of a call (ES3 11.2.2, 11.2.3).
 fn arguments(alloc: Global, stack: &mut Stack, callee: Part) -> State
-    ensures { state_of result (stack_of stack.new) ≡ arguments_spec (expr callee.tree) (stack_of stack.old) }
+    ensures { state_of result (stack_of stack.new) ≡ arguments_spec (expr callee.tree.value) (stack_of stack.old) }
 {
     if stack.behind_new() {
         if let Some(new) = stack.pop() {
@@ -144,7 +144,7 @@ pub fn have(
     token: &Token,
 ) -> Result<Option<State>, Memory>
     ensures { IfOk result (λ s.
-        next_of s (stack_of stack.new) ≡ have_step (expr part.tree) (stack_of stack.old) (spot_of token.now)) }
+        next_of s (stack_of stack.new) ≡ have_step (expr part.tree.value) (stack_of stack.old) (spot_of token.now)) }
 {
     if is_punct(&token.kind, Punct::Point) {
         return Ok(Some(State::Member(part)));

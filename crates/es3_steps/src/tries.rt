@@ -88,5 +88,6 @@ pub fn caught(
         let handler = Handler::some(name, handler);
         return Ok(Some(finally_begins(alloc, stack, tried, handler)?));
     }
-    resume(alloc, stack, Done::caught(tried, name, handler), token)
+    let done = Done::caught(alloc, tried, name, handler)?;
+    resume(alloc, stack, done, token)
 }

@@ -36,25 +36,31 @@ pub fn item(
 }
 
 /// The token stands behind the last variable so far: one more follows, or the `var` or the first part of the head of a `for` ends.
-pub fn after_variable(in_head: bool, items: Items, token: &Token) -> Option<State>
-    ensures { (k : Frames) →
-        next_of result k ≡ after_item in_head (map item_of items.list.items) k (spot_of token.now) }
+pub fn after_variable(
+    alloc: Global,
+    in_head: bool,
+    items: Items,
+    token: &Token,
+) -> Result<Option<State>, Memory>
+    ensures { IfOk result (λ s. (k : Frames) →
+        next_of s k ≡ after_item in_head (map item_of items.list.items) k (spot_of token.now)) }
 {
     if is_punct(&token.kind, Punct::Comma) {
-        return Some(State::Item(in_head, items));
+        return Ok(Some(State::Item(in_head, items)));
     }
     if !is_punct(&token.kind, Punct::Semicolon) {
-        return None;
+        return Ok(None);
     }
-    Some(if in_head {
-        State::ForSecond(Front::variables(items))
+    Ok(Some(if in_head {
+        State::ForSecond(Front::variables(alloc, items)?)
     } else {
-        State::Ended(Done::variables(items))
-    })
+        State::Ended(Done::variables(alloc, items)?)
+    }))
 }
 
 /// The token stands behind the name of a variable: its value follows, or the object of a `for` .. `in`, or it has no value.
 pub fn item_end(
+    alloc: Global,
     stack: &mut Stack,
     in_head: bool,
     name: Name,
@@ -70,8 +76,10 @@ pub fn item_end(
         return Ok(Some(State::Want));
     }
     if in_head && items.list.is_empty() && is_word(&token.kind, Word::In) {
-        stack.push(Frame::Root(Root::ForObject(Target::variable(name))))?;
+        let target = Target::variable(alloc, name)?;
+        stack.push(Frame::Root(Root::ForObject(target)))?;
         return Ok(Some(State::Want));
     }
-    Ok(after_variable(in_head, items.with(name, Maybe::none())?, token))
+    let items = items.with(name, Maybe::none())?;
+    after_variable(alloc, in_head, items, token)
 }

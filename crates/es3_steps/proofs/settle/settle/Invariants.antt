@@ -7,7 +7,7 @@ use Rattle.es3_steps.proofs.settle.settle.Given as goal
 -- what is left to settle gives what the whole gives
 abbrev pub invariant-loop-stack : goal.invariant-loop-stack
 invariant-loop-stack l =
-    settle l.no_in (stack_of l.stack) (expr l.part.tree) (spot_of l.token) ≡ settle l.no_in (stack_of l.fn.stack) (expr l.fn.part.tree) (spot_of l.token)
+    settle l.no_in (stack_of l.stack) (expr l.part.tree.value) (spot_of l.token) ≡ settle l.no_in (stack_of l.fn.stack) (expr l.fn.part.tree.value) (spot_of l.token)
 
 abbrev pub decreases-loop-stack : goal.decreases-loop-stack
 decreases-loop-stack l = length (stack_of l.stack)
