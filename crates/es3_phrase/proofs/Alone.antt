@@ -36,7 +36,7 @@ pub no_expression : (z : State) (k : m.Stack) → ((x : Part) → z ≡ s.Have x
 no_expression (s.Have x) k p q = absurd (p x refl)
 no_expression (s.Past x) k p q = absurd (q x refl)
 no_expression s.Start k p q = list_ends k
-no_expression (s.Ended x) k p q = statement_ends k (stmt x.tree)
+no_expression (s.Ended x) k p q = statement_ends k (stmt x.tree.value)
 no_expression (s.Caught ss n hs) k p q = statement_ends k _
 no_expression (s.Await n x) k p q = a_token_more (punct_number n) x k
 no_expression _ k p q = refl

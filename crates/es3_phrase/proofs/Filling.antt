@@ -43,6 +43,6 @@ pub none_open : (k : Stack) (x : E) → k ≡ [] → finished k x ≡ phrase x
 unfolding finished
 none_open k x e = rw e refl
 
-pub expression_told : (z : State) (x : Part) (k : Stack) (b r : Bool) → (z ≡ s.Have x) ⊎ (z ≡ s.Past x) → b ≡ is_target (expr x.tree) → r ≡ ends_all b k → r ≡ is_phrase (ending (state_of z k))
-expression_told z x k b r (inl e) p q = rw e (q ∙ ap (λ (c : Bool). ends_all c k) p ∙ sym (finished_tells k (expr x.tree)))
-expression_told z x k b r (inr e) p q = rw e (q ∙ ap (λ (c : Bool). ends_all c k) p ∙ sym (finished_tells k (expr x.tree)))
+pub expression_told : (z : State) (x : Part) (k : Stack) (b r : Bool) → (z ≡ s.Have x) ⊎ (z ≡ s.Past x) → b ≡ is_target (expr x.tree.value) → r ≡ ends_all b k → r ≡ is_phrase (ending (state_of z k))
+expression_told z x k b r (inl e) p q = rw e (q ∙ ap (λ (c : Bool). ends_all c k) p ∙ sym (finished_tells k (expr x.tree.value)))
+expression_told z x k b r (inr e) p q = rw e (q ∙ ap (λ (c : Bool). ends_all c k) p ∙ sym (finished_tells k (expr x.tree.value)))

@@ -35,7 +35,7 @@ fn is_phrase(state: &State, stack: &Stack) -> bool
 
 /// What the frame makes of the part within it, where it waits for nothing else.
 fn close(alloc: Global, frame: Frame, part: Part) -> Result<Option<Part>, Memory>
-    ensures { IfOk result (λ r. made_of r ≡ filled_spec (frame_of frame) (expr part.tree)) }
+    ensures { IfOk result (λ r. made_of r ≡ filled_spec (frame_of frame) (expr part.tree.value)) }
 {
     match frame {
         Frame::Waiting(waiting) => filled(alloc, waiting, part),
@@ -49,7 +49,7 @@ fn close(alloc: Global, frame: Frame, part: Part) -> Result<Option<Part>, Memory
 /// The part is the last one.
 #[tactic(auto, unfolding(es3_grammar::specs::Machine::finished))]
 fn finished(alloc: Global, mut stack: Stack, part: Part) -> Result<Option<Expr>, Memory>
-    ensures { IfOk result (λ e. Phrased e (finished_spec (stack_of stack) (expr part.tree))) }
+    ensures { IfOk result (λ e. Phrased e (finished_spec (stack_of stack) (expr part.tree.value))) }
 {
     let mut part = part;
     while let Some(frame) = stack.pop() {
@@ -58,7 +58,7 @@ fn finished(alloc: Global, mut stack: Stack, part: Part) -> Result<Option<Expr>,
             None => return Ok(None),
         }
     }
-    Ok(Some(part.tree))
+    Ok(Some(Box::into_inner(part.tree)))
 }
 
 /// The expression, if it is whole where the tokens end.

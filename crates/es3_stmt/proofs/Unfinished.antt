@@ -33,7 +33,7 @@ pub unfinished : (z : State) (k : m.Stack) → (z ≡ s.Start → ⊥) → ((x :
 unfinished s.Start k p q r = absurd (p refl)
 unfinished (s.Ended x) k p q r = absurd (q x refl)
 unfinished (s.Caught ss n hs) k p q r = absurd (r ss n hs refl)
-unfinished (s.Have x) k p q r = an_expression k (expr x.tree)
-unfinished (s.Past x) k p q r = an_expression k (expr x.tree)
+unfinished (s.Have x) k p q r = an_expression k (expr x.tree.value)
+unfinished (s.Past x) k p q r = an_expression k (expr x.tree.value)
 unfinished (s.Await n x) k p q r = a_token_more (punct_number n) x k
 unfinished _ k p q r = refl

@@ -15,6 +15,6 @@ ended (Some p) = program (view.program p)
 
 -- within these frames, what the innermost made of the statement within it
 abbrev pub closed : Closed → Stack → Reading
-closed (r.Whole x) k = reading_of (all_of k (stmt x.tree))
+closed (r.Whole x) k = reading_of (all_of k (stmt x.tree.value))
 closed (r.Program ss) k = reading_of (program_at (body a_program (map stmt ss.list.items) ∷ k))
 closed r.Open k = broken

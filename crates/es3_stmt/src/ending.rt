@@ -81,7 +81,7 @@ fn program_at(mut stack: Stack) -> Option<Program>
 #[tactic(auto, unfolding(es3_grammar::specs::Machine::all_of))]
 fn close_outer(alloc: Global, outer: Outer, done: Done) -> Result<Closed, Memory>
     ensures { IfOk result (λ r. (k : Frames) →
-        closed r k ≡ reading_of (all_of_spec (outer_of outer ∷ k) (stmt done.tree))) }
+        closed r k ≡ reading_of (all_of_spec (outer_of outer ∷ k) (stmt done.tree.value))) }
 {
     Ok(Closed::Whole(match outer {
         Outer::Then(test) => Done::branch(alloc, test, done)?,
@@ -100,7 +100,7 @@ fn close_outer(alloc: Global, outer: Outer, done: Done) -> Result<Closed, Memory
 fn close_list(body: Body, statements: Stmts, done: Done) -> Result<Closed, Memory>
     ensures { IfOk result (λ r. (k : Frames) →
         closed r k
-        ≡ reading_of (all_of_spec (list_frame (body_of body) (map stmt statements.list.items) ∷ k) (stmt done.tree))) }
+        ≡ reading_of (all_of_spec (list_frame (body_of body) (map stmt statements.list.items) ∷ k) (stmt done.tree.value))) }
 {
     match body {
         Body::Program => Ok(Closed::Program(statements.with(done)?)),
@@ -114,7 +114,7 @@ fn close_list(body: Body, statements: Stmts, done: Done) -> Result<Closed, Memor
 #[tactic(auto, unfolding(es3_grammar::specs::Machine::all_of))]
 fn close(alloc: Global, frame: Frame, done: Done) -> Result<Closed, Memory>
     ensures { IfOk result (λ r. (k : Frames) →
-        closed r k ≡ reading_of (all_of_spec (frame_of frame ∷ k) (stmt done.tree))) }
+        closed r k ≡ reading_of (all_of_spec (frame_of frame ∷ k) (stmt done.tree.value))) }
 {
     match frame {
         Frame::Outer(outer) => close_outer(alloc, outer, done),
@@ -129,7 +129,7 @@ fn close(alloc: Global, frame: Frame, done: Done) -> Result<Closed, Memory>
 /// The statement is the last one.
 #[tactic(auto, unfolding(es3_grammar::specs::Machine::all_of))]
 fn all_of(alloc: Global, mut stack: Stack, done: Done) -> Result<Option<Program>, Memory>
-    ensures { IfOk result (λ p. ended p ≡ reading_of (all_of_spec (stack_of stack) (stmt done.tree))) }
+    ensures { IfOk result (λ p. ended p ≡ reading_of (all_of_spec (stack_of stack) (stmt done.tree.value))) }
 {
     let mut whole = done;
     while let Some(frame) = stack.pop() {
@@ -150,7 +150,8 @@ pub fn ending(alloc: Global, stack: Stack, state: State) -> Result<Option<Progra
         State::Start => Ok(program_at(stack)),
         State::Ended(done) => all_of(alloc, stack, done),
         State::Caught(tried, name, handler) => {
-            all_of(alloc, stack, Done::caught(tried, name, handler))
+            let done = Done::caught(alloc, tried, name, handler)?;
+            all_of(alloc, stack, done)
         }
         state => {
             state.let_go();

@@ -78,7 +78,7 @@ pub fn step(
         State::Ended(done) => resume(alloc, stack, done, token),
         State::Closing(done) => Ok(closing(done, token)),
         State::Item(in_head, items) => item(alloc, in_head, items, token),
-        State::ItemEnd(in_head, name, items) => item_end(stack, in_head, name, items, token),
+        State::ItemEnd(in_head, name, items) => item_end(alloc, stack, in_head, name, items, token),
         State::ForOpen => for_open(alloc, stack, token),
         State::ForSecond(start) => for_second(alloc, stack, start, token),
         State::ForThird(start, test) => for_third(alloc, stack, start, test, token),
