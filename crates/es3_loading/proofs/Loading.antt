@@ -1,7 +1,6 @@
--- Lists that are loaded from their ends.
-use Rattle.std.proofs.Common.{◌≡◌, ℕ, List, [], ◌∷◌, ◌++◌, refl, sym, ap, ◌∙◌, append_assoc, Global}
-use Rattle.std.specs.Prelude.{map, reverse}
-use Rattle.std.proofs.lemmas.List.{map-append, reverse-append}
+-- Rows that are loaded in order.
+use Rattle.std.proofs.Common.{◌≡◌, ℕ, List, [], ◌∷◌, ◌++◌, refl, sym, ap, ◌∙◌, Global}
+use Rattle.std.specs.Prelude.{map}
 use Rattle.std.specs.declared.rc.Rc.{Rc}
 use Rattle.es3_tree.specs.Tree as t
 use Rattle.es3_tree.specs.View as v
@@ -17,20 +16,9 @@ use Rattle.es3_moves.specs.declared.code.StmtCode.{StmtCode}
 use Rattle.es3_moves.specs.declared.code.VarCode.{VarCode}
 use Rattle.es3_moves.specs.declared.code.CaseCode.{CaseCode}
 
--- what is left of a list, and then what was loaded, the last first
-abbrev pub joined : {A B P : Type 0} → (A → P) → (B → P) → List A → List B → List P
-joined f g xs ys = map f xs ++ map g (reverse ys)
-
--- one more is loaded
-pub joined-more : {A B P : Type 0} (f : A → P) (g : B → P) (xs xs' : List A) (ys ys' : List B) (x : A) (y : B) (all : List P) → xs ≡ xs' ++ x ∷ [] → ys' ≡ ys ++ y ∷ [] → g y ≡ f x → joined f g xs ys ≡ all → joined f g xs' ys' ≡ all
-joined-more f g xs xs' ys ys' x y all front back same h =
-    ap (λ l. map f xs' ++ map g (reverse l)) back
-    ∙ ap (λ l. map f xs' ++ map g l) (reverse-append ys (y ∷ []))
-    ∙ ap (λ p. map f xs' ++ (p ∷ map g (reverse ys))) same
-    ∙ sym (append_assoc (map f xs') (f x ∷ []) (map g (reverse ys)))
-    ∙ ap (λ l. l ++ map g (reverse ys)) (sym (map-append f xs' (x ∷ [])))
-    ∙ ap (λ l. map f l ++ map g (reverse ys)) (sym front)
-    ∙ h
+-- what was loaded, and then what is left of a list
+abbrev pub joined : {A B P : Type 0} → (B → P) → (A → P) → List B → List A → List P
+joined g f ys xs = map g ys ++ map f xs
 
 -- rows of trees
 abbrev pub exprs_of : List (t.Tree t.expr) → t.Tree t.exprs
