@@ -3,9 +3,10 @@
 ghost use Rattle.std.specs.Prelude.{◌≡◌, ℕ, IfOk, List, None};
 ghost use Rattle.es3_tree.specs.Tree as tree;
 ghost use Rattle.es3_language.specs.Store.{Store};
-ghost use Rattle.es3_language.specs.Tasks.{with_value};
+ghost use Rattle.plans.specs.Plans.{ends};
+ghost use Rattle.es3_language.specs.Tasks.{broke, continued, with_value};
 ghost use Rattle.es3_language.specs.Statements as st;
-ghost use Rattle.es3_moves.specs.Code.{maybe_expr, maybe_stmt, maybe_catch, maybe_finally, maybe_units, plain_cases, plain_expr, plain_first, plain_stmt, plain_stmts, plain_target};
+ghost use Rattle.es3_moves.specs.Code.{maybe_expr, maybe_stmt, maybe_catch, maybe_finally, maybe_units, plain_cases, plain_expr, plain_first, plain_stmt, plain_stmts, plain_target, plain_vars};
 ghost use Rattle.es3_moves.specs.Where.{plain_env, plain_labels, plain_loop};
 ghost use Rattle.es3_moves.specs.Moves.{effect_plan, move_plan};
 ghost use Rattle.es3_statements.specs.Places.{maybe_labels};
@@ -14,7 +15,7 @@ use crate::loops::{begin_body, begin_test};
 use caja_units::{Memory, Units};
 use es3_heap::Value;
 use es3_moves::code::{
-    CaseCode, CatchCode, ExprCode, FinallyCode, FirstCode, StmtCode, TargetCode,
+    CaseCode, CatchCode, ExprCode, FinallyCode, FirstCode, StmtCode, TargetCode, VarCode,
 };
 use es3_moves::frame::{
     Effect, End, Env, Flow, Frame, Handlers, Labels, Looping, Move, Task, VarsEnd,
@@ -33,14 +34,8 @@ pub fn enter_stmt(
     ensures { IfOk result (λ x. (s : Store) → move_plan x s ≡ st.stmt_plan (plain_stmt code.now) (maybe_labels labels) (plain_env env) s) }
 {
     match code {
-        StmtCode::Block(xs) => {
-            let xs = xs.clone()?;
-            Ok(Move::List(xs, 0, None, env, End::Block))
-        }
-        StmtCode::Var(items) => {
-            let items = items.clone()?;
-            Ok(Move::Vars(items, 0, VarsEnd::Statement, env))
-        }
+        StmtCode::Block(xs) => enter_block(xs, env),
+        StmtCode::Var(items) => enter_vars(items, env),
         StmtCode::Empty => Ok(Move::End(Flow::Normal(None))),
         StmtCode::Expr(e) => enter_value(e, Effect::ToNormal, env),
         StmtCode::If(e, x, other) => enter_if(e, x, other, env),
@@ -48,8 +43,8 @@ pub fn enter_stmt(
         StmtCode::Do(x, e) => enter_do(alloc, x, e, labels, env),
         StmtCode::For(first, e, u, x) => enter_for(alloc, first, e, u, x, labels, env),
         StmtCode::ForIn(target, e, x) => enter_for_in(alloc, target, e, x, labels, env),
-        StmtCode::Continue(label) => Ok(Move::End(Flow::Continued(label_of(label)?, None))),
-        StmtCode::Break(label) => Ok(Move::End(Flow::Broke(label_of(label)?, None))),
+        StmtCode::Continue(label) => enter_continue(label),
+        StmtCode::Break(label) => enter_break(label),
         StmtCode::Return(value) => enter_return(value, env),
         StmtCode::With(e, x) => enter_with(e, x, env),
         StmtCode::Switch(e, cs) => enter_switch(alloc, e, cs, labels, env),
@@ -78,6 +73,38 @@ fn label_of(label: &Option<Rc<Units>>) -> Result<Option<Rc<Units>>, Memory>
         Some(label) => Ok(Some(label.clone()?)),
         None => Ok(None),
     }
+}
+
+/// The statements of a block (ES3 12.1).
+fn enter_block(xs: &Rc<Vec<Rc<StmtCode>>>, env: Env) -> Result<Move, Memory>
+    ensures { IfOk result (λ m. (ls : List (List ℕ)) (s : Store) → move_plan m s ≡ st.stmt_plan (tree.block (plain_stmts xs.now.value.items)) ls (plain_env env) s) }
+{
+    let xs = xs.clone()?;
+    Ok(Move::List(xs, 0, None, env, End::Block))
+}
+
+/// The variables of a `var` (ES3 12.2).
+fn enter_vars(items: &Rc<Vec<VarCode>>, env: Env) -> Result<Move, Memory>
+    ensures { IfOk result (λ m. (ls : List (List ℕ)) (s : Store) → move_plan m s ≡ st.stmt_plan (tree.var (plain_vars items.now.value.items)) ls (plain_env env) s) }
+{
+    let items = items.clone()?;
+    Ok(Move::Vars(items, 0, VarsEnd::Statement, env))
+}
+
+/// `continue` (ES3 12.7).
+fn enter_continue(label: &Option<Rc<Units>>) -> Result<Move, Memory>
+    ensures { IfOk result (λ m. (s : Store) → move_plan m s ≡ ends (continued (maybe_units label.now) None) s) }
+{
+    let label = label_of(label)?;
+    Ok(Move::End(Flow::Continued(label, None)))
+}
+
+/// `break` (ES3 12.8).
+fn enter_break(label: &Option<Rc<Units>>) -> Result<Move, Memory>
+    ensures { IfOk result (λ m. (s : Store) → move_plan m s ≡ ends (broke (maybe_units label.now) None) s) }
+{
+    let label = label_of(label)?;
+    Ok(Move::End(Flow::Broke(label, None)))
 }
 
 /// An expression, with what a statement does with its value.

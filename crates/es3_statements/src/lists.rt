@@ -97,9 +97,6 @@ pub fn after_statement(
             let v = later(v, kept(&end, acc));
             close(alloc, end, Flow::Continued(jump, v), texts)
         }
-        Flow::Gave(v) => close(alloc, end, Flow::Gave(v), texts),
-        Flow::Found(reference) => close(alloc, end, Flow::Found(reference), texts),
-        Flow::Returned(v) => close(alloc, end, Flow::Returned(v), texts),
-        Flow::Threw(v) => close(alloc, end, Flow::Threw(v), texts),
+        other => close(alloc, end, other, texts),
     }
 }

@@ -72,10 +72,7 @@ pub fn turned(labels: &Labels, acc: Option<Value>, flow: Flow) -> Turn
                 Turn::Leaves(Flow::Broke(jump, v))
             }
         }
-        Flow::Gave(v) => Turn::Leaves(Flow::Gave(v)),
-        Flow::Found(reference) => Turn::Leaves(Flow::Found(reference)),
-        Flow::Returned(v) => Turn::Leaves(Flow::Returned(v)),
-        Flow::Threw(v) => Turn::Leaves(Flow::Threw(v)),
+        other => Turn::Leaves(other),
     }
 }
 
@@ -124,12 +121,7 @@ fn unlabelled(label: &Rc<Units>, flow: Flow) -> Flow
                 Flow::Broke(jump, v)
             }
         }
-        Flow::Normal(v) => Flow::Normal(v),
-        Flow::Continued(jump, v) => Flow::Continued(jump, v),
-        Flow::Gave(v) => Flow::Gave(v),
-        Flow::Found(reference) => Flow::Found(reference),
-        Flow::Returned(v) => Flow::Returned(v),
-        Flow::Threw(v) => Flow::Threw(v),
+        other => other,
     }
 }
 

@@ -29,12 +29,7 @@ fn after_switch(labels: &Labels, flow: Flow) -> Flow
                 Flow::Broke(jump, v)
             }
         }
-        Flow::Normal(v) => Flow::Normal(v),
-        Flow::Continued(jump, v) => Flow::Continued(jump, v),
-        Flow::Gave(v) => Flow::Gave(v),
-        Flow::Found(reference) => Flow::Found(reference),
-        Flow::Returned(v) => Flow::Returned(v),
-        Flow::Threw(v) => Flow::Threw(v),
+        other => other,
     }
 }
 
@@ -52,12 +47,7 @@ pub fn after_clause(
 {
     match flow {
         Flow::Normal(_v) => next_body(cs, at, labels, env),
-        Flow::Broke(jump, v) => Ok(Move::End(after_switch(&labels, Flow::Broke(jump, v)))),
-        Flow::Continued(jump, v) => Ok(Move::End(Flow::Continued(jump, v))),
-        Flow::Gave(v) => Ok(Move::End(Flow::Gave(v))),
-        Flow::Found(reference) => Ok(Move::End(Flow::Found(reference))),
-        Flow::Returned(v) => Ok(Move::End(Flow::Returned(v))),
-        Flow::Threw(v) => Ok(Move::End(Flow::Threw(v))),
+        other => Ok(Move::End(after_switch(&labels, other))),
     }
 }
 
