@@ -1,6 +1,6 @@
 //! What is read of a program so far: trees with how deep they nest, and lists of them. A depth is at most 2^32 - 1.
 
-ghost use Rattle.std.specs.Prelude.{◌≡◌, ◌+◌, ◌++◌, ◌∷◌, [], List, map, IfOk, None};
+ghost use Rattle.std.specs.Prelude.{◌≡◌, ◌+◌, ◌++◌, ◌∷◌, [], map, IfOk, None};
 ghost use Rattle.es3_tree.specs.Tree as t;
 ghost use Rattle.es3_tree.specs.Placed as placed;
 ghost use Rattle.es3_tree.specs.PlacedView.{word, expr, stmt, first, loop_target, of_exprs, of_fields, of_stmts, of_items, of_cases, of_handler};
