@@ -5,7 +5,7 @@ ghost use Rattle.page_cajole.specs.Cajoled.{outcome};
 ghost use Rattle.es3_tree.specs.View.{program};
 ghost use Rattle.es3_printed.specs.Tokens.{printed};
 ghost use Rattle.caja_cli.specs.Output.{source_output, solo_parts, end_status as end_status_of, module_part, page_steps};
-ghost use Rattle.page_runner.specs.Log.{page_log, page_end};
+ghost use Rattle.page_runner.specs.Log.{page_end};
 
 use crate::ending::{end_line, end_status};
 use crate::refusal::refused;

@@ -5,7 +5,7 @@ ghost use Rattle.es3_tree.specs.Tree as t;
 ghost use Rattle.es3_tree.specs.declared.UnOp.TheVariants as un;
 ghost use Rattle.es3_language.specs.Store.{Store};
 ghost use Rattle.es3_language.specs.Expressions as e;
-ghost use Rattle.es3_moves.specs.Code.{plain_expr, plain_prefix, plain_exprs, plain_fields, plain_func};
+ghost use Rattle.es3_moves.specs.Code.{plain_expr, plain_prefix, plain_exprs, plain_fields};
 ghost use Rattle.es3_moves.specs.Where.{plain_env};
 ghost use Rattle.es3_moves.specs.Texts.{store_of};
 ghost use Rattle.es3_moves.specs.Moves.{move_plan};

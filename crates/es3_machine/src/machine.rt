@@ -1,9 +1,8 @@
 //! The machine, as its users see it.
 
-ghost use Rattle.std.specs.Prelude.{◌≡◌, ◌-◌, ◌≤◌, IfOk, OnErr, OnOk, None, Some, []};
+ghost use Rattle.std.specs.Prelude.{◌≡◌, ◌-◌, ◌≤◌, IfOk, OnErr, OnOk, None, Some};
 ghost use Rattle.es3_tree.specs.View as v;
 ghost use Rattle.es3_heap.specs.Objects.{Objects};
-ghost use Rattle.es3_language.specs.Store.{Store};
 ghost use Rattle.es3_moves.specs.Texts.{store_of};
 ghost use Rattle.es3_moves.specs.Where.{plain_flow};
 ghost use Rattle.es3_machine.specs.Machine.{a_program, a_call, completed, run_started, value_or_undefined, Ran};

@@ -3,7 +3,7 @@
 ghost use Rattle.std.specs.Prelude.{◌≡◌, false};
 ghost use Rattle.es3_tree.specs.Tree as tree;
 ghost use Rattle.es3_tree.specs.View.{expr};
-ghost use Rattle.es3_printed.specs.Tokens.{own_level, calls, is_in, is_number, wraps, wraps_object, wraps_maker, bare, opens};
+ghost use Rattle.es3_printed.specs.Tokens.{own_level, calls, is_in, wraps, wraps_object, wraps_maker, bare, opens};
 
 use es3_expr::Join;
 use es3_tree::{BinOp, Expr};

@@ -1,6 +1,6 @@
 //! The natives of a page.
 
-ghost use Rattle.std.specs.Prelude.{◌≡◌, IfOk, codes};
+ghost use Rattle.std.specs.Prelude.{IfOk, codes};
 ghost use Rattle.es3_heap.specs.Objects.{Objects, object_at, class_of};
 ghost use Rattle.es3_moves.specs.Answers.{Answers};
 ghost use Rattle.guard_runtime.specs.Answers.{GuardAnswers};

@@ -2,7 +2,7 @@
 
 ghost use Rattle.std.specs.Prelude.{◌≡◌, IfOk, OnOk};
 ghost use Rattle.es3_heap.specs.Properties.{define};
-ghost use Rattle.module_loader.specs.Opened.{opened, with_guard, with_guards, with_objects, runtime_id, imports_id, globals_id};
+ghost use Rattle.module_loader.specs.Opened.{opened, with_guard, with_guards, runtime_id, imports_id, globals_id};
 
 use caja_units::{Memory, Units};
 use es3_heap::{Attrs, Class, FuncKind, Heap, ObjId, Proto, Value};

@@ -1,6 +1,6 @@
 //! How values and the end of a load are shown in the log.
 
-ghost use Rattle.std.specs.Prelude.{◌≡◌, ◌++◌, IfOk, OnOk, codes};
+ghost use Rattle.std.specs.Prelude.{◌≡◌, ◌++◌, IfOk, OnOk};
 ghost use Rattle.caja_units.specs.Number.{number_text};
 ghost use Rattle.caja_units.specs.Literal.{literal};
 ghost use Rattle.es3_heap.specs.Objects.{object_at, class_of, tag_of};

@@ -1,6 +1,6 @@
 //! The names that a body declares itself (ES3 10.1.3, 12.2, 12.6, 13).
 
-ghost use Rattle.std.specs.Prelude.{◌≡◌, ◌++◌, [], map, IfOk, OnOk};
+ghost use Rattle.std.specs.Prelude.{◌≡◌, ◌++◌, map, IfOk, OnOk};
 ghost use Rattle.es3_tree.specs.Tree as tree;
 ghost use Rattle.es3_tree.specs.PlacedView as source;
 ghost use Rattle.scope_rules.specs.Declarations.{declarations, body_declarations, declared_as, parameter};

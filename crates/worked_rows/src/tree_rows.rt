@@ -2,7 +2,7 @@
 
 ghost use Rattle.std.specs.Prelude.{◌≡◌, IfOk};
 ghost use Rattle.es3_tree.specs.Tree as tree;
-ghost use Rattle.es3_tree.specs.View.{expr, stmt, func, program};
+ghost use Rattle.es3_tree.specs.View.{expr, stmt, program};
 ghost use Rattle.es3_tree.specs.Measure.{nest, count};
 
 use crate::lists::alone;
