@@ -138,10 +138,6 @@ abbrev pub of_items : List CVarItem → c.Tree c.items
 of_items [] = c.no_items
 of_items (x ∷ xs) = c.more_items x.name (of_maybe_expr x.value) (of_items xs)
 
-abbrev pub of_else : Option CStmt → c.Tree c.maybe_stmt
-of_else None = c.no_stmt
-of_else (Some x) = c.some_stmt (stmt x)
-
 abbrev pub of_maybe_stmt : Option (Box CStmt) → c.Tree c.maybe_stmt
 of_maybe_stmt None = c.no_stmt
 of_maybe_stmt (Some x) = c.some_stmt (stmt x.value)

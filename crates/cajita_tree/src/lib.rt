@@ -6,21 +6,18 @@ ghost use Rattle.std.specs.Prelude.{◌≡◌, IfOk, option_map};
 ghost use Rattle.cajita_tree.specs.View.{expr, target as target_view, of_exprs};
 ghost use Rattle.cajita_tree.specs.Parts.{called as called_tree, target_of, deleted as deleted_tree};
 
-mod boxed;
+pub mod boxes;
 pub mod make_expr;
 pub mod make_stmt;
 
+pub use boxes::boxed;
 use caja_num::Whole;
 use caja_units::{Memory, Units};
 use es3_tree::{BinOp, UnOp};
-pub use make_expr::{
-    make_and, make_array, make_assign, make_binary, make_call, make_comma, make_computed,
-    make_cond, make_delete, make_function, make_member, make_method, make_new, make_or, make_read,
-    make_record, make_step, make_unary,
-};
+pub use make_expr::{make_array, make_call, make_function, make_new, make_record};
 pub use make_stmt::{
-    make_block, make_body, make_do, make_first_var, make_for, make_for_in, make_func, make_if,
-    make_label, make_return, make_switch, make_try, make_var, make_while,
+    make_block, make_body, make_first_var, make_for, make_func, make_if, make_return, make_switch,
+    make_try, make_var,
 };
 use std::alloc::Global;
 
@@ -267,7 +264,7 @@ impl CExpr {
     {
         match self {
             CExpr::Read(object, key) => Ok(CExpr::Method(object, key, arguments)),
-            other => make_call(alloc, other, arguments),
+            other => Ok(make_call(boxed(alloc, other)?, arguments)),
         }
     }
 

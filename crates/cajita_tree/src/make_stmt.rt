@@ -1,4 +1,4 @@
-ghost use Rattle.std.specs.Prelude.{◌≡◌, IfOk};
+ghost use Rattle.std.specs.Prelude.{◌≡◌};
 ghost use Rattle.cajita_tree.specs.Tree as tree;
 ghost use Rattle.cajita_tree.specs.View.{
   expr,
@@ -6,21 +6,18 @@ ghost use Rattle.cajita_tree.specs.View.{
   func,
   first,
   body as body_view,
-  target as target_view,
   of_stmts,
   of_items,
   of_cases,
   of_maybe_expr,
-  of_else,
+  of_maybe_stmt,
   of_handler,
   of_maybe_block,
   of_funcs,
 };
 
-use crate::boxed::{boxed, boxed_beside};
-use crate::{CBody, CCase, CExpr, CFirst, CFunc, CStmt, CVarItem, Target};
-use caja_units::{Memory, Units};
-use std::alloc::Global;
+use crate::{CBody, CCase, CExpr, CFirst, CFunc, CStmt, CVarItem};
+use caja_units::Units;
 
 /// A block (ES3 12.1).
 #[tactic(auto, using(crate::proofs::Rows::view_block))]
@@ -40,38 +37,10 @@ pub fn make_var(items: Vec<CVarItem>) -> CStmt
 
 /// An `if`, with its `else` if it has one (ES3 12.5).
 #[tactic(auto, using(crate::proofs::Rows::view_if))]
-pub fn make_if(
-    alloc: Global,
-    test: CExpr,
-    then: CStmt,
-    otherwise: Option<CStmt>,
-) -> Result<CStmt, Memory>
-    ensures { IfOk result (λ s. stmt s ≡ tree.branch (expr test) (stmt then) (of_else otherwise)) }
+pub fn make_if(test: CExpr, then: Box<CStmt>, otherwise: Option<Box<CStmt>>) -> CStmt
+    ensures { stmt result ≡ tree.branch (expr test) (stmt then.value) (of_maybe_stmt otherwise) }
 {
-    let (then, (test, otherwise)) = boxed_beside(alloc, then, (test, otherwise))?;
-    match otherwise {
-        None => Ok(CStmt::If(test, then, None)),
-        Some(otherwise) => {
-            let (otherwise, (test, then)) = boxed_beside(alloc, otherwise, (test, then))?;
-            Ok(CStmt::If(test, then, Some(otherwise)))
-        }
-    }
-}
-
-/// A `while` (ES3 12.6.2).
-pub fn make_while(alloc: Global, test: CExpr, body: CStmt) -> Result<CStmt, Memory>
-    ensures { IfOk result (λ s. stmt s ≡ tree.while_loop (expr test) (stmt body)) }
-{
-    let (body, test) = boxed_beside(alloc, body, test)?;
-    Ok(CStmt::While(test, body))
-}
-
-/// A `do` .. `while` (ES3 12.6.1).
-pub fn make_do(alloc: Global, body: CStmt, test: CExpr) -> Result<CStmt, Memory>
-    ensures { IfOk result (λ s. stmt s ≡ tree.do_loop (stmt body) (expr test)) }
-{
-    let (body, test) = boxed_beside(alloc, body, test)?;
-    Ok(CStmt::Do(body, test))
+    CStmt::If(test, then, otherwise)
 }
 
 /// The first part of the head of a `for` that declares variables (ES3 12.6.3).
@@ -85,30 +54,14 @@ pub fn make_first_var(items: Vec<CVarItem>) -> CFirst
 /// A `for` whose head has three parts (ES3 12.6.3).
 #[tactic(auto, using(crate::proofs::Rows::view_for))]
 pub fn make_for(
-    alloc: Global,
     start: CFirst,
     test: Option<CExpr>,
     update: Option<CExpr>,
-    body: CStmt,
-) -> Result<CStmt, Memory>
-    ensures { IfOk result (λ s.
-        stmt s ≡ tree.for_loop (first start) (of_maybe_expr test) (of_maybe_expr update) (stmt body)) }
+    body: Box<CStmt>,
+) -> CStmt
+    ensures { stmt result ≡ tree.for_loop (first start) (of_maybe_expr test) (of_maybe_expr update) (stmt body.value) }
 {
-    let (body, (start, test, update)) = boxed_beside(alloc, body, (start, test, update))?;
-    Ok(CStmt::For(start, test, update, body))
-}
-
-/// A `for` .. `in` (ES3 12.6.4).
-pub fn make_for_in(
-    alloc: Global,
-    target: Target,
-    object: CExpr,
-    body: CStmt,
-) -> Result<CStmt, Memory>
-    ensures { IfOk result (λ s. stmt s ≡ tree.for_in (target_view target) (expr object) (stmt body)) }
-{
-    let (body, (target, object)) = boxed_beside(alloc, body, (target, object))?;
-    Ok(CStmt::ForIn(target, object, body))
+    CStmt::For(start, test, update, body)
 }
 
 /// A `return`, with its value if it has one (ES3 12.9).
@@ -125,14 +78,6 @@ pub fn make_switch(value: CExpr, cases: Vec<CCase>) -> CStmt
     ensures { stmt result ≡ tree.switch (expr value) (of_cases cases.items) }
 {
     CStmt::Switch(value, cases)
-}
-
-/// A statement with a label before it (ES3 12.12).
-pub fn make_label(alloc: Global, label: Units, body: CStmt) -> Result<CStmt, Memory>
-    ensures { IfOk result (λ s. stmt s ≡ tree.label label (stmt body)) }
-{
-    let (body, label) = boxed_beside(alloc, body, label)?;
-    Ok(CStmt::Label(label, body))
 }
 
 /// A `try`, with its `catch` and its `finally` if it has them (ES3 12.14).

@@ -8,5 +8,6 @@ pub mod Resolve
 pub mod Declaring
 pub mod Language
 pub mod Found
+pub mod Boxed
 pub mod Gives
 pub mod Check

@@ -13,6 +13,7 @@ ghost use Rattle.scope_rules.specs.Language.{is_first as is_of_the_first};
 ghost use Rattle.scope_rules.specs.Resolve.{module_of};
 
 mod arguments;
+mod boxes;
 mod declarations;
 mod expr_forms;
 mod faults;

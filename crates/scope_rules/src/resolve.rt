@@ -4,11 +4,13 @@ ghost use Rattle.std.specs.Prelude.{◌≡◌};
 ghost use Rattle.es3_tree.specs.Tree as tree;
 ghost use Rattle.es3_tree.specs.PlacedView as source;
 ghost use Rattle.cajita_tree.specs.View as view;
+ghost use Rattle.scope_rules.specs.Boxed as held;
 ghost use Rattle.scope_rules.specs.Declaring.{is_declaration as declares_function};
 ghost use Rattle.scope_rules.specs.Gives.{Gives};
 ghost use Rattle.scope_rules.specs.Resolve.{resolved, declared_functions, body_of};
 
 use crate::arguments::are_named;
+use crate::boxes::unboxed;
 use crate::declarations::module_declarations;
 use crate::once::vars_of;
 use crate::{expr_forms, stmt_forms};
@@ -21,18 +23,18 @@ use std::alloc::Global;
 
 #[cycle(resolve)]
 #[tactic(auto, unfolding(crate::specs::Resolve::resolved), using(es3_tree::proofs::PlacedRows::placed_views))]
-fn resolve_expr(alloc: Global, expression: &Expr) -> Result<Option<CExpr>, Memory>
-    ensures { Gives result view.expr (resolved tree.expr (source.expr expression.now)) }
+fn resolve_expr(alloc: Global, expression: &Expr) -> Result<Option<Box<CExpr>>, Memory>
+    ensures { Gives result held.expr (resolved tree.expr (source.expr expression.now)) }
 {
     match expression {
         Expr::This(_) => Ok(None),
-        Expr::Null => Ok(Some(CExpr::Null)),
-        Expr::Bool(value) => Ok(Some(CExpr::Bool(*value))),
-        Expr::Num(number) => Ok(Some(CExpr::Num(*number))),
-        Expr::Text(text) => Ok(Some(CExpr::Text(text.copy(alloc)?))),
-        Expr::Name(name) => Ok(Some(expr_forms::name(alloc, name)?)),
-        Expr::Array(elements) => expr_forms::array(resolve_exprs(alloc, elements)),
-        Expr::Object(fields) => expr_forms::record_literal(resolve_fields(alloc, fields)),
+        Expr::Null => expr_forms::leaf(alloc, CExpr::Null),
+        Expr::Bool(value) => expr_forms::leaf(alloc, CExpr::Bool(*value)),
+        Expr::Num(number) => expr_forms::leaf(alloc, CExpr::Num(*number)),
+        Expr::Text(text) => expr_forms::text_literal(alloc, text),
+        Expr::Name(name) => expr_forms::name(alloc, name),
+        Expr::Array(elements) => expr_forms::array(alloc, resolve_exprs(alloc, elements)),
+        Expr::Object(fields) => expr_forms::record_literal(alloc, resolve_fields(alloc, fields)),
         Expr::Func(function) => expr_forms::function(alloc, resolve_func(alloc, function)),
         Expr::Dot(object, key) => expr_forms::dot(alloc, key, resolve_expr(alloc, object)),
         Expr::Index(object, key) => {
@@ -50,7 +52,7 @@ fn resolve_expr(alloc: Global, expression: &Expr) -> Result<Option<CExpr>, Memor
         Expr::Unary(op, operand, _) => expr_forms::unary(alloc, *op, resolve_expr(alloc, operand)),
         Expr::Step(up, before, operand) => {
             let operand = expr_forms::target(resolve_expr(alloc, operand));
-            expr_forms::step(*up, *before, operand)
+            expr_forms::step(alloc, *up, *before, operand)
         }
         Expr::Binary(op, left, right) => {
             let left = resolve_expr(alloc, left);
@@ -90,7 +92,7 @@ fn resolve_exprs(alloc: Global, list: &[Expr]) -> Result<Option<Vec<CExpr>>, Mem
         let Some(expression) = resolve_expr(alloc, expression)? else {
             return Ok(None);
         };
-        done.push(expression)?;
+        done.push(Box::into_inner(expression))?;
     }
     Ok(Some(done))
 }
@@ -108,7 +110,7 @@ fn resolve_fields(
         let Some(value) = resolve_expr(alloc, value)? else {
             return Ok(None);
         };
-        done.push((key.text.copy(alloc)?, value))?;
+        done.push((key.text.copy(alloc)?, Box::into_inner(value)))?;
     }
     Ok(Some(done))
 }
@@ -118,8 +120,8 @@ fn resolve_fields(
 fn resolve_maybe_expr(
     alloc: Global,
     expression: &Option<Expr>,
-) -> Result<Option<Option<CExpr>>, Memory>
-    ensures { Gives result view.of_maybe_expr (resolved tree.maybe_expr (source.of_maybe_expr expression.now)) }
+) -> Result<Option<Option<Box<CExpr>>>, Memory>
+    ensures { Gives result held.maybe_expr (resolved tree.maybe_expr (source.of_maybe_expr expression.now)) }
 {
     let Some(expression) = expression else {
         return Ok(Some(None));
@@ -182,14 +184,14 @@ fn resolve_funcs(alloc: Global, list: &[Stmt]) -> Result<Option<Vec<CFunc>>, Mem
 
 #[cycle(resolve)]
 #[tactic(auto, unfolding(crate::specs::Resolve::resolved), using(es3_tree::proofs::PlacedRows::placed_views))]
-fn resolve_stmt(alloc: Global, statement: &Stmt) -> Result<Option<CStmt>, Memory>
-    ensures { Gives result view.stmt (resolved tree.stmt (source.stmt statement.now)) }
+fn resolve_stmt(alloc: Global, statement: &Stmt) -> Result<Option<Box<CStmt>>, Memory>
+    ensures { Gives result held.stmt (resolved tree.stmt (source.stmt statement.now)) }
 {
     match statement {
-        Stmt::Block(body) => stmt_forms::block(resolve_stmts(alloc, body)),
-        Stmt::Var(items) => stmt_forms::var(resolve_items(alloc, items)),
-        Stmt::Empty | Stmt::Func(_) => Ok(Some(CStmt::Empty)),
-        Stmt::Expr(value) => stmt_forms::expression(resolve_expr(alloc, value)),
+        Stmt::Block(body) => stmt_forms::block(alloc, resolve_stmts(alloc, body)),
+        Stmt::Var(items) => stmt_forms::var(alloc, resolve_items(alloc, items)),
+        Stmt::Empty | Stmt::Func(_) => stmt_forms::leaf(alloc, CStmt::Empty),
+        Stmt::Expr(value) => stmt_forms::expression(alloc, resolve_expr(alloc, value)),
         Stmt::If(test, then, otherwise) => {
             let test = resolve_expr(alloc, test);
             let then = resolve_stmt(alloc, then);
@@ -214,16 +216,16 @@ fn resolve_stmt(alloc: Global, statement: &Stmt) -> Result<Option<CStmt>, Memory
             let object = resolve_expr(alloc, object);
             stmt_forms::for_in(alloc, target, object, resolve_stmt(alloc, body))
         }
-        Stmt::Continue(label, _) => Ok(Some(CStmt::Continue(expr_forms::text(alloc, label)?))),
-        Stmt::Break(label, _) => Ok(Some(CStmt::Break(expr_forms::text(alloc, label)?))),
-        Stmt::Return(value, _) => stmt_forms::return_value(resolve_maybe_expr(alloc, value)),
+        Stmt::Continue(label, _) => stmt_forms::continue_to(alloc, label),
+        Stmt::Break(label, _) => stmt_forms::break_from(alloc, label),
+        Stmt::Return(value, _) => stmt_forms::return_value(alloc, resolve_maybe_expr(alloc, value)),
         Stmt::With(_, _, _) => Ok(None),
         Stmt::Switch(value, cases) => {
             let value = resolve_expr(alloc, value);
-            stmt_forms::switch(value, resolve_cases(alloc, cases))
+            stmt_forms::switch(alloc, value, resolve_cases(alloc, cases))
         }
         Stmt::Label(label, body) => stmt_forms::label(alloc, label, resolve_stmt(alloc, body)),
-        Stmt::Throw(value) => stmt_forms::throw(resolve_expr(alloc, value)),
+        Stmt::Throw(value) => stmt_forms::throw(alloc, resolve_expr(alloc, value)),
         Stmt::Try(body, handler, last) => {
             let handler = match handler {
                 Some((name, caught)) => {
@@ -235,7 +237,7 @@ fn resolve_stmt(alloc: Global, statement: &Stmt) -> Result<Option<CStmt>, Memory
                 Some(last) => stmt_forms::last(resolve_stmts(alloc, last)),
                 None => Ok(Some(None)),
             };
-            stmt_forms::try_catch(resolve_stmts(alloc, body), handler, last)
+            stmt_forms::try_catch(alloc, resolve_stmts(alloc, body), handler, last)
         }
     }
 }
@@ -261,7 +263,7 @@ fn resolve_stmts(alloc: Global, list: &[Stmt]) -> Result<Option<Vec<CStmt>>, Mem
         let Some(statement) = resolve_stmt(alloc, statement)? else {
             return Ok(None);
         };
-        done.push(statement)?;
+        done.push(Box::into_inner(statement))?;
     }
     Ok(Some(done))
 }
@@ -271,8 +273,8 @@ fn resolve_stmts(alloc: Global, list: &[Stmt]) -> Result<Option<Vec<CStmt>>, Mem
 fn resolve_maybe_stmt(
     alloc: Global,
     statement: &Option<Box<Stmt>>,
-) -> Result<Option<Option<CStmt>>, Memory>
-    ensures { Gives result view.of_else (resolved tree.maybe_stmt (source.of_maybe_stmt statement.now)) }
+) -> Result<Option<Option<Box<CStmt>>>, Memory>
+    ensures { Gives result view.of_maybe_stmt (resolved tree.maybe_stmt (source.of_maybe_stmt statement.now)) }
 {
     let Some(statement) = statement else {
         return Ok(Some(None));
@@ -295,7 +297,7 @@ fn resolve_items(alloc: Global, items: &[VarItem]) -> Result<Option<Vec<CVarItem
         };
         done.push(CVarItem {
             name: item.name.text.copy(alloc)?,
-            value,
+            value: unboxed(value),
         })?;
     }
     Ok(Some(done))
@@ -314,20 +316,23 @@ fn resolve_cases(alloc: Global, cases: &[Case]) -> Result<Option<Vec<CCase>>, Me
         let Some(body) = resolve_stmts(alloc, &case.body)? else {
             return Ok(None);
         };
-        done.push(CCase { test, body })?;
+        done.push(CCase {
+            test: unboxed(test),
+            body,
+        })?;
     }
     Ok(Some(done))
 }
 
 #[cycle(resolve)]
 #[tactic(auto, unfolding(crate::specs::Resolve::resolved), using(es3_tree::proofs::PlacedRows::placed_views))]
-fn resolve_first(alloc: Global, start: &First) -> Result<Option<CFirst>, Memory>
-    ensures { Gives result view.first (resolved tree.first (source.first start.now)) }
+fn resolve_first(alloc: Global, start: &First) -> Result<Option<Box<CFirst>>, Memory>
+    ensures { Gives result held.first (resolved tree.first (source.first start.now)) }
 {
     match start {
-        First::None => Ok(Some(CFirst::None)),
-        First::Var(items) => stmt_forms::first_var(resolve_items(alloc, items)),
-        First::Expr(value) => stmt_forms::first_expr(resolve_expr(alloc, value)),
+        First::None => stmt_forms::no_first(alloc),
+        First::Var(items) => stmt_forms::first_var(alloc, resolve_items(alloc, items)),
+        First::Expr(value) => stmt_forms::first_expr(alloc, resolve_expr(alloc, value)),
     }
 }
 

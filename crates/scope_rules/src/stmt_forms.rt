@@ -1,225 +1,279 @@
 //! Resolved statements of parts that may have no resolved form: a statement is there exactly where its parts are.
 
-ghost use Rattle.std.specs.Prelude.{Option};
+ghost use Rattle.std.specs.Prelude.{Option, Some};
+ghost use Rattle.es3_tree.specs.PlacedView as source;
 ghost use Rattle.cajita_tree.specs.Tree as tree;
 ghost use Rattle.cajita_tree.specs.View as view;
+ghost use Rattle.scope_rules.specs.Boxed as held;
 ghost use Rattle.scope_rules.specs.Gives.{Gives};
-ghost use Rattle.scope_rules.specs.Resolve.{one, both, three, four};
+ghost use Rattle.scope_rules.specs.Resolve.{one, both, three, four, text_of};
 
+use crate::boxes::unboxed;
+use crate::expr_forms;
 use crate::together::joined;
 use caja_units::{Memory, Units};
 use cajita_tree::{
-    CCase, CExpr, CFirst, CStmt, CVarItem, Target, make_block, make_do, make_first_var, make_for,
-    make_for_in, make_if, make_label, make_return, make_switch, make_try, make_var, make_while,
+    CCase, CExpr, CFirst, CStmt, CVarItem, Target, boxed, make_block, make_first_var, make_for,
+    make_if, make_return, make_switch, make_try, make_var,
 };
 use es3_tree::Name;
 use std::alloc::Global;
 
+/// A statement that has no parts.
+pub(crate) fn leaf(alloc: Global, tree: CStmt) -> Result<Option<Box<CStmt>>, Memory>
+    ensures { Gives result held.stmt (Some (view.stmt tree)) }
+{
+    Ok(Some(boxed(alloc, tree)?))
+}
+
+pub(crate) fn continue_to(alloc: Global, label: &Option<Name>) -> Result<Option<Box<CStmt>>, Memory>
+    ensures { Gives result held.stmt (Some (tree.continue (text_of (source.word_of label.now)))) }
+{
+    leaf(alloc, CStmt::Continue(expr_forms::text(alloc, label)?))
+}
+
+pub(crate) fn break_from(alloc: Global, label: &Option<Name>) -> Result<Option<Box<CStmt>>, Memory>
+    ensures { Gives result held.stmt (Some (tree.break (text_of (source.word_of label.now)))) }
+{
+    leaf(alloc, CStmt::Break(expr_forms::text(alloc, label)?))
+}
+
 #[tactic(auto, using(crate::proofs::Formed::formed_one))]
-pub(crate) fn block(body: Result<Option<Vec<CStmt>>, Memory>) -> Result<Option<CStmt>, Memory>
+pub(crate) fn block(
+    alloc: Global,
+    body: Result<Option<Vec<CStmt>>, Memory>,
+) -> Result<Option<Box<CStmt>>, Memory>
     ensures { (x : Option (tree.Tree tree.stmts))
         → Gives body (λ v. view.of_stmts v.items) x
-        → Gives result view.stmt (one tree.block x) }
+        → Gives result held.stmt (one tree.block x) }
 {
     let Some(body) = body? else {
         return Ok(None);
     };
-    Ok(Some(make_block(body)))
+    Ok(Some(boxed(alloc, make_block(body))?))
 }
 
 #[tactic(auto, using(crate::proofs::Formed::formed_one))]
-pub(crate) fn var(items: Result<Option<Vec<CVarItem>>, Memory>) -> Result<Option<CStmt>, Memory>
+pub(crate) fn var(
+    alloc: Global,
+    items: Result<Option<Vec<CVarItem>>, Memory>,
+) -> Result<Option<Box<CStmt>>, Memory>
     ensures { (x : Option (tree.Tree tree.items))
         → Gives items (λ v. view.of_items v.items) x
-        → Gives result view.stmt (one tree.var x) }
+        → Gives result held.stmt (one tree.var x) }
 {
     let Some(items) = items? else {
         return Ok(None);
     };
-    Ok(Some(make_var(items)))
+    Ok(Some(boxed(alloc, make_var(items))?))
 }
 
 #[tactic(auto, using(crate::proofs::Formed::formed_one))]
-pub(crate) fn expression(value: Result<Option<CExpr>, Memory>) -> Result<Option<CStmt>, Memory>
+pub(crate) fn expression(
+    alloc: Global,
+    value: Result<Option<Box<CExpr>>, Memory>,
+) -> Result<Option<Box<CStmt>>, Memory>
     ensures { (x : Option (tree.Tree tree.expr))
-        → Gives value view.expr x
-        → Gives result view.stmt (one tree.expression x) }
+        → Gives value held.expr x
+        → Gives result held.stmt (one tree.expression x) }
 {
     let Some(value) = value? else {
         return Ok(None);
     };
-    Ok(Some(CStmt::Expr(value)))
+    Ok(Some(boxed(alloc, CStmt::Expr(Box::into_inner(value)))?))
 }
 
 #[tactic(auto, using(crate::proofs::Formed::formed_three))]
 pub(crate) fn branch(
     alloc: Global,
-    test: Result<Option<CExpr>, Memory>,
-    then: Result<Option<CStmt>, Memory>,
-    otherwise: Result<Option<Option<CStmt>>, Memory>,
-) -> Result<Option<CStmt>, Memory>
+    test: Result<Option<Box<CExpr>>, Memory>,
+    then: Result<Option<Box<CStmt>>, Memory>,
+    otherwise: Result<Option<Option<Box<CStmt>>>, Memory>,
+) -> Result<Option<Box<CStmt>>, Memory>
     ensures { (x : Option (tree.Tree tree.expr)) (y : Option (tree.Tree tree.stmt)) (z : Option (tree.Tree tree.maybe_stmt))
-        → Gives test view.expr x → Gives then view.stmt y → Gives otherwise view.of_else z
-        → Gives result view.stmt (three tree.branch x y z) }
+        → Gives test held.expr x → Gives then held.stmt y → Gives otherwise view.of_maybe_stmt z
+        → Gives result held.stmt (three tree.branch x y z) }
 {
     let Some(((test, then), otherwise)) = joined(joined(test, then), otherwise)? else {
         return Ok(None);
     };
-    Ok(Some(make_if(alloc, test, then, otherwise)?))
+    let branch = make_if(Box::into_inner(test), then, otherwise);
+    Ok(Some(boxed(alloc, branch)?))
 }
 
 #[tactic(auto, using(crate::proofs::Formed::formed_both))]
 pub(crate) fn while_loop(
     alloc: Global,
-    test: Result<Option<CExpr>, Memory>,
-    body: Result<Option<CStmt>, Memory>,
-) -> Result<Option<CStmt>, Memory>
+    test: Result<Option<Box<CExpr>>, Memory>,
+    body: Result<Option<Box<CStmt>>, Memory>,
+) -> Result<Option<Box<CStmt>>, Memory>
     ensures { (x : Option (tree.Tree tree.expr)) (y : Option (tree.Tree tree.stmt))
-        → Gives test view.expr x → Gives body view.stmt y
-        → Gives result view.stmt (both tree.while_loop x y) }
+        → Gives test held.expr x → Gives body held.stmt y
+        → Gives result held.stmt (both tree.while_loop x y) }
 {
     let Some((test, body)) = joined(test, body)? else {
         return Ok(None);
     };
-    Ok(Some(make_while(alloc, test, body)?))
+    let turns = CStmt::While(Box::into_inner(test), body);
+    Ok(Some(boxed(alloc, turns)?))
 }
 
 #[tactic(auto, using(crate::proofs::Formed::formed_both))]
 pub(crate) fn do_loop(
     alloc: Global,
-    body: Result<Option<CStmt>, Memory>,
-    test: Result<Option<CExpr>, Memory>,
-) -> Result<Option<CStmt>, Memory>
+    body: Result<Option<Box<CStmt>>, Memory>,
+    test: Result<Option<Box<CExpr>>, Memory>,
+) -> Result<Option<Box<CStmt>>, Memory>
     ensures { (x : Option (tree.Tree tree.stmt)) (y : Option (tree.Tree tree.expr))
-        → Gives body view.stmt x → Gives test view.expr y
-        → Gives result view.stmt (both tree.do_loop x y) }
+        → Gives body held.stmt x → Gives test held.expr y
+        → Gives result held.stmt (both tree.do_loop x y) }
 {
     let Some((body, test)) = joined(body, test)? else {
         return Ok(None);
     };
-    Ok(Some(make_do(alloc, body, test)?))
+    let turns = CStmt::Do(body, Box::into_inner(test));
+    Ok(Some(boxed(alloc, turns)?))
+}
+
+/// The first part of the head of a `for`, where nothing stands there.
+pub(crate) fn no_first(alloc: Global) -> Result<Option<Box<CFirst>>, Memory>
+    ensures { Gives result held.first (Some tree.no_first) }
+{
+    Ok(Some(boxed(alloc, CFirst::None)?))
 }
 
 /// The first part of the head of a `for` that declares variables.
 #[tactic(auto, using(crate::proofs::Formed::formed_one))]
 pub(crate) fn first_var(
+    alloc: Global,
     items: Result<Option<Vec<CVarItem>>, Memory>,
-) -> Result<Option<CFirst>, Memory>
+) -> Result<Option<Box<CFirst>>, Memory>
     ensures { (x : Option (tree.Tree tree.items))
         → Gives items (λ v. view.of_items v.items) x
-        → Gives result view.first (one tree.first_var x) }
+        → Gives result held.first (one tree.first_var x) }
 {
     let Some(items) = items? else {
         return Ok(None);
     };
-    Ok(Some(make_first_var(items)))
+    Ok(Some(boxed(alloc, make_first_var(items))?))
 }
 
 /// The first part of the head of a `for` that is an expression.
 #[tactic(auto, using(crate::proofs::Formed::formed_one))]
-pub(crate) fn first_expr(value: Result<Option<CExpr>, Memory>) -> Result<Option<CFirst>, Memory>
+pub(crate) fn first_expr(
+    alloc: Global,
+    value: Result<Option<Box<CExpr>>, Memory>,
+) -> Result<Option<Box<CFirst>>, Memory>
     ensures { (x : Option (tree.Tree tree.expr))
-        → Gives value view.expr x
-        → Gives result view.first (one tree.first_expr x) }
+        → Gives value held.expr x
+        → Gives result held.first (one tree.first_expr x) }
 {
     let Some(value) = value? else {
         return Ok(None);
     };
-    Ok(Some(CFirst::Expr(value)))
+    Ok(Some(boxed(alloc, CFirst::Expr(Box::into_inner(value)))?))
 }
 
 #[tactic(auto, using(crate::proofs::Formed::formed_four))]
 pub(crate) fn for_loop(
     alloc: Global,
-    start: Result<Option<CFirst>, Memory>,
-    test: Result<Option<Option<CExpr>>, Memory>,
-    update: Result<Option<Option<CExpr>>, Memory>,
-    body: Result<Option<CStmt>, Memory>,
-) -> Result<Option<CStmt>, Memory>
+    start: Result<Option<Box<CFirst>>, Memory>,
+    test: Result<Option<Option<Box<CExpr>>>, Memory>,
+    update: Result<Option<Option<Box<CExpr>>>, Memory>,
+    body: Result<Option<Box<CStmt>>, Memory>,
+) -> Result<Option<Box<CStmt>>, Memory>
     ensures { (x : Option (tree.Tree tree.first)) (y : Option (tree.Tree tree.maybe_expr)) (z : Option (tree.Tree tree.maybe_expr)) (w : Option (tree.Tree tree.stmt))
-        → Gives start view.first x → Gives test view.of_maybe_expr y → Gives update view.of_maybe_expr z → Gives body view.stmt w
-        → Gives result view.stmt (four tree.for_loop x y z w) }
+        → Gives start held.first x → Gives test held.maybe_expr y → Gives update held.maybe_expr z → Gives body held.stmt w
+        → Gives result held.stmt (four tree.for_loop x y z w) }
 {
     let Some(((start, test), (update, body))) = joined(joined(start, test), joined(update, body))?
     else {
         return Ok(None);
     };
-    Ok(Some(make_for(alloc, start, test, update, body)?))
+    let turns = make_for(Box::into_inner(start), unboxed(test), unboxed(update), body);
+    Ok(Some(boxed(alloc, turns)?))
 }
 
 #[tactic(auto, using(crate::proofs::Formed::formed_three))]
 pub(crate) fn for_in(
     alloc: Global,
     target: Result<Option<Target>, Memory>,
-    object: Result<Option<CExpr>, Memory>,
-    body: Result<Option<CStmt>, Memory>,
-) -> Result<Option<CStmt>, Memory>
+    object: Result<Option<Box<CExpr>>, Memory>,
+    body: Result<Option<Box<CStmt>>, Memory>,
+) -> Result<Option<Box<CStmt>>, Memory>
     ensures { (x : Option (tree.Tree tree.target)) (y : Option (tree.Tree tree.expr)) (z : Option (tree.Tree tree.stmt))
-        → Gives target view.target x → Gives object view.expr y → Gives body view.stmt z
-        → Gives result view.stmt (three tree.for_in x y z) }
+        → Gives target view.target x → Gives object held.expr y → Gives body held.stmt z
+        → Gives result held.stmt (three tree.for_in x y z) }
 {
     let Some(((target, object), body)) = joined(joined(target, object), body)? else {
         return Ok(None);
     };
-    Ok(Some(make_for_in(alloc, target, object, body)?))
+    let turns = CStmt::ForIn(target, Box::into_inner(object), body);
+    Ok(Some(boxed(alloc, turns)?))
 }
 
 #[tactic(auto, using(crate::proofs::Formed::formed_one))]
 pub(crate) fn return_value(
-    value: Result<Option<Option<CExpr>>, Memory>,
-) -> Result<Option<CStmt>, Memory>
+    alloc: Global,
+    value: Result<Option<Option<Box<CExpr>>>, Memory>,
+) -> Result<Option<Box<CStmt>>, Memory>
     ensures { (x : Option (tree.Tree tree.maybe_expr))
-        → Gives value view.of_maybe_expr x
-        → Gives result view.stmt (one tree.return x) }
+        → Gives value held.maybe_expr x
+        → Gives result held.stmt (one tree.return x) }
 {
     let Some(value) = value? else {
         return Ok(None);
     };
-    Ok(Some(make_return(value)))
+    Ok(Some(boxed(alloc, make_return(unboxed(value)))?))
 }
 
 #[tactic(auto, using(crate::proofs::Formed::formed_both))]
 pub(crate) fn switch(
-    value: Result<Option<CExpr>, Memory>,
+    alloc: Global,
+    value: Result<Option<Box<CExpr>>, Memory>,
     cases: Result<Option<Vec<CCase>>, Memory>,
-) -> Result<Option<CStmt>, Memory>
+) -> Result<Option<Box<CStmt>>, Memory>
     ensures { (x : Option (tree.Tree tree.expr)) (y : Option (tree.Tree tree.cases))
-        → Gives value view.expr x → Gives cases (λ v. view.of_cases v.items) y
-        → Gives result view.stmt (both tree.switch x y) }
+        → Gives value held.expr x → Gives cases (λ v. view.of_cases v.items) y
+        → Gives result held.stmt (both tree.switch x y) }
 {
     let Some((value, cases)) = joined(value, cases)? else {
         return Ok(None);
     };
-    Ok(Some(make_switch(value, cases)))
+    let switch = make_switch(Box::into_inner(value), cases);
+    Ok(Some(boxed(alloc, switch)?))
 }
 
 #[tactic(auto, using(crate::proofs::Formed::formed_one))]
 pub(crate) fn label(
     alloc: Global,
     label: &Name,
-    body: Result<Option<CStmt>, Memory>,
-) -> Result<Option<CStmt>, Memory>
+    body: Result<Option<Box<CStmt>>, Memory>,
+) -> Result<Option<Box<CStmt>>, Memory>
     ensures { (x : Option (tree.Tree tree.stmt))
-        → Gives body view.stmt x
-        → Gives result view.stmt (one (tree.label label.now.text) x) }
+        → Gives body held.stmt x
+        → Gives result held.stmt (one (tree.label label.now.text) x) }
 {
     let Some(body) = body? else {
         return Ok(None);
     };
     let label = label.text.copy(alloc)?;
-    Ok(Some(make_label(alloc, label, body)?))
+    Ok(Some(boxed(alloc, CStmt::Label(label, body))?))
 }
 
 #[tactic(auto, using(crate::proofs::Formed::formed_one))]
-pub(crate) fn throw(value: Result<Option<CExpr>, Memory>) -> Result<Option<CStmt>, Memory>
+pub(crate) fn throw(
+    alloc: Global,
+    value: Result<Option<Box<CExpr>>, Memory>,
+) -> Result<Option<Box<CStmt>>, Memory>
     ensures { (x : Option (tree.Tree tree.expr))
-        → Gives value view.expr x
-        → Gives result view.stmt (one tree.throw x) }
+        → Gives value held.expr x
+        → Gives result held.stmt (one tree.throw x) }
 {
     let Some(value) = value? else {
         return Ok(None);
     };
-    Ok(Some(CStmt::Throw(value)))
+    Ok(Some(boxed(alloc, CStmt::Throw(Box::into_inner(value)))?))
 }
 
 /// A `catch` with its name.
@@ -256,16 +310,17 @@ pub(crate) fn last(
 
 #[tactic(auto, using(crate::proofs::Formed::formed_three))]
 pub(crate) fn try_catch(
+    alloc: Global,
     body: Result<Option<Vec<CStmt>>, Memory>,
     handler: Result<Option<Option<(Units, Vec<CStmt>)>>, Memory>,
     last: Result<Option<Option<Vec<CStmt>>>, Memory>,
-) -> Result<Option<CStmt>, Memory>
+) -> Result<Option<Box<CStmt>>, Memory>
     ensures { (x : Option (tree.Tree tree.stmts)) (y : Option (tree.Tree tree.handler)) (z : Option (tree.Tree tree.maybe_block))
         → Gives body (λ v. view.of_stmts v.items) x → Gives handler view.of_handler y → Gives last view.of_maybe_block z
-        → Gives result view.stmt (three tree.try x y z) }
+        → Gives result held.stmt (three tree.try x y z) }
 {
     let Some(((body, handler), last)) = joined(joined(body, handler), last)? else {
         return Ok(None);
     };
-    Ok(Some(make_try(body, handler, last)))
+    Ok(Some(boxed(alloc, make_try(body, handler, last))?))
 }

@@ -12,9 +12,7 @@ ghost use Rattle.cajita_rewrite.specs.Given.{IsGiven};
 use caja_num::Whole;
 use caja_units::Units;
 use cajita_rewrite::rewrite;
-use cajita_tree::{
-    CExpr, CStmt, CVarItem, Key, Module, make_binary, make_body, make_read, make_record, make_var,
-};
+use cajita_tree::{CExpr, CStmt, CVarItem, Key, Module, boxed, make_body, make_record, make_var};
 use es3_tree::{BinOp, Program, depth, size};
 use std::alloc::Global;
 use std::test::Fail;
@@ -40,8 +38,8 @@ fn sum(alloc: Global) -> Result<CExpr, Fail>
 {
     let object = CExpr::Name(Units::from_ascii(alloc, b"o")?);
     let key = Key::Fixed(Units::from_ascii(alloc, b"x")?);
-    let left = make_read(alloc, object, key)?;
-    Ok(make_binary(alloc, BinOp::Add, left, number(2)?)?)
+    let left = CExpr::Read(boxed(alloc, object)?, key);
+    Ok(CExpr::Binary(BinOp::Add, boxed(alloc, left)?, boxed(alloc, number(2)?)?))
 }
 
 // `var o = {x: 1}; o.x + 2;`

@@ -1,10 +1,11 @@
-use Rattle.std.proofs.Common.{◌+◌, ◌∷◌, [], ◌++◌, drop, option_map, refl, sym, ap, ◌∙◌, arith}
+use Rattle.std.proofs.Common.{◌+◌, ◌∷◌, [], ◌++◌, drop, Some, option_map, refl, sym, ap, ◌∙◌, arith}
 use Rattle.es3_tree.specs.Tree as tree
 use Rattle.es3_tree.specs.PlacedView as source
 use Rattle.cajita_tree.specs.Tree as made
 use Rattle.cajita_tree.specs.Parts.{target_of}
 use Rattle.cajita_tree.specs.View as view
 use Rattle.scope_rules.specs.Resolve.{from, resolved, declared_functions}
+use Rattle.scope_rules.specs.Boxed as held
 use Rattle.scope_rules.proofs.Front as front
 use Rattle.scope_rules.proofs.Front.{turn, ended, missing, passed, two_left}
 use Rattle.scope_rules.proofs.Declaring.{undeclared, stands, left_out, declares_one, declares_none}
@@ -16,9 +17,10 @@ use Rattle.scope_rules.proofs.resolve.+resolve.Goals.{resolve_funcs-in-Func+in_o
 pub resolve_exprs-loop-expression-preserved : goal.resolve_exprs-loop-expression-preserved
 unfolding resolved
 resolve_exprs-loop-expression-preserved t c =
-    turn (λ l. resolved tree.exprs (source.of_exprs l)) front.expression made.more_exprs c.args.list.now c.loop-expression.expression-index c.expression-item.result c.loop-expression.done.items _ c.in-Some.expression
-    (view.expr c.in-Some.expression) (resolved tree.expr (source.expr c.expression-item.result)) (omega arith) c.expression-item.is refl refl
-    (ap (option_map view.expr) (sym c.in-Some.is) ∙ c.in_ok-expression.ensures.told) c.in_ok-push.ensures.items
+    turn (λ l. resolved tree.exprs (source.of_exprs l)) front.expression made.more_exprs c.args.list.now c.loop-expression.expression-index c.expression-item.result c.loop-expression.done.items _ c.into_inner.result
+    (held.expr c.in-Some.expression) (resolved tree.expr (source.expr c.expression-item.result)) (omega arith) c.expression-item.is refl
+    (ap (λ x. made.more_exprs (view.expr x)) (sym c.into_inner.ensures))
+    (ap (option_map held.expr) (sym c.in-Some.is) ∙ c.in_ok-expression.ensures.told) c.in_ok-push.ensures.items
     ∙ c.loop-expression.invariant
 
 pub resolve_exprs-returns : goal.resolve_exprs-returns
@@ -33,9 +35,10 @@ resolve_exprs-returns t c =
 pub resolve_fields-loop-key-preserved : goal.resolve_fields-loop-key-preserved
 unfolding resolved
 resolve_fields-loop-key-preserved t c =
-    turn (λ l. resolved tree.fields (source.of_fields l)) front.field (made.more_fields c.loop-key-item.result.0.text) c.args.fields.now c.loop-key.key-index c.loop-key-item.result c.loop-key.done.items _ (c.loop-key-item.result.0.text, c.in-Some.value)
-    (view.expr c.in-Some.value) (resolved tree.expr (source.expr c.loop-key-item.result.1)) (omega arith) c.loop-key-item.is refl refl
-    (ap (option_map view.expr) (sym c.in-Some.is) ∙ c.in_ok-value.ensures.told) (c.in_ok-push.ensures.items ∙ ap (λ k. c.loop-key.done.items ++ (k, c.in-Some.value) ∷ []) c.in_ok-copy.ensures)
+    turn (λ l. resolved tree.fields (source.of_fields l)) front.field (made.more_fields c.loop-key-item.result.0.text) c.args.fields.now c.loop-key.key-index c.loop-key-item.result c.loop-key.done.items _ (c.loop-key-item.result.0.text, c.into_inner.result)
+    (held.expr c.in-Some.value) (resolved tree.expr (source.expr c.loop-key-item.result.1)) (omega arith) c.loop-key-item.is refl
+    (ap (λ x. made.more_fields c.loop-key-item.result.0.text (view.expr x)) (sym c.into_inner.ensures))
+    (ap (option_map held.expr) (sym c.in-Some.is) ∙ c.in_ok-value.ensures.told) (c.in_ok-push.ensures.items ∙ ap (λ k. c.loop-key.done.items ++ (k, c.into_inner.result) ∷ []) c.in_ok-copy.ensures)
     ∙ c.loop-key.invariant
 
 pub resolve_fields-returns : goal.resolve_fields-returns
@@ -87,28 +90,29 @@ pub resolve_items-loop-item-preserved : goal.resolve_items-loop-item-preserved
 unfolding resolved
 resolve_items-loop-item-preserved t c =
     turn (λ l. resolved tree.items (source.of_items l)) front.item (made.more_items c.item-item.result.name.text) c.args.items.now c.loop-item.item-index c.item-item.result c.loop-item.done.items _
-    (record { name = c.in_ok-copy.field-0; value = c.in-Some.value }) (view.of_maybe_expr c.in-Some.value) (resolved tree.maybe_expr (source.of_maybe_expr c.item-item.result.value)) (omega arith) c.item-item.is refl
-    (ap (λ n. made.more_items n (view.of_maybe_expr c.in-Some.value)) (sym c.in_ok-copy.ensures))
-    (ap (option_map view.of_maybe_expr) (sym c.in-Some.is) ∙ c.in_ok-value.ensures.told) c.in_ok-push.ensures.items
+    (record { name = c.in_ok-copy.field-0; value = c.unboxed.result }) (held.maybe_expr c.in-Some.value) (resolved tree.maybe_expr (source.of_maybe_expr c.item-item.result.value)) (omega arith) c.item-item.is refl
+    (ap (made.more_items c.item-item.result.name.text) (sym c.unboxed.ensures) ∙ ap (λ n. made.more_items n (view.of_maybe_expr c.unboxed.result)) (sym c.in_ok-copy.ensures))
+    (ap (option_map held.maybe_expr) (sym c.in-Some.is) ∙ c.in_ok-value.ensures.told) c.in_ok-push.ensures.items
     ∙ c.loop-item.invariant
 
 pub resolve_cases-loop-case-preserved : goal.resolve_cases-loop-case-preserved
 unfolding resolved
 resolve_cases-loop-case-preserved t c =
-    let test = ap (option_map view.of_maybe_expr) (sym c.in-Some.is) ∙ c.in_ok-test.ensures.told in
-    turn (λ l. resolved tree.cases (source.of_cases l)) front.clause (made.more_cases (view.of_maybe_expr c.in-Some.test)) c.args.cases.now c.loop-case.case-index c.case-item.result c.loop-case.done.items _
-    (record { test = c.in-Some.test; body = c.in-Some-2.body }) (view.of_stmts c.in-Some-2.body.items) (resolved tree.stmts (source.of_stmts c.case-item.result.body.items)) (omega arith) c.case-item.is
-    (two_left made.more_cases (view.of_maybe_expr c.in-Some.test) _ _ test) refl
+    let test = ap Some c.unboxed.ensures ∙ ap (option_map held.maybe_expr) (sym c.in-Some.is) ∙ c.in_ok-test.ensures.told in
+    turn (λ l. resolved tree.cases (source.of_cases l)) front.clause (made.more_cases (view.of_maybe_expr c.unboxed.result)) c.args.cases.now c.loop-case.case-index c.case-item.result c.loop-case.done.items _
+    (record { test = c.unboxed.result; body = c.in-Some-2.body }) (view.of_stmts c.in-Some-2.body.items) (resolved tree.stmts (source.of_stmts c.case-item.result.body.items)) (omega arith) c.case-item.is
+    (two_left made.more_cases (view.of_maybe_expr c.unboxed.result) _ _ test) refl
     (ap (option_map (λ v. view.of_stmts v.items)) (sym c.in-Some-2.is) ∙ c.in_ok-body.ensures.told ∙ ap (λ l. resolved tree.stmts (source.of_stmts l)) c.deref.ensures.value) c.in_ok-push.ensures.items
     ∙ c.loop-case.invariant
 
 pub resolve_stmts-loop-statement-preserved : goal.resolve_stmts-loop-statement-preserved
 unfolding resolved
 resolve_stmts-loop-statement-preserved t c =
-    turn (λ l. resolved tree.stmts (source.of_stmts l)) front.statement made.more_stmts c.args.list.now c.loop-statement.statement-index c.statement-item.result c.loop-statement.done.items _ c.in-Some.statement
-    (view.stmt c.in-Some.statement) (resolved tree.stmt (source.stmt c.statement-item.result)) (omega arith) c.statement-item.is
-    (stands (source.stmt c.statement-item.result) _ _ (sym c.if-is_declaration.false ∙ c.is_declaration.ensures)) refl
-    (ap (option_map view.stmt) (sym c.in-Some.is) ∙ c.in_ok-statement.ensures.told) c.in_ok-push.ensures.items
+    turn (λ l. resolved tree.stmts (source.of_stmts l)) front.statement made.more_stmts c.args.list.now c.loop-statement.statement-index c.statement-item.result c.loop-statement.done.items _ c.into_inner.result
+    (held.stmt c.in-Some.statement) (resolved tree.stmt (source.stmt c.statement-item.result)) (omega arith) c.statement-item.is
+    (stands (source.stmt c.statement-item.result) _ _ (sym c.if-is_declaration.false ∙ c.is_declaration.ensures))
+    (ap (λ x. made.more_stmts (view.stmt x)) (sym c.into_inner.ensures))
+    (ap (option_map held.stmt) (sym c.in-Some.is) ∙ c.in_ok-statement.ensures.told) c.in_ok-push.ensures.items
     ∙ c.loop-statement.invariant
 
 pub resolve_stmts-loop-statement-preserved-then-is_declaration : goal.resolve_stmts-loop-statement-preserved-then-is_declaration
@@ -126,7 +130,7 @@ resolve_stmts-returns-in_default t c =
           missing (λ l. resolved tree.stmts (source.of_stmts l)) front.statement made.more_stmts c.args.list.now c.loop-statement.statement-index c.statement-item.result c.loop-statement.done.items
           (resolved tree.stmt (source.stmt c.statement-item.result)) (omega arith) c.statement-item.is
           (stands (source.stmt c.statement-item.result) _ _ (sym c.if-is_declaration.false ∙ c.is_declaration.ensures))
-          (ap (option_map view.stmt) (sym c.in_default.is) ∙ c.in_ok-statement.ensures.told)
+          (ap (option_map held.stmt) (sym c.in_default.is) ∙ c.in_ok-statement.ensures.told)
           ∙ c.loop-statement.invariant;
     }
 
