@@ -4,7 +4,7 @@ ghost use Rattle.std.specs.Prelude.{◌≡◌, ◌<◌, [], IfOk};
 ghost use Rattle.es3_language.specs.Store.{Store};
 ghost use Rattle.es3_language.specs.Expressions as e;
 ghost use Rattle.es3_moves.specs.Code.{exprs_at, fields_at};
-ghost use Rattle.es3_moves.specs.Where.{plain_callee, plain_env, plain_ref};
+ghost use Rattle.es3_moves.specs.Where.{plain_env, plain_callee};
 ghost use Rattle.es3_moves.specs.Texts.{store_of};
 ghost use Rattle.es3_moves.specs.Moves.{move_plan};
 ghost use Rattle.es3_access.specs.Sizes.{size};
@@ -17,7 +17,7 @@ use es3_access::reads::with_read;
 use es3_heap::{Heap, ObjId, Value};
 use es3_language::Touch;
 use es3_moves::code::{ExprCode, FieldCode};
-use es3_moves::frame::{After, Callee, Calling, Env, Move, Ref, Then, Use};
+use es3_moves::frame::{After, Callee, Calling, Env, Move, Then, Use};
 use es3_moves::texts::Texts;
 use std::alloc::Global;
 use std::rc::Rc;
@@ -115,6 +115,7 @@ pub fn next_argument(
 }
 
 /// The call, or what `new` makes, once the arguments are there: what is called is looked up only now (ES3 11.2.2, 11.2.3).
+#[tactic(auto, using(es3_access::proofs::Told::telling_callee))]
 fn do_call(
     alloc: Global,
     callee: Callee,
@@ -127,35 +128,21 @@ fn do_call(
     ensures small { IfOk result (λ x. size x < 23) }
 {
     match callee {
-        Callee::Called(reference) => call_found(alloc, reference, args, env, h, texts),
-        Callee::Maker(f) => Ok(make_by(f, args, env, h)),
+        Callee::Called(reference) => {
+            let copy = copy_ref(alloc, &reference)?;
+            let then_env = env.copy()?;
+            with_read(
+                alloc,
+                &reference,
+                Then::Call(copy, args, then_env),
+                &env,
+                h,
+                texts,
+            )
+        }
+        Callee::Maker(f) => {
+            let noted = note::of_call(Touch::New, &f, env.by(), h);
+            Ok(note::tell(noted, After::Construct(f, args, env)))
+        }
     }
-}
-
-/// The call of what a reference stands for, which is read first (ES3 11.2.3).
-fn call_found(
-    alloc: Global,
-    reference: Ref,
-    args: Vec<Value>,
-    env: Env,
-    h: &mut Heap,
-    texts: &mut Texts,
-) -> Result<Move, Memory>
-    ensures plan { IfOk result (λ x. move_plan x (store_of h.new texts.new) ≡ e.do_call (e.called (plain_ref reference)) args.items (plain_env env) (store_of h.old texts.old)) }
-    ensures small { IfOk result (λ x. size x < 23) }
-{
-    let copy = copy_ref(alloc, &reference)?;
-    let then_env = env.copy()?;
-    let then = Then::Call(copy, args, then_env);
-    with_read(alloc, &reference, then, &env, h, texts)
-}
-
-/// What `new` makes by a value (ES3 11.2.2).
-#[tactic(auto, using(es3_access::proofs::Told::telling_callee))]
-fn make_by(f: Value, args: Vec<Value>, env: Env, h: &Heap) -> Move
-    ensures plan { (s : Store) → s.heap ≡ h.now → move_plan result s ≡ e.do_call (e.maker f) args.items (plain_env env) s }
-    ensures small { size result < 23 }
-{
-    let noted = note::of_call(Touch::New, &f, env.by(), h);
-    note::tell(noted, After::Construct(f, args, env))
 }

@@ -22,7 +22,6 @@ use es3_moves::texts::Texts;
 use es3_operators::type_name;
 use es3_references::names::reference;
 use es3_references::references::delete;
-use es3_tree::BinOp;
 use std::alloc::Global;
 use std::rc::Rc;
 
@@ -100,11 +99,34 @@ pub fn use_target(
     match then {
         Target::AssignTo(value, env) => assign_to(value, env, reference),
         Target::CompoundTo(op, value, env) => {
-            compound_to(alloc, op, value, env, reference, h, texts)
+            let then_env = env.copy()?;
+            let copy = copy_ref(alloc, &reference)?;
+            with_read(
+                alloc,
+                &reference,
+                Then::Compound(op, value, then_env, copy),
+                &env,
+                h,
+                texts,
+            )
         }
-        Target::Step(up, before, env) => step_read(alloc, up, before, env, reference, h, texts),
-        Target::Delete => delete_found(alloc, reference, h, texts),
-        Target::Typeof(env) => type_of_found(alloc, reference, env, h, texts),
+        Target::Step(up, before, env) => {
+            let then_env = env.copy()?;
+            let copy = copy_ref(alloc, &reference)?;
+            with_read(
+                alloc,
+                &reference,
+                Then::Step(up, before, copy, then_env),
+                &env,
+                h,
+                texts,
+            )
+        }
+        Target::Delete => {
+            let goes = delete(alloc, &reference, h, texts)?;
+            Ok(give(Value::Bool(goes)))
+        }
+        Target::Typeof(env) => type_of(alloc, &reference, &env, h, texts),
         Target::Called(args, env) => begin_arguments(alloc, Callee::Called(reference), args, env),
     }
 }
@@ -116,72 +138,6 @@ fn assign_to(value: Rc<ExprCode>, env: Env, reference: Ref) -> Result<Move, Memo
 {
     let copy = env.copy()?;
     Ok(value_part(value, env, Use::AssignValue(reference, copy)))
-}
-
-/// The value that was comes first, for an assignment with an operator (ES3 11.13.2).
-fn compound_to(
-    alloc: Global,
-    op: BinOp,
-    value: Rc<ExprCode>,
-    env: Env,
-    reference: Ref,
-    h: &mut Heap,
-    texts: &mut Texts,
-) -> Result<Move, Memory>
-    ensures plan { IfOk result (λ x. move_plan x (store_of h.new texts.new) ≡ e.compound_to op (plain_expr value.value) (plain_env env) (plain_ref reference) (store_of h.old texts.old)) }
-    ensures small { IfOk result (λ x. size x < 24) }
-{
-    let then_env = env.copy()?;
-    let copy = copy_ref(alloc, &reference)?;
-    let then = Then::Compound(op, value, then_env, copy);
-    with_read(alloc, &reference, then, &env, h, texts)
-}
-
-/// The value that was comes first, for `++` and `--` (ES3 11.3, 11.4.4, 11.4.5).
-fn step_read(
-    alloc: Global,
-    up: bool,
-    before: bool,
-    env: Env,
-    reference: Ref,
-    h: &mut Heap,
-    texts: &mut Texts,
-) -> Result<Move, Memory>
-    ensures plan { IfOk result (λ x. move_plan x (store_of h.new texts.new) ≡ e.step_plan up before (plain_env env) (plain_ref reference) (store_of h.old texts.old)) }
-    ensures small { IfOk result (λ x. size x < 24) }
-{
-    let then_env = env.copy()?;
-    let copy = copy_ref(alloc, &reference)?;
-    let then = Then::Step(up, before, copy, then_env);
-    with_read(alloc, &reference, then, &env, h, texts)
-}
-
-/// `delete` of what a reference stands for (ES3 11.4.1).
-fn delete_found(
-    alloc: Global,
-    reference: Ref,
-    h: &mut Heap,
-    texts: &mut Texts,
-) -> Result<Move, Memory>
-    ensures plan { IfOk result (λ x. move_plan x (store_of h.new texts.new) ≡ e.delete_plan (plain_ref reference) (store_of h.old texts.old)) }
-    ensures small { IfOk result (λ x. size x ≤ 8) }
-{
-    let goes = delete(alloc, &reference, h, texts)?;
-    Ok(give(Value::Bool(goes)))
-}
-
-/// `typeof` of what a reference stands for (ES3 11.4.3).
-fn type_of_found(
-    alloc: Global,
-    reference: Ref,
-    env: Env,
-    h: &mut Heap,
-    texts: &mut Texts,
-) -> Result<Move, Memory>
-    ensures plan { IfOk result (λ x. move_plan x (store_of h.new texts.new) ≡ e.type_plan (plain_env env) (plain_ref reference) (store_of h.old texts.old)) }
-    ensures small { IfOk result (λ x. size x < 24) }
-{
-    type_of(alloc, &reference, &env, h, texts)
 }
 
 /// The type of what a reference stands for; a name that no scope has is undefined (ES3 11.4.3).
