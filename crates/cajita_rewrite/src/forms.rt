@@ -4,7 +4,7 @@ ghost use Rattle.es3_tree.specs.View.{expr, text as text_in, of_exprs};
 ghost use Rattle.cajita_rewrite.specs.Rewrite.{runtime_call as call_of_runtime};
 
 use caja_units::{Memory, Units};
-use es3_tree::{Expr, Name, make_call, make_dot};
+use es3_tree::{Expr, Name, boxed, make_call, make_dot};
 use std::alloc::Global;
 
 /// The object of the runtime.
@@ -54,10 +54,8 @@ pub(crate) fn runtime_call<const N: usize>(
 ) -> Result<Expr, Memory>
     ensures { IfOk result (λ x. expr x ≡ call_of_runtime function.now (of_exprs arguments.entry)) }
 {
-    let callee = make_dot(
-        alloc,
-        own_variable(alloc, RUNTIME)?,
-        own_name(alloc, function)?,
-    )?;
-    make_call(alloc, callee, Vec::from_array(alloc, arguments)?)
+    let runtime = boxed(alloc, own_variable(alloc, RUNTIME)?)?;
+    let callee = make_dot(runtime, own_name(alloc, function)?);
+    let callee = boxed(alloc, callee)?;
+    Ok(make_call(callee, Vec::from_array(alloc, arguments)?))
 }

@@ -12,7 +12,7 @@ use crate::forms::{
 use crate::walk::add_stmts;
 use caja_units::{Memory, Units};
 use cajita_tree::Module;
-use es3_tree::{Expr, Func, Name, Stmt, VarItem, make_function, make_return, make_var};
+use es3_tree::{Expr, Func, Name, Stmt, VarItem, boxed, make_function, make_return, make_var};
 use std::alloc::Global;
 
 // `var NAME=VALUE;` (ES3 12.2).
@@ -68,14 +68,12 @@ pub(crate) fn load_module(alloc: Global, body: Vec<Stmt>) -> Result<Stmt, Memory
         alloc,
         [own_name(alloc, RUNTIME)?, own_name(alloc, IMPORTS)?],
     )?;
-    let function = make_function(
-        alloc,
-        Func {
-            name: None,
-            params,
-            body,
-            at: NOWHERE,
-        },
-    )?;
+    let function = Func {
+        name: None,
+        params,
+        body,
+        at: NOWHERE,
+    };
+    let function = make_function(boxed(alloc, function)?);
     Ok(Stmt::Expr(runtime_call(alloc, "loadModule", [function])?))
 }

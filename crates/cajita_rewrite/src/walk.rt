@@ -8,7 +8,7 @@ ghost use Rattle.cajita_rewrite.specs.Given.{IsGiven};
 use crate::forms::{RESULT, copied_name, own_variable, runtime_call};
 use caja_units::{Memory, Units};
 use cajita_tree::{CExpr, CStmt, CVarItem, Key};
-use es3_tree::{Expr, Stmt, VarItem, make_array, make_assign, make_binary, make_var};
+use es3_tree::{Expr, Stmt, VarItem, boxed, make_array, make_assign, make_binary, make_var};
 use std::alloc::Global;
 
 #[tactic(auto, unfolding(crate::specs::Rewrite::rewritten))]
@@ -42,9 +42,9 @@ fn rewrite_expr(alloc: Global, e: &CExpr) -> Result<Expr, Memory>
             Ok(runtime_call(alloc, "readPub", [object, key])?)
         }
         CExpr::Binary(op, left, right) => {
-            let left = rewrite_expr(alloc, left)?;
-            let right = rewrite_expr(alloc, right)?;
-            Ok(make_binary(alloc, *op, left, right)?)
+            let left = boxed(alloc, rewrite_expr(alloc, left)?)?;
+            let right = boxed(alloc, rewrite_expr(alloc, right)?)?;
+            Ok(make_binary(*op, left, right))
         }
         _ => unreachable!(),
     }
@@ -100,8 +100,9 @@ fn rewrite_stmt(alloc: Global, statement: &CStmt) -> Result<Stmt, Memory>
     match statement {
         CStmt::Var(items) => Ok(make_var(rewrite_items(alloc, items)?)),
         CStmt::Expr(e) => {
-            let value = rewrite_expr(alloc, e)?;
-            Ok(Stmt::Expr(make_assign(alloc, None, own_variable(alloc, RESULT)?, value)?))
+            let value = boxed(alloc, rewrite_expr(alloc, e)?)?;
+            let result = boxed(alloc, own_variable(alloc, RESULT)?)?;
+            Ok(Stmt::Expr(make_assign(None, result, value)))
         }
         _ => unreachable!(),
     }

@@ -6,14 +6,12 @@ ghost use Rattle.std.specs.Prelude.{◌≡◌, IfOk, option_map};
 ghost use Rattle.cajita_tree.specs.View.{expr, target as target_view, of_exprs};
 ghost use Rattle.cajita_tree.specs.Parts.{called as called_tree, target_of, deleted as deleted_tree};
 
-pub mod boxes;
 pub mod make_expr;
 pub mod make_stmt;
 
-pub use boxes::boxed;
 use caja_num::Whole;
 use caja_units::{Memory, Units};
-use es3_tree::{BinOp, UnOp};
+use es3_tree::{BinOp, UnOp, boxed};
 pub use make_expr::{make_array, make_call, make_function, make_new, make_record};
 pub use make_stmt::{
     make_block, make_body, make_first_var, make_for, make_func, make_if, make_return, make_switch,

@@ -1,13 +1,11 @@
 //! Operators between two parts, their levels, and what they make.
 
-ghost use Rattle.std.specs.Prelude.{◌≡◌, IfOk};
+ghost use Rattle.std.specs.Prelude.{◌≡◌};
 ghost use Rattle.es3_tree.specs.PlacedView as view;
 ghost use Rattle.es3_grammar.specs.Levels as levels;
 ghost use Rattle.es3_expr.specs.Views.{join_of};
 
-use caja_units::Memory;
 use es3_tree::{BinOp, Expr, make_and, make_assign, make_binary, make_comma, make_or};
-use std::alloc::Global;
 
 /// An operator between two parts (ES3 11.5 to 11.11, 11.13, 11.14). An assignment has the operator of `+=` and its kin, or none for `=`.
 #[derive(Debug, Clone, Copy, PartialEq, Eq)]
@@ -96,15 +94,15 @@ impl Join {
     }
 
     /// The expression of it and its two parts.
-    pub fn make(self, alloc: Global, left: Expr, right: Expr) -> Result<Expr, Memory>
-        ensures { IfOk result (λ x. view.expr x ≡ levels.joined (join_of self) (view.expr left) (view.expr right)) }
+    pub fn make(self, left: Box<Expr>, right: Box<Expr>) -> Expr
+        ensures { view.expr result ≡ levels.joined (join_of self) (view.expr left.value) (view.expr right.value) }
     {
         match self {
-            Join::Op(op) => make_binary(alloc, op, left, right),
-            Join::And => make_and(alloc, left, right),
-            Join::Or => make_or(alloc, left, right),
-            Join::Assign(op) => make_assign(alloc, op, left, right),
-            Join::Comma => make_comma(alloc, left, right),
+            Join::Op(op) => make_binary(op, left, right),
+            Join::And => make_and(left, right),
+            Join::Or => make_or(left, right),
+            Join::Assign(op) => make_assign(op, left, right),
+            Join::Comma => make_comma(left, right),
         }
     }
 }

@@ -64,14 +64,7 @@ impl Part {
         ensures { IfOk result (λ x. expr x.tree.value ≡ joined_spec (join_of join) (expr left.tree.value) (expr right.tree.value)) }
     {
         let depth = above(left.depth.max(right.depth));
-        let tree = match join {
-            Join::Op(op) => Expr::Binary(op, left.tree, right.tree),
-            Join::And => Expr::And(left.tree, right.tree),
-            Join::Or => Expr::Or(left.tree, right.tree),
-            Join::Assign(op) => Expr::Assign(op, left.tree, right.tree),
-            Join::Comma => Expr::Comma(left.tree, right.tree),
-        };
-        Part::made(alloc, tree, depth)
+        Part::made(alloc, join.make(left.tree, right.tree), depth)
     }
 
     /// A conditional (ES3 11.12).

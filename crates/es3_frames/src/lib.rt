@@ -5,7 +5,7 @@
 //! (src/limit.rt).
 #![tactic(auto)]
 
-mod boxed;
+mod boxes;
 pub mod brackets;
 pub mod expressions;
 pub mod frames;

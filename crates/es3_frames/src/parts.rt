@@ -10,9 +10,9 @@ ghost use Rattle.es3_frames.specs.Boxed.{of_maybe_boxed};
 ghost use Rattle.es3_frames.specs.Lists.{field_of, item_of, clause_of};
 ghost use Rattle.es3_grammar.specs.Grammar.{has_default as default_spec};
 
-use crate::boxed::{boxed, unboxed};
+use crate::boxes::unboxed;
 use caja_units::Memory;
-use es3_tree::{Case, Expr, First, Loop, Name, Stmt, VarItem};
+use es3_tree::{Case, Expr, First, Loop, Name, Stmt, VarItem, boxed};
 use std::alloc::Global;
 
 /// An expression.

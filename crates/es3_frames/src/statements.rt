@@ -8,12 +8,12 @@ ghost use Rattle.es3_grammar.specs.Machine.{jump as jump_spec, caught_made};
 ghost use Rattle.es3_frames.specs.Boxed.{of_maybe_boxed};
 ghost use Rattle.es3_frames.specs.Lists.{item_of, clause_of};
 
-use crate::boxed::{boxed, unboxed};
+use crate::boxes::unboxed;
 use crate::parts::{Clauses, Done, Front, Handler, Items, Maybe, Part, Stmts, Target, above};
 use caja_units::Memory;
 use es3_tree::{
-    First, Loop, Name, Stmt, make_block, make_break, make_continue, make_first_var, make_return,
-    make_switch, make_try, make_var,
+    First, Loop, Name, Stmt, boxed, make_block, make_break, make_continue, make_first_var,
+    make_return, make_switch, make_try, make_var,
 };
 use std::alloc::Global;
 

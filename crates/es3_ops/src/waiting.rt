@@ -9,7 +9,7 @@ ghost use Rattle.es3_ops.specs.Waiting as all;
 
 use crate::grouping::Infix;
 use caja_units::Memory;
-use es3_tree::Expr;
+use es3_tree::{Expr, boxed};
 use std::alloc::Global;
 
 /// The innermost, taken off, if its operator is of this level or above.
@@ -79,7 +79,8 @@ pub fn close(
 {
     let mut part = part;
     while let Some((left, op)) = taken(waiting, level) {
-        part = op.join().make(alloc, left, part)?;
+        let (left, right) = (boxed(alloc, left)?, boxed(alloc, part)?);
+        part = op.join().make(left, right);
     }
     Ok(part)
 }

@@ -16,7 +16,7 @@ use crate::variables::after_variable;
 use caja_units::Memory;
 use es3_expr::is_target;
 use es3_frames::frames::{After, Body, Bracket, Frame, Outer, Root, State, Waiting};
-use es3_frames::parts::{Clauses, Done, Front, Maybe, Part, Stmts, Target, above};
+use es3_frames::parts::{Clauses, Done, Front, Maybe, Part, Stmts, Target};
 use es3_frames::stack::Stack;
 use es3_frames::tokens::{is_punct, is_word};
 use es3_lexer::{Punct, Token, Word};

@@ -25,7 +25,7 @@ use es3_frames::parts::{Done, Part, Stmts, above};
 use es3_frames::stack::Stack;
 use es3_frames::tokens::{is_punct, named};
 use es3_lexer::{Kind, Punct, Token};
-use es3_tree::{Func, Name, make_declaration, make_function};
+use es3_tree::{Func, Name, boxed, make_declaration, make_function};
 use std::alloc::Global;
 
 /// The name of a function, or the `(` of one without a name. A declaration has a name.
@@ -152,6 +152,6 @@ pub fn func_made(
     if head.declared {
         return declare(alloc, stack, function, depth);
     }
-    let tree = make_function(alloc, function)?;
+    let tree = make_function(boxed(alloc, function)?);
     Ok(State::Have(Part::made(alloc, tree, depth)?))
 }

@@ -133,10 +133,6 @@ abbrev pub of_maybe_stmt : Option (Box Stmt) → placed.Placed t.maybe_stmt
 of_maybe_stmt None = placed.no_stmt
 of_maybe_stmt (Some x) = placed.some_stmt (stmt x.value)
 
-abbrev pub of_else : Option Stmt → placed.Placed t.maybe_stmt
-of_else None = placed.no_stmt
-of_else (Some x) = placed.some_stmt (stmt x)
-
 abbrev pub of_fields : List (Name × Expr) → placed.Placed t.fields
 of_fields [] = placed.no_fields
 of_fields (x ∷ xs) = placed.more_fields (word x.0) (expr x.1) (of_fields xs)

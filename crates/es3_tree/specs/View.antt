@@ -131,10 +131,6 @@ abbrev pub of_maybe_stmt : Option (Box Stmt) → t.Tree t.maybe_stmt
 of_maybe_stmt None = t.no_stmt
 of_maybe_stmt (Some x) = t.some_stmt (stmt x.value)
 
-abbrev pub of_else : Option Stmt → t.Tree t.maybe_stmt
-of_else None = t.no_stmt
-of_else (Some x) = t.some_stmt (stmt x)
-
 abbrev pub of_fields : List (Name × Expr) → t.Tree t.fields
 of_fields [] = t.no_fields
 of_fields (x ∷ xs) = t.more_fields x.0.text (expr x.1) (of_fields xs)

@@ -3,11 +3,12 @@
 //! Each place in them, `at` or a lone `u32`, is a byte of the source, from 0.
 #![tactic(auto)]
 
-mod boxed;
+pub mod boxes;
 pub mod make_expr;
 pub mod make_stmt;
 pub mod measure;
 
+pub use boxes::boxed;
 use caja_num::Whole;
 use caja_units::Units;
 pub use make_expr::{

@@ -1,4 +1,4 @@
-ghost use Rattle.std.specs.Prelude.{◌≡◌, IfOk};
+ghost use Rattle.std.specs.Prelude.{◌≡◌};
 ghost use Rattle.es3_tree.specs.Tree as tree;
 ghost use Rattle.es3_tree.specs.Placed as placed;
 ghost use Rattle.es3_tree.specs.PlacedView as view;
@@ -14,15 +14,12 @@ ghost use Rattle.es3_tree.specs.View.{
   of_items,
   of_cases,
   of_maybe_expr,
-  of_else,
+  of_maybe_stmt,
   of_handler,
   of_maybe_block,
 };
 
-use crate::boxed::{boxed, boxed_beside};
 use crate::{Case, Expr, First, Func, Loop, Name, Stmt, VarItem};
-use caja_units::Memory;
-use std::alloc::Global;
 
 /// A block (ES3 12.1).
 #[tactic(auto, using(crate::proofs::Rows::view_block, crate::proofs::PlacedRows::placed_block))]
@@ -44,41 +41,27 @@ pub fn make_var(items: Vec<VarItem>) -> Stmt
 
 /// An `if`, with its `else` if it has one (ES3 12.5).
 #[tactic(auto, using(crate::proofs::Rows::view_if, crate::proofs::PlacedRows::placed_if))]
-pub fn make_if(
-    alloc: Global,
-    test: Expr,
-    then: Stmt,
-    otherwise: Option<Stmt>,
-) -> Result<Stmt, Memory>
-    ensures plain { IfOk result (λ s. stmt s ≡ tree.branch (expr test) (stmt then) (of_else otherwise)) }
-    ensures with_places { IfOk result (λ s. view.stmt s ≡ placed.branch (view.expr test) (view.stmt then) (view.of_else otherwise)) }
+pub fn make_if(test: Expr, then: Box<Stmt>, otherwise: Option<Box<Stmt>>) -> Stmt
+    ensures plain { stmt result ≡ tree.branch (expr test) (stmt then.value) (of_maybe_stmt otherwise) }
+    ensures with_places { view.stmt result ≡ placed.branch (view.expr test) (view.stmt then.value) (view.of_maybe_stmt otherwise) }
 {
-    let (then, (test, otherwise)) = boxed_beside(alloc, then, (test, otherwise))?;
-    match otherwise {
-        None => Ok(Stmt::If(test, then, None)),
-        Some(otherwise) => {
-            let (otherwise, (test, then)) = boxed_beside(alloc, otherwise, (test, then))?;
-            Ok(Stmt::If(test, then, Some(otherwise)))
-        }
-    }
+    Stmt::If(test, then, otherwise)
 }
 
 /// A `while` (ES3 12.6.2).
-pub fn make_while(alloc: Global, test: Expr, body: Stmt) -> Result<Stmt, Memory>
-    ensures plain { IfOk result (λ s. stmt s ≡ tree.while_loop (expr test) (stmt body)) }
-    ensures with_places { IfOk result (λ s. view.stmt s ≡ placed.while_loop (view.expr test) (view.stmt body)) }
+pub fn make_while(test: Expr, body: Box<Stmt>) -> Stmt
+    ensures plain { stmt result ≡ tree.while_loop (expr test) (stmt body.value) }
+    ensures with_places { view.stmt result ≡ placed.while_loop (view.expr test) (view.stmt body.value) }
 {
-    let (body, test) = boxed_beside(alloc, body, test)?;
-    Ok(Stmt::While(test, body))
+    Stmt::While(test, body)
 }
 
 /// A `do` .. `while` (ES3 12.6.1).
-pub fn make_do(alloc: Global, body: Stmt, test: Expr) -> Result<Stmt, Memory>
-    ensures plain { IfOk result (λ s. stmt s ≡ tree.do_loop (stmt body) (expr test)) }
-    ensures with_places { IfOk result (λ s. view.stmt s ≡ placed.do_loop (view.stmt body) (view.expr test)) }
+pub fn make_do(body: Box<Stmt>, test: Expr) -> Stmt
+    ensures plain { stmt result ≡ tree.do_loop (stmt body.value) (expr test) }
+    ensures with_places { view.stmt result ≡ placed.do_loop (view.stmt body.value) (view.expr test) }
 {
-    let (body, test) = boxed_beside(alloc, body, test)?;
-    Ok(Stmt::Do(body, test))
+    Stmt::Do(body, test)
 }
 
 /// The first part of the head of a `for` that declares variables (ES3 12.6.3).
@@ -92,29 +75,19 @@ pub fn make_first_var(items: Vec<VarItem>) -> First
 
 /// A `for` whose head has three parts (ES3 12.6.3).
 #[tactic(auto, using(crate::proofs::Rows::view_for, crate::proofs::PlacedRows::placed_for))]
-pub fn make_for(
-    alloc: Global,
-    start: First,
-    test: Option<Expr>,
-    update: Option<Expr>,
-    body: Stmt,
-) -> Result<Stmt, Memory>
-    ensures plain { IfOk result (λ s.
-        stmt s ≡ tree.for_loop (first start) (of_maybe_expr test) (of_maybe_expr update) (stmt body)) }
-    ensures with_places { IfOk result (λ s.
-        view.stmt s ≡ placed.for_loop (view.first start) (view.of_maybe_expr test) (view.of_maybe_expr update) (view.stmt body)) }
+pub fn make_for(start: First, test: Option<Expr>, update: Option<Expr>, body: Box<Stmt>) -> Stmt
+    ensures plain { stmt result ≡ tree.for_loop (first start) (of_maybe_expr test) (of_maybe_expr update) (stmt body.value) }
+    ensures with_places { view.stmt result ≡ placed.for_loop (view.first start) (view.of_maybe_expr test) (view.of_maybe_expr update) (view.stmt body.value) }
 {
-    let (body, (start, test, update)) = boxed_beside(alloc, body, (start, test, update))?;
-    Ok(Stmt::For(start, test, update, body))
+    Stmt::For(start, test, update, body)
 }
 
 /// A `for` .. `in` (ES3 12.6.4).
-pub fn make_for_in(alloc: Global, target: Loop, object: Expr, body: Stmt) -> Result<Stmt, Memory>
-    ensures plain { IfOk result (λ s. stmt s ≡ tree.for_in (loop_target target) (expr object) (stmt body)) }
-    ensures with_places { IfOk result (λ s. view.stmt s ≡ placed.for_in (view.loop_target target) (view.expr object) (view.stmt body)) }
+pub fn make_for_in(target: Loop, object: Expr, body: Box<Stmt>) -> Stmt
+    ensures plain { stmt result ≡ tree.for_in (loop_target target) (expr object) (stmt body.value) }
+    ensures with_places { view.stmt result ≡ placed.for_in (view.loop_target target) (view.expr object) (view.stmt body.value) }
 {
-    let (body, (target, object)) = boxed_beside(alloc, body, (target, object))?;
-    Ok(Stmt::ForIn(target, object, body))
+    Stmt::ForIn(target, object, body)
 }
 
 /// A `continue` that begins at `at`, with its label if it has one (ES3 12.7).
@@ -143,12 +116,11 @@ pub fn make_return(value: Option<Expr>, at: u32) -> Stmt
 }
 
 /// A `with` that begins at `at` (ES3 12.10).
-pub fn make_with(alloc: Global, object: Expr, body: Stmt, at: u32) -> Result<Stmt, Memory>
-    ensures plain { IfOk result (λ s. stmt s ≡ tree.with_object (expr object) (stmt body)) }
-    ensures with_places { IfOk result (λ s. view.stmt s ≡ placed.with_object (view.expr object) (view.stmt body) at) }
+pub fn make_with(object: Expr, body: Box<Stmt>, at: u32) -> Stmt
+    ensures plain { stmt result ≡ tree.with_object (expr object) (stmt body.value) }
+    ensures with_places { view.stmt result ≡ placed.with_object (view.expr object) (view.stmt body.value) at }
 {
-    let (body, object) = boxed_beside(alloc, body, object)?;
-    Ok(Stmt::With(object, body, at))
+    Stmt::With(object, body, at)
 }
 
 /// A `switch` (ES3 12.11).
@@ -161,11 +133,11 @@ pub fn make_switch(value: Expr, cases: Vec<Case>) -> Stmt
 }
 
 /// A statement with a label before it (ES3 12.12).
-pub fn make_label(alloc: Global, label: Name, body: Stmt) -> Result<Stmt, Memory>
-    ensures plain { IfOk result (λ s. stmt s ≡ tree.label (text label) (stmt body)) }
-    ensures with_places { IfOk result (λ s. view.stmt s ≡ placed.label (view.word label) (view.stmt body)) }
+pub fn make_label(label: Name, body: Box<Stmt>) -> Stmt
+    ensures plain { stmt result ≡ tree.label (text label) (stmt body.value) }
+    ensures with_places { view.stmt result ≡ placed.label (view.word label) (view.stmt body.value) }
 {
-    Ok(Stmt::Label(label, boxed(alloc, body)?))
+    Stmt::Label(label, body)
 }
 
 /// A `try`, with its `catch` and its `finally` if it has them (ES3 12.14).

@@ -21,10 +21,8 @@ ghost use Rattle.scope_rules.specs.Resolve.{
 use crate::together::joined;
 use crate::words::is_arguments;
 use caja_units::{Memory, Units};
-use cajita_tree::{
-    CExpr, CFunc, Key, Target, boxed, make_array, make_function, make_new, make_record,
-};
-use es3_tree::{BinOp, Name, UnOp};
+use cajita_tree::{CExpr, CFunc, Key, Target, make_array, make_function, make_new, make_record};
+use es3_tree::{BinOp, Name, UnOp, boxed};
 use std::alloc::Global;
 
 /// An expression that has no parts.

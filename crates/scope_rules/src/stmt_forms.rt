@@ -13,10 +13,10 @@ use crate::expr_forms;
 use crate::together::joined;
 use caja_units::{Memory, Units};
 use cajita_tree::{
-    CCase, CExpr, CFirst, CStmt, CVarItem, Target, boxed, make_block, make_first_var, make_for,
-    make_if, make_return, make_switch, make_try, make_var,
+    CCase, CExpr, CFirst, CStmt, CVarItem, Target, make_block, make_first_var, make_for, make_if,
+    make_return, make_switch, make_try, make_var,
 };
-use es3_tree::Name;
+use es3_tree::{Name, boxed};
 use std::alloc::Global;
 
 /// A statement that has no parts.

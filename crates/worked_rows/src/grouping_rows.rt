@@ -3,7 +3,7 @@
 ghost use Rattle.std.specs.Prelude.{◌<◌, length};
 
 use es3_ops::{Infix, Ops};
-use es3_tree::{BinOp, Expr, UnOp, make_unary};
+use es3_tree::{BinOp, Expr, UnOp, boxed, make_unary};
 use std::alloc::Global;
 use std::test::Fail;
 
@@ -97,7 +97,8 @@ fn operators_are_grouped_by_their_levels(rt: HostRuntime) -> Result<(), Fail> {
 #[test]
 fn an_operand_nests_below_its_operator(rt: HostRuntime) -> Result<(), Fail> {
     let alloc = rt.alloc();
-    let negative = make_unary(alloc, UnOp::Minus, Expr::Null, 0)?;
+    let null = boxed(alloc, Expr::Null)?;
+    let negative = make_unary(UnOp::Minus, null, 0);
     let mut ops = Ops::new(alloc, negative)?;
     assert_eq!(rt; ops.add(Infix::Or)?, 3);
     Ok(())

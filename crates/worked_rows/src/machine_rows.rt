@@ -8,8 +8,8 @@ use es3_heap::{Class, Heap, Proto, Stop, Value};
 use es3_machine::Machine;
 use es3_moves::natives::Completion;
 use es3_tree::{
-    BinOp, Expr, Func, Name, Program, Stmt, make_assign, make_binary, make_call, make_function,
-    make_return,
+    BinOp, Expr, Func, Name, Program, Stmt, boxed, make_assign, make_binary, make_call,
+    make_function, make_return,
 };
 use page_runner::NoNatives;
 use std::alloc::Global;
@@ -49,7 +49,8 @@ fn number(v: i64) -> Expr {
 
 /// `1 + 2`.
 fn sum(alloc: Global) -> Result<Vec<Stmt>, Memory> {
-    let sum = make_binary(alloc, BinOp::Add, number(1), number(2))?;
+    let (one, two) = (boxed(alloc, number(1))?, boxed(alloc, number(2))?);
+    let sum = make_binary(BinOp::Add, one, two);
     alone(alloc, Stmt::Expr(sum))
 }
 
@@ -85,7 +86,7 @@ fn returning(alloc: Global, params: Vec<Name>, value: Expr) -> Result<Expr, Memo
         body,
         at: 0,
     };
-    Ok(make_function(alloc, function)?)
+    Ok(make_function(boxed(alloc, function)?))
 }
 
 /// `function (x) { return x; }`
@@ -98,7 +99,7 @@ fn identity(alloc: Global) -> Result<Expr, Memory> {
 /// `(function (x) { return x; })("a")`
 fn identity_of_a(alloc: Global) -> Result<Vec<Stmt>, Memory> {
     let arguments = alone(alloc, Expr::Text(Units::from_ascii(alloc, b"a")?))?;
-    let call = make_call(alloc, identity(alloc)?, arguments)?;
+    let call = make_call(boxed(alloc, identity(alloc)?)?, arguments);
     alone(alloc, Stmt::Expr(call))
 }
 
@@ -144,16 +145,16 @@ fn a_call_gives_what_the_function_returns(rt: HostRuntime) -> Result<(), Fail> {
 
 /// `f()`
 fn call_of_f(alloc: Global) -> Result<Expr, Memory> {
-    let f = named(alloc, "f")?;
-    Ok(make_call(alloc, f, Vec::new(alloc))?)
+    let f = boxed(alloc, named(alloc, "f")?)?;
+    Ok(make_call(f, Vec::new(alloc)))
 }
 
 /// `f = function () { return f(); }`
 fn endless(alloc: Global) -> Result<Expr, Memory> {
     let again = call_of_f(alloc)?;
     let function = returning(alloc, Vec::new(alloc), again)?;
-    let f = named(alloc, "f")?;
-    Ok(make_assign(alloc, None, f, function)?)
+    let f = boxed(alloc, named(alloc, "f")?)?;
+    Ok(make_assign(None, f, boxed(alloc, function)?))
 }
 
 /// `f = function () { return f(); }; f();`

@@ -12,8 +12,8 @@ ghost use Rattle.cajita_rewrite.specs.Given.{IsGiven};
 use caja_num::Whole;
 use caja_units::Units;
 use cajita_rewrite::rewrite;
-use cajita_tree::{CExpr, CStmt, CVarItem, Key, Module, boxed, make_body, make_record, make_var};
-use es3_tree::{BinOp, Program, depth, size};
+use cajita_tree::{CExpr, CStmt, CVarItem, Key, Module, make_body, make_record, make_var};
+use es3_tree::{BinOp, Program, boxed, depth, size};
 use std::alloc::Global;
 use std::test::Fail;
 

@@ -8,11 +8,12 @@ ghost use Rattle.es3_tree.specs.Measure.{nest, count};
 use crate::lists::alone;
 use caja_units::Units;
 use es3_tree::{
-    BinOp, Case, Expr, First, Func, Loop, Name, Program, Stmt, UnOp, VarItem, depth, make_and,
-    make_array, make_assign, make_binary, make_block, make_break, make_call, make_comma, make_cond,
-    make_continue, make_declaration, make_do, make_dot, make_first_var, make_for, make_for_in,
-    make_function, make_if, make_index, make_label, make_new, make_object, make_or, make_return,
-    make_step, make_switch, make_try, make_unary, make_var, make_while, make_with, size,
+    BinOp, Case, Expr, First, Func, Loop, Name, Program, Stmt, UnOp, VarItem, boxed, depth,
+    make_and, make_array, make_assign, make_binary, make_block, make_break, make_call, make_comma,
+    make_cond, make_continue, make_declaration, make_do, make_dot, make_first_var, make_for,
+    make_for_in, make_function, make_if, make_index, make_label, make_new, make_object, make_or,
+    make_return, make_step, make_switch, make_try, make_unary, make_var, make_while, make_with,
+    size,
 };
 use std::alloc::Global;
 use std::test::Fail;
@@ -36,7 +37,7 @@ fn call(alloc: Global) -> Result<Expr, Fail>
     ensures { IfOk result (λ x. (nest tree.expr (expr x) ≡ 2) × (count tree.expr (expr x) ≡ 3)) }
 {
     let arguments = alone(alloc, variable(alloc)?)?;
-    Ok(make_call(alloc, variable(alloc)?, arguments)?)
+    Ok(make_call(boxed(alloc, variable(alloc)?)?, arguments))
 }
 
 // `for (var a in a);`
@@ -44,7 +45,8 @@ fn walk(alloc: Global) -> Result<Stmt, Fail>
     ensures { IfOk result (λ s. (nest tree.stmt (stmt s) ≡ 2) × (count tree.stmt (stmt s) ≡ 3)) }
 {
     let target = Loop::Var(letter(alloc)?);
-    Ok(make_for_in(alloc, target, variable(alloc)?, Stmt::Empty)?)
+    let body = boxed(alloc, Stmt::Empty)?;
+    Ok(make_for_in(target, variable(alloc)?, body))
 }
 
 // `try { a(a); } catch (a) {}`
@@ -59,7 +61,9 @@ fn attempt(alloc: Global) -> Result<Stmt, Fail>
 fn branch(alloc: Global) -> Result<Stmt, Fail>
     ensures { IfOk result (λ s. (nest tree.stmt (stmt s) ≡ 5) × (count tree.stmt (stmt s) ≡ 10)) }
 {
-    Ok(make_if(alloc, variable(alloc)?, walk(alloc)?, Some(attempt(alloc)?))?)
+    let then = boxed(alloc, walk(alloc)?)?;
+    let otherwise = boxed(alloc, attempt(alloc)?)?;
+    Ok(make_if(variable(alloc)?, then, Some(otherwise)))
 }
 
 // A function whose body is that `if`, declared.
@@ -92,39 +96,44 @@ fn a_function_counts_in_its_nesting_and_its_size(rt: HostRuntime) -> Result<(), 
     Ok(())
 }
 
+fn null(alloc: Global) -> Result<Box<Expr>, Fail> {
+    Ok(boxed(alloc, Expr::Null)?)
+}
+
 // An expression that each maker of an operator had a part in.
 fn operators(alloc: Global) -> Result<Expr, Fail> {
-    let x = make_function(
-        alloc,
-        Func {
-            name: None,
-            params: Vec::new(alloc),
-            body: Vec::new(alloc),
-            at: 0,
-        },
-    )?;
-    let x = make_new(alloc, x, Vec::new(alloc))?;
-    let x = make_dot(alloc, x, letter(alloc)?)?;
-    let x = make_index(alloc, x, Expr::Null)?;
-    let x = make_unary(alloc, UnOp::Minus, x, 0)?;
-    let x = make_step(alloc, true, false, x)?;
-    let x = make_binary(alloc, BinOp::Add, x, Expr::Null)?;
-    let x = make_and(alloc, x, make_array(Vec::new(alloc)))?;
-    Ok(make_or(alloc, x, make_object(Vec::new(alloc)))?)
+    let function = Func {
+        name: None,
+        params: Vec::new(alloc),
+        body: Vec::new(alloc),
+        at: 0,
+    };
+    let x = make_function(boxed(alloc, function)?);
+    let x = make_new(boxed(alloc, x)?, Vec::new(alloc));
+    let x = make_dot(boxed(alloc, x)?, letter(alloc)?);
+    let x = make_index(boxed(alloc, x)?, null(alloc)?);
+    let x = make_unary(UnOp::Minus, boxed(alloc, x)?, 0);
+    let x = make_step(true, false, boxed(alloc, x)?);
+    let x = make_binary(BinOp::Add, boxed(alloc, x)?, null(alloc)?);
+    let array = make_array(Vec::new(alloc));
+    let x = make_and(boxed(alloc, x)?, boxed(alloc, array)?);
+    let object = make_object(Vec::new(alloc));
+    Ok(make_or(boxed(alloc, x)?, boxed(alloc, object)?))
 }
 
 fn choices(alloc: Global) -> Result<Expr, Fail> {
-    let x = make_cond(alloc, Expr::Null, Expr::Null, Expr::Null)?;
-    let x = make_assign(alloc, None, variable(alloc)?, x)?;
-    Ok(make_comma(alloc, x, Expr::Null)?)
+    let x = make_cond(null(alloc)?, null(alloc)?, null(alloc)?);
+    let target = boxed(alloc, variable(alloc)?)?;
+    let x = make_assign(None, target, boxed(alloc, x)?);
+    Ok(make_comma(boxed(alloc, x)?, null(alloc)?))
 }
 
 fn loops(alloc: Global) -> Result<Stmt, Fail> {
-    let s = make_while(alloc, Expr::Null, make_break(None, 0))?;
-    let s = make_do(alloc, s, Expr::Null)?;
-    let s = make_for(alloc, First::None, None, None, s)?;
-    let s = make_with(alloc, Expr::Null, s, 0)?;
-    Ok(make_label(alloc, letter(alloc)?, s)?)
+    let s = make_while(Expr::Null, boxed(alloc, make_break(None, 0))?);
+    let s = make_do(boxed(alloc, s)?, Expr::Null);
+    let s = make_for(First::None, None, None, boxed(alloc, s)?);
+    let s = make_with(Expr::Null, boxed(alloc, s)?, 0);
+    Ok(make_label(letter(alloc)?, boxed(alloc, s)?))
 }
 
 fn heads(alloc: Global) -> Result<Stmt, Fail> {
@@ -133,7 +142,8 @@ fn heads(alloc: Global) -> Result<Stmt, Fail> {
         value: None,
     };
     let start = make_first_var(alone(alloc, item)?);
-    Ok(make_for(alloc, start, None, None, make_continue(None, 0))?)
+    let body = boxed(alloc, make_continue(None, 0))?;
+    Ok(make_for(start, None, None, body))
 }
 
 // The cases of a `switch` without a test.

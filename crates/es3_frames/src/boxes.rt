@@ -1,22 +1,10 @@
 //! Trees in boxes of their own: what is open holds many trees, and a box is small whatever it holds.
 
-ghost use Rattle.std.specs.Prelude.{◌≡◌, IfOk};
+ghost use Rattle.std.specs.Prelude.{◌≡◌};
 ghost use Rattle.es3_tree.specs.PlacedView.{of_maybe_expr};
 ghost use Rattle.es3_frames.specs.Boxed.{of_maybe_boxed};
 
-use caja_units::Memory;
 use es3_tree::Expr;
-use std::alloc::{AllocError, Global};
-
-/// The tree in a box.
-pub(crate) fn boxed<T: Drop>(alloc: Global, tree: T) -> Result<Box<T>, Memory>
-    ensures { IfOk result (λ b. b.value ≡ tree) }
-{
-    match Box::new(alloc, tree) {
-        Ok(held) => Ok(held),
-        Err(error) => Err(AllocError::from(error).into()),
-    }
-}
 
 /// The expression out of its box, if there is one.
 pub(crate) fn unboxed(tree: Option<Box<Expr>>) -> Option<Expr>
