@@ -4,7 +4,7 @@ use Rattle.es3_tree.specs.PlacedView.{expr}
 use Rattle.es3_tree.specs.declared.UnOp.TheVariants.{Minus}
 use Rattle.es3_ops.specs.declared.grouping.Infix.TheVariants.{Or}
 use Rattle.es3_ops.proofs.Adding.{parts_fit, parts_of}
-use Rattle.worked_rows.proofs.grouping_rows.an_operand_nests_below_its_operator.Goals as goal
+use Rattle.language_tests.proofs.grouping_rows.an_operand_nests_below_its_operator.Goals as goal
 
 pub add-requires-clause-fits : goal.add-requires-clause-fits
 add-requires-clause-fits g c =

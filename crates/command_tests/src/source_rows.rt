@@ -1,8 +1,8 @@
 //! Sources at the edges of the first language, each with the exact output.
 
-use crate::runs::{check_refusals, refuses, run};
 use caja_cli::Status;
 use caja_units::Memory;
+use command_runs::runs::{check_refusals, refuses, run};
 use std::alloc::Global;
 use std::test::Fail;
 
@@ -147,4 +147,26 @@ fn each_refusal_has_its_line(rt: HostRuntime) -> Result<(), Fail> {
     check_refusals(rt.alloc(), "solo", REFUSALS)?;
     assert!(rt; refuses(rt.alloc(), "solo", b"\n a.x;", "refused main rule 10 2")?);
     Ok(())
+}
+
+/// Modules that break a rule, and the whole output for each.
+static PAGES: &str = "
+var a; a.b__; ⇒ refused main rule 1 9
+with ({}) ; ⇒ refused main rule 2 0
+eval; ⇒ refused main rule 3 0
+this; ⇒ refused main rule 4 0
+function f() {} var f; ⇒ refused main rule 5 20
+try {} catch (e) { var e; } ⇒ refused main rule 6 14
+function f() {} f = 1; ⇒ refused main rule 7 16
+({toString: 1}); ⇒ refused main rule 8 2
+({a: 1, a: 2}); ⇒ refused main rule 9 8
+x; ⇒ refused main rule 10 0
+break; ⇒ refused main rule 11 0
+var x; delete x; ⇒ refused main rule 12 7
+function f() { arguments = 1; } ⇒ refused main rule 13 15
+";
+
+#[test]
+fn each_rule_refuses_a_page(rt: HostRuntime) -> Result<(), Fail> {
+    check_refusals(rt.alloc(), "solo", PAGES)
 }

@@ -1,10 +1,10 @@
 //! Texts of each form of ECMAScript 3 that run as they stand.
 
-use crate::run_rows::{check_ends, check_gives};
 use crate::{
     program_end_tables as ends, program_statement_tables as statements, program_tables as programs,
 };
 use caja_cli::Status;
+use command_runs::rows::{check_ends, check_gives};
 use std::test::Fail;
 
 #[test]

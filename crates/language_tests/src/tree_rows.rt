@@ -5,7 +5,6 @@ ghost use Rattle.es3_tree.specs.Tree as tree;
 ghost use Rattle.es3_tree.specs.View.{expr, stmt, program};
 ghost use Rattle.es3_tree.specs.Measure.{nest, count};
 
-use crate::lists::alone;
 use caja_units::Units;
 use es3_tree::{
     BinOp, Case, Expr, First, Func, Loop, Name, Program, Stmt, UnOp, VarItem, boxed, depth,
@@ -36,7 +35,7 @@ fn variable(alloc: Global) -> Result<Expr, Fail>
 fn call(alloc: Global) -> Result<Expr, Fail>
     ensures { IfOk result (λ x. (nest tree.expr (expr x) ≡ 2) × (count tree.expr (expr x) ≡ 3)) }
 {
-    let arguments = alone(alloc, variable(alloc)?)?;
+    let arguments = Vec::from_array(alloc, [variable(alloc)?])?;
     Ok(make_call(boxed(alloc, variable(alloc)?)?, arguments))
 }
 
@@ -53,7 +52,7 @@ fn walk(alloc: Global) -> Result<Stmt, Fail>
 fn attempt(alloc: Global) -> Result<Stmt, Fail>
     ensures { IfOk result (λ s. (nest tree.stmt (stmt s) ≡ 4) × (count tree.stmt (stmt s) ≡ 5)) }
 {
-    let body = alone(alloc, Stmt::Expr(call(alloc)?))?;
+    let body = Vec::from_array(alloc, [Stmt::Expr(call(alloc)?)])?;
     Ok(make_try(body, Some((letter(alloc)?, Vec::new(alloc))), None))
 }
 
@@ -70,9 +69,9 @@ fn branch(alloc: Global) -> Result<Stmt, Fail>
 fn declared(alloc: Global) -> Result<Stmt, Fail>
     ensures { IfOk result (λ s. (nest tree.stmt (stmt s) ≡ 7) × (count tree.stmt (stmt s) ≡ 12)) }
 {
-    let params = alone(alloc, letter(alloc)?)?;
+    let params = Vec::from_array(alloc, [letter(alloc)?])?;
     let name = Some(letter(alloc)?);
-    let body = alone(alloc, branch(alloc)?)?;
+    let body = Vec::from_array(alloc, [branch(alloc)?])?;
     Ok(make_declaration(Func {
         name,
         params,
@@ -84,7 +83,7 @@ fn declared(alloc: Global) -> Result<Stmt, Fail>
 fn script(alloc: Global) -> Result<Program, Fail>
     ensures { IfOk result (λ p. (nest tree.program (program p) ≡ 7) × (count tree.program (program p) ≡ 12)) }
 {
-    let body = alone(alloc, declared(alloc)?)?;
+    let body = Vec::from_array(alloc, [declared(alloc)?])?;
     Ok(Program { body })
 }
 
@@ -141,19 +140,19 @@ fn heads(alloc: Global) -> Result<Stmt, Fail> {
         name: letter(alloc)?,
         value: None,
     };
-    let start = make_first_var(alone(alloc, item)?);
+    let start = make_first_var(Vec::from_array(alloc, [item])?);
     let body = boxed(alloc, make_continue(None, 0))?;
     Ok(make_for(start, None, None, body))
 }
 
 // The cases of a `switch` without a test.
 fn cases(alloc: Global, body: Vec<Stmt>) -> Result<Stmt, Fail> {
-    let cases = alone(alloc, Case { test: None, body })?;
+    let cases = Vec::from_array(alloc, [Case { test: None, body }])?;
     Ok(make_switch(Expr::Null, cases))
 }
 
 fn lists(alloc: Global) -> Result<Stmt, Fail> {
-    let mut body = alone(alloc, make_return(None, 0))?;
+    let mut body = Vec::from_array(alloc, [make_return(None, 0)])?;
     body.push(make_var(Vec::new(alloc)))?;
     body.push(make_block(Vec::new(alloc)))?;
     cases(alloc, body)

@@ -1,9 +1,8 @@
 //! Conversions of values, and sums, each call once where it succeeds.
 
-use crate::lists::alone;
-use crate::samples::made;
+use crate::samples::{made, nested, put_conversion};
 use caja_num::Whole;
-use caja_units::{Memory, Units};
+use caja_units::Units;
 use es3_convert::{add, number_text, out_of_memory, to_primitive, to_text};
 use es3_heap::{Heap, Stop, Value};
 use std::alloc::Global;
@@ -20,23 +19,6 @@ fn is_same(a: &Value, b: &Value) -> bool {
         (Value::Text(a), Value::Text(b)) => a.same(b),
         _ => false,
     }
-}
-
-/// An array whose items are null, the value and undefined.
-fn around(alloc: Global, heap: &mut Heap, value: Value) -> Result<Value, Memory> {
-    let mut items = alone(alloc, Value::Null)?;
-    items.push(value)?;
-    items.push(Value::Undefined)?;
-    Ok(Value::Obj(heap.make_array(items)?))
-}
-
-/// Arrays in one another, each between null and undefined, so many that the innermost, which is empty, is `deep` arrays deep.
-fn nested(alloc: Global, heap: &mut Heap, deep: usize) -> Result<Value, Stop> {
-    let mut value = made(alloc, heap, "[]")?;
-    for _around in 1..deep {
-        value = around(alloc, heap, value).map_err(out_of_memory)?;
-    }
-    Ok(value)
 }
 
 fn has_digits(alloc: Global, v: i64, digits: &str) -> Result<bool, Stop> {
@@ -67,15 +49,6 @@ fn null_gives_nothing_to_the_text_of_an_array(rt: HostRuntime) -> Result<(), Fai
 fn has_text(alloc: Global, heap: &Heap, v: &Value, bytes: &[u8]) -> Result<bool, Stop> {
     let text = to_text(alloc, heap, v)?;
     Ok(text.same(&ascii(alloc, bytes)?))
-}
-
-/// Gives the object a conversion of its own.
-fn put_conversion(alloc: Global, heap: &mut Heap, object: &Value) -> Result<bool, Stop> {
-    let key = ascii(alloc, b"toString")?;
-    match object {
-        Value::Obj(o) => heap.put(*o, &key, Value::Undefined).map_err(out_of_memory),
-        _ => Ok(false),
-    }
 }
 
 #[test]

@@ -1,7 +1,6 @@
 //! Sources and the first rule of Cajita that each breaks, or what its module imports and declares.
 
 use crate::rule_tables::{DECLARATIONS, KEYS_AND_FORMS, LABELS, NAMES, SEVERAL};
-use crate::runs::check_refusals;
 use caja_units::{Memory, Units};
 use cajita_tree::Module;
 use es3_lexer::tokens;
@@ -109,28 +108,6 @@ fn jumps_and_labels_are_refused_where_they_stand(rt: HostRuntime) -> Result<(), 
 #[test]
 fn the_earlier_place_and_then_the_smaller_number_counts(rt: HostRuntime) -> Result<(), Fail> {
     check_rows(rt.alloc(), SEVERAL)
-}
-
-/// Modules that break a rule, and the whole output for each.
-static PAGES: &str = "
-var a; a.b__; ⇒ refused main rule 1 9
-with ({}) ; ⇒ refused main rule 2 0
-eval; ⇒ refused main rule 3 0
-this; ⇒ refused main rule 4 0
-function f() {} var f; ⇒ refused main rule 5 20
-try {} catch (e) { var e; } ⇒ refused main rule 6 14
-function f() {} f = 1; ⇒ refused main rule 7 16
-({toString: 1}); ⇒ refused main rule 8 2
-({a: 1, a: 2}); ⇒ refused main rule 9 8
-x; ⇒ refused main rule 10 0
-break; ⇒ refused main rule 11 0
-var x; delete x; ⇒ refused main rule 12 7
-function f() { arguments = 1; } ⇒ refused main rule 13 15
-";
-
-#[test]
-fn each_rule_refuses_a_page(rt: HostRuntime) -> Result<(), Fail> {
-    check_refusals(rt.alloc(), "solo", PAGES)
 }
 
 /// A source, and the text of its first fault.

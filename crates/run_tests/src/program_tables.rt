@@ -479,7 +479,12 @@ run ⇒ function f(a) { arguments[0]++; return a; } f(1); ⇒ return 2
 run ⇒ function f(a) { a++; return arguments[0]; } f(1); ⇒ return 2
 run ⇒ function f(a) { var a = 4; return arguments[0]; } f(1); ⇒ return 4
 run ⇒ function f(a) { function a() {} return typeof arguments[0]; } f(1); ⇒ return \"function\"
-run ⇒ function f(a, a) { return arguments[0]; } f(1, 2); ⇒ return 2
+run ⇒ function f(a, a) { return arguments[0]; } f(1, 2); ⇒ return 1
+run ⇒ function f(a, a) { return arguments[0]; } f(1); ⇒ return 1
+run ⇒ function f(a, a) { a = 7; return arguments[0] + ' ' + arguments[1]; } f(1, 2); ⇒ return \"1 7\"
+run ⇒ function f(a, a) { arguments[0] = 5; return a; } f(1, 2); ⇒ return 2
+run ⇒ function f(a, a) { arguments[1] = 5; return a; } f(1, 2); ⇒ return 5
+run ⇒ function f(a, b, a) { a = 7; return arguments[0] + ' ' + arguments[1] + ' ' + arguments[2]; } f(1, 2, 3); ⇒ return \"1 2 7\"
 run ⇒ function f(a) { (function () { a = 2; })(); return arguments[0]; } f(1); ⇒ return 2
 run ⇒ function f(a) { for (a in {x: 1}) ; return arguments[0]; } f(1); ⇒ return \"x\"
 run ⇒ function f(a) { for (arguments[0] in {x: 1}) ; return a; } f(1); ⇒ return \"x\"

@@ -1,7 +1,7 @@
 use Rattle.std.proofs.Common.{arith}
 use Rattle.es3_tree.specs.Placed as placed
 use Rattle.es3_ops.proofs.Adding.{parts_fit}
-use Rattle.worked_rows.proofs.grouping_rows.grouped.Goals as goal
+use Rattle.language_tests.proofs.grouping_rows.grouped.Goals as goal
 
 pub add-requires-clause-fits : goal.add-requires-clause-fits
 add-requires-clause-fits c =

@@ -4,7 +4,7 @@ use Rattle.es3_tree.specs.Placed as placed
 use Rattle.es3_grammar.specs.Levels.{E, Join}
 use Rattle.es3_grammar.specs.Plain.{deep}
 use Rattle.es3_ops.specs.Listed.{front_of, last_of}
-use Rattle.worked_rows.proofs.grouping_rows.grouped.Given as goal
+use Rattle.language_tests.proofs.grouping_rows.grouped.Given as goal
 
 -- each operand is a single node
 abbrev pub invariant-loop-op : goal.invariant-loop-op

@@ -1,8 +1,10 @@
 //! Calls of the guards, each once where it succeeds.
 
+use crate::samples::{made, nested, put_conversion};
 use caja_num::Whole;
 use caja_units::{Memory, Units};
-use es3_heap::{Heap, Tag, Value};
+use es3_convert::out_of_memory;
+use es3_heap::{Heap, Stop, Tag, Value};
 use guard_runtime::{Guarded, guard_row, initialize_map, read_public};
 use std::alloc::Global;
 use std::test::Fail;
@@ -142,5 +144,52 @@ fn an_error_of_a_guard_is_named_for_the_running_module(rt: HostRuntime) -> Resul
             "{message}"
         );
     }
+    Ok(())
+}
+
+/// Why a guard stops the run, if it does.
+fn stop_of(answer: Guarded) -> Option<Stop> {
+    match answer {
+        Guarded::Stop(stop) => Some(stop),
+        _other => None,
+    }
+}
+
+/// Why a guard stops the run that reads a key of an object, and why one that makes a record with that key does.
+fn stops_of(
+    alloc: Global,
+    heap: &mut Heap,
+    key: &Value,
+) -> Result<(Option<Stop>, Option<Stop>), Stop> {
+    let object = made(alloc, heap, "{}")?;
+    let read = stop_of(read_public(alloc, heap, 2, &object, key));
+    let mut items = Vec::new(alloc);
+    for part in [key, &object] {
+        let part = part.copy(alloc).map_err(out_of_memory)?;
+        items.push(part).map_err(|_| Stop::Memory)?;
+    }
+    let items = Value::Obj(heap.make_array(items).map_err(out_of_memory)?);
+    let record = stop_of(initialize_map(alloc, heap, 2, &items));
+    Ok((read, record))
+}
+
+#[test]
+fn a_key_with_a_conversion_of_its_own_stops_the_run(rt: HostRuntime) -> Result<(), Fail> {
+    let mut heap = Heap::new(rt.alloc())?;
+    let key = made(rt.alloc(), &mut heap, "{}")?;
+    assert!(rt; put_conversion(rt.alloc(), &mut heap, &key)?);
+    let (read, record) = stops_of(rt.alloc(), &mut heap, &key)?;
+    assert_eq!(rt; read, Some(Stop::Convert));
+    assert_eq!(rt; record, Some(Stop::Convert));
+    Ok(())
+}
+
+#[test]
+fn a_key_of_arrays_that_nest_too_deep_stops_the_run(rt: HostRuntime) -> Result<(), Fail> {
+    let mut heap = Heap::new(rt.alloc())?;
+    let key = nested(rt.alloc(), &mut heap, 33)?;
+    let (read, record) = stops_of(rt.alloc(), &mut heap, &key)?;
+    assert_eq!(rt; read, Some(Stop::Depth));
+    assert_eq!(rt; record, Some(Stop::Depth));
     Ok(())
 }

@@ -1,8 +1,9 @@
 //! Values as the tables write them: `undefined`, `null`, `true`, `false`, a number, a text between apostrophes, items between
 //! brackets with a comma between two, `{}` for an empty object, and `function`. Each object is a new one.
 
+use crate::lists::alone;
 use caja_num::Whole;
-use caja_units::Units;
+use caja_units::{Memory, Units};
 use es3_convert::out_of_memory;
 use es3_heap::{Class, FuncKind, Heap, Proto, Stop, Value};
 use std::alloc::Global;
@@ -71,5 +72,31 @@ pub fn made(alloc: Global, heap: &mut Heap, sample: &str) -> Result<Value, Stop>
     match between(sample, '[', ']') {
         Some(items) => array(alloc, heap, items),
         None => primitive(alloc, sample),
+    }
+}
+
+/// An array whose items are null, the value and undefined.
+fn around(alloc: Global, heap: &mut Heap, value: Value) -> Result<Value, Memory> {
+    let mut items = alone(alloc, Value::Null)?;
+    items.push(value)?;
+    items.push(Value::Undefined)?;
+    Ok(Value::Obj(heap.make_array(items)?))
+}
+
+/// Arrays in one another, each between null and undefined, so many that the innermost, which is empty, is `deep` arrays deep.
+pub fn nested(alloc: Global, heap: &mut Heap, deep: usize) -> Result<Value, Stop> {
+    let mut value = made(alloc, heap, "[]")?;
+    for _around in 1..deep {
+        value = around(alloc, heap, value).map_err(out_of_memory)?;
+    }
+    Ok(value)
+}
+
+/// Gives the object a conversion of its own.
+pub fn put_conversion(alloc: Global, heap: &mut Heap, object: &Value) -> Result<bool, Stop> {
+    let key = Units::from_ascii(alloc, b"toString").map_err(out_of_memory)?;
+    match object {
+        Value::Obj(o) => heap.put(*o, &key, Value::Undefined).map_err(out_of_memory),
+        _ => Ok(false),
     }
 }

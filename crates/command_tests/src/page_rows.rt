@@ -1,9 +1,9 @@
 //! Inputs of the top call with `solo`, and what becomes of each; wrong words; faults of the input and of the output.
 
-use crate::runs::{check_refusals, outcome, refuses, run, sink, source, words};
 use caja_cli::{Status, caja};
 use caja_io::{MemSink, MemSource, read_all};
 use caja_units::Memory;
+use command_runs::runs::{check_refusals, outcome, refuses, run, sink, source, words};
 use std::alloc::Global;
 use std::test::Fail;
 

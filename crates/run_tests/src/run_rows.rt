@@ -1,9 +1,7 @@
 //! Texts that run as they stand, and the words of `run`.
 
-use crate::runs::{is_line, run};
 use caja_cli::Status;
-use caja_units::Memory;
-use std::alloc::Global;
+use command_runs::rows::{check_ends, check_gives};
 use std::test::Fail;
 
 /// Words, a text, and what the text gives. The statement and the number in `1;` take a step each.
@@ -47,51 +45,6 @@ run --steps 1 --steps 2 ⇒ 1; ⇒ usage
 run x ⇒ 1; ⇒ usage
 solo --steps 2 ⇒ 1; ⇒ usage
 ";
-
-// The words, the text and the last part of a row.
-fn parts(row: &str) -> (&str, &str, &str) {
-    let (words, rest) = row.split_once(" ⇒ ").unwrap_or((row, ""));
-    let (text, wanted) = rest.split_once(" ⇒ ").unwrap_or((rest, ""));
-    (words, text, wanted)
-}
-
-// Whether the text ends, and its log says that its load gave this.
-pub fn gives(alloc: Global, row: &str) -> Result<bool, Memory> {
-    let (words, text, wanted) = parts(row);
-    let (status, output) = run(alloc, words, text.as_bytes())?;
-    let given = match output.strip_prefix(b"load main ") {
-        Some(line) => line.strip_suffix(b"\nend done\n"),
-        None => None,
-    };
-    Ok(status == Status::Done && given == Some(wanted.as_bytes()))
-}
-
-// Whether the words and the text give this status and this one line.
-fn ends(alloc: Global, row: &str, ended: &Status) -> Result<bool, Memory> {
-    let (words, text, wanted) = parts(row);
-    let (status, output) = run(alloc, words, text.as_bytes())?;
-    Ok(status == *ended && is_line(&output, wanted))
-}
-
-/// The first row of the table whose log says something else is the failure.
-pub fn check_gives(alloc: Global, table: &'static str) -> Result<(), Fail> {
-    for row in table.lines() {
-        if !row.is_empty() && !gives(alloc, row)? {
-            return Err(row.into());
-        }
-    }
-    Ok(())
-}
-
-/// The first row of the table that ends in another way is the failure.
-pub fn check_ends(alloc: Global, table: &'static str, ended: Status) -> Result<(), Fail> {
-    for row in table.lines() {
-        if !row.is_empty() && !ends(alloc, row, &ended)? {
-            return Err(row.into());
-        }
-    }
-    Ok(())
-}
 
 #[test]
 fn a_text_runs_as_it_stands(rt: HostRuntime) -> Result<(), Fail> {

@@ -19,9 +19,6 @@ fn next(alloc: Global, source: &str, at: usize, nest: u32) -> Result<String, Fai
         Ok(list) => list,
         Err(refusal) => return Ok(format!(in alloc; "{refusal:?}")?),
     };
-    if at > list.list.len() {
-        return Ok(String::new(alloc));
-    }
     match read_expr(alloc, &list, at, nest) {
         Ok((_, next)) => Ok(format!(in alloc; "{next}")?),
         Err(refusal) => Ok(format!(in alloc; "{refusal:?}")?),
@@ -31,7 +28,7 @@ fn next(alloc: Global, source: &str, at: usize, nest: u32) -> Result<String, Fai
 /// A source, the first token, the limit of nesting, and what comes of it.
 type Row = (&'static str, usize, u32, &'static str);
 
-static ROWS: [Row; 18] = [
+static ROWS: [Row; 20] = [
     ("a+++b", 0, 9, "4"),
     ("a + )", 0, 9, "1"),
     ("a + (b", 0, 9, "1"),
@@ -43,6 +40,8 @@ static ROWS: [Row; 18] = [
     ("a++ ++", 0, 9, "2"),
     (")", 0, 9, "Syntax(0)"),
     ("", 0, 9, "Syntax(0)"),
+    ("a b", 2, 9, "Syntax(3)"),
+    ("a b", 7, 9, "Syntax(3)"),
     ("(a", 0, 9, "Syntax(2)"),
     ("++(a + b)", 0, 9, "Syntax(9)"),
     ("a + b", 0, 2, "3"),

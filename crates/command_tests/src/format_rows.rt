@@ -1,8 +1,8 @@
 //! Sources of every form, each with its printed text, and sources that are refused, each with its line.
 
-use crate::runs::{check_refusals, is_line, refuses, run};
 use caja_cli::Status;
 use caja_units::Memory;
+use command_runs::runs::{check_refusals, is_line, refuses, run};
 use std::alloc::Global;
 use std::test::Fail;
 

@@ -1,0 +1,11 @@
+//! Worked rows of the commands: sources, with what is written for them and the status.
+#![tactic(auto)]
+
+#[cfg(test)]
+mod cajole_rows;
+#[cfg(test)]
+mod format_rows;
+#[cfg(test)]
+mod page_rows;
+#[cfg(test)]
+mod source_rows;

@@ -1,0 +1,3 @@
+// Each call opens another one.
+function open() { open(); }
+open();
