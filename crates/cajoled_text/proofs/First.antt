@@ -10,10 +10,13 @@ use Rattle.es3_tree.specs.declared.BinOp.{BinOp}
 use Rattle.es3_tree.specs.declared.BinOp.TheVariants.{Add}
 use Rattle.cajita_tree.specs.Tree as c
 use Rattle.cajita_tree.specs.Parts.{called, target_of, deleted}
-use Rattle.scope_rules.specs.Rules.{is_free_name, is_free_key, is_record_key}
-use Rattle.scope_rules.specs.Scope.{is_arguments}
+use Rattle.cajita_names.specs.Rules.{is_free_name, is_free_key, is_record_key}
+use Rattle.cajita_names.specs.Scope.{is_arguments}
 use Rattle.scope_rules.specs.Language.{is_first, is_single}
-use Rattle.scope_rules.specs.Resolve.{one, both, three, four, from, of_sort, name_or_arguments, unary_of, behind, resolved, declared_functions, vars_of, imports_of, module_of}
+use Rattle.cajita_names.specs.Once.{vars_of}
+use Rattle.cajita_forms.specs.Options.{one, both, three, four, from}
+use Rattle.cajita_forms.specs.Forms.{name_or_arguments, unary_of}
+use Rattle.scope_rules.specs.Resolve.{of_sort, behind, resolved, declared_functions, imports_of, module_of}
 
 -- a part of such a tree, and what it resolves to: no other form has a line
 pub data First : (s : t.Sort) → Placed s → c.Tree (of_sort s) → Type 0 where

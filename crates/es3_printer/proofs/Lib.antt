@@ -1,4 +1,3 @@
 pub mod Forms
 pub mod Stacked
-pub mod Text
 pub mod Seen

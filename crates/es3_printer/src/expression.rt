@@ -10,12 +10,12 @@ ghost use Rattle.es3_printed.specs.Tokens.{bare, between, join_sign, op_sign, as
 ghost use Rattle.es3_printer.specs.Pieces.{pending, tokens_of};
 ghost use Rattle.es3_printer.specs.Nodes.{weight, nodes, weight_of};
 
-use crate::level::{MEMBER, PREFIX, wraps, wraps_maker, wraps_object};
 use crate::piece::{Piece, put};
 use caja_units::Memory;
 use es3_expr::Join;
 use es3_lexer::{Punct, Word};
 use es3_tree::{BinOp, Expr, Func, UnOp};
+use printed_tokens::{MEMBER, PREFIX, wraps, wraps_maker, wraps_object};
 
 /// An operator of ES3 11.5 to 11.10 as it is written.
 fn op_sign<'a>(op: BinOp) -> Piece<'a>

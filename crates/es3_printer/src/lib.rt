@@ -12,12 +12,9 @@ ghost use Rattle.es3_printer.specs.Pieces.{pending, tokens_of};
 ghost use Rattle.es3_printer.specs.Nodes.{weight, weight_of};
 
 mod expression;
-mod level;
 mod lists;
 mod piece;
-mod spelling;
 mod statement;
-mod token;
 
 use caja_units::Memory;
 use es3_lexer::Punct;
@@ -28,9 +25,9 @@ use lists::{
     print_names, print_statements,
 };
 use piece::{Piece, put};
+use printed_tokens::{write_key, write_name, write_number, write_punct, write_text, write_word};
 use statement::{print_finally, print_first, print_handler, print_statement, print_target};
 use std::alloc::Global;
-use token::{write_name, write_number, write_punct, write_text, write_word};
 
 /// An expression, in parentheses where they are asked for.
 #[tactic(auto, using(crate::proofs::Forms::forms))]
@@ -69,7 +66,7 @@ fn print_piece<'a>(
         Piece::Punct(sign) => write_punct(out, sign),
         Piece::Word(word) => write_word(out, word),
         Piece::Name(name) => write_name(out, name),
-        Piece::Key(key) => write_text(out, &key.text),
+        Piece::Key(key) => write_key(out, key),
         Piece::Text(units) => write_text(out, units),
         Piece::Number(number) => write_number(out, *number),
         Piece::Part(e, wraps, in_head) => print_part(rest, e, wraps, in_head),

@@ -8,12 +8,12 @@ ghost use Rattle.es3_printed.specs.Tokens.{bare, listed, initialiser, wraps};
 ghost use Rattle.es3_printer.specs.Pieces.{pending};
 ghost use Rattle.es3_printer.specs.Nodes.{weight, nodes};
 
-use crate::level::wraps;
 use crate::piece::{Piece, put};
 use caja_units::Memory;
 use es3_expr::Join;
 use es3_lexer::{Punct, Word};
 use es3_tree::{Case, Expr, Name, Stmt, VarItem};
+use printed_tokens::wraps;
 
 /// A part of a list (ES3 11.1.4, 11.2.4, 11.12), which is no comma expression.
 fn item<'a>(e: &'a Expr, in_head: bool) -> Piece<'a>

@@ -11,11 +11,11 @@ ghost use Rattle.es3_printed.specs.Tokens.{bare, named};
 ghost use Rattle.es3_printer.specs.Pieces.{pending};
 ghost use Rattle.es3_printer.specs.Nodes.{weight, nodes};
 
-use crate::level::{opens, wraps};
 use crate::piece::{Piece, put};
 use caja_units::Memory;
 use es3_lexer::{Punct, Word};
 use es3_tree::{Case, Expr, First, Loop, Name, Stmt};
+use printed_tokens::{opens, wraps_first};
 
 /// An expression at a place that asks no level.
 fn whole<'a>(e: &'a Expr) -> Piece<'a>
@@ -32,7 +32,7 @@ pub fn print_first<'a>(rest: &mut Vec<Piece<'a>>, start: &'a First) -> Result<()
     match start {
         First::None => Ok(()),
         First::Var(items) => put(rest, &[Piece::Word(Word::Var), Piece::Items(items, true)]),
-        First::Expr(e) => put(rest, &[Piece::Part(e, wraps(true, 0, e), true)]),
+        First::Expr(e) => put(rest, &[Piece::Part(e, wraps_first(e), true)]),
     }
 }
 

@@ -1,4 +1,2 @@
 pub mod Places
-pub mod Cases
 pub mod Entering
-pub mod Again

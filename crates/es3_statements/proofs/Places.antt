@@ -7,27 +7,12 @@ use Rattle.es3_language.specs.Store.{Store}
 use Rattle.es3_language.specs.References.{reference}
 use Rattle.es3_language.specs.Tasks.{Plan, Env, with_value}
 use Rattle.es3_language.specs.Statements.{var_list, after_var}
-use Rattle.es3_moves.specs.Code.{plain_stmt, stmts_at, vars_at, names_at, maybe_expr}
-use Rattle.es3_moves.specs.declared.code.StmtCode.{StmtCode}
+use Rattle.es3_moves.specs.Code.{vars_at, names_at, maybe_expr}
 use Rattle.es3_moves.specs.declared.code.VarCode.{VarCode}
 use Rattle.es3_statements.specs.Lists.{valued}
 
 one : (i : ℕ) → i + 1 ≡ suc i
 one i = omega arith
-
-stmts_here : (xs : List (Rc StmtCode Global)) (i : ℕ) (x : Rc StmtCode Global) → i < length xs → x ≡ get_or xs i x → stmts_at xs i ≡ t.more_stmts (plain_stmt x.value) (stmts_at xs (suc i))
-stmts_here [] i x h e = absurd (omega arith)
-stmts_here (y ∷ ys) zero x h e = ap (λ k. t.more_stmts (plain_stmt k.value) (stmts_at ys 0)) (sym e)
-stmts_here (y ∷ ys) (suc i) x h e = stmts_here ys i x (omega arith) e
-
-pub stmts_more : (xs : List (Rc StmtCode Global)) (i : ℕ) (x : Rc StmtCode Global) → i < length xs → x ≡ get_or xs i x → stmts_at xs i ≡ t.more_stmts (plain_stmt x.value) (stmts_at xs (i + 1))
-stmts_more xs i x h e = stmts_here xs i x h e ∙ ap (λ k. t.more_stmts (plain_stmt x.value) (stmts_at xs k)) (sym (one i))
-
-pub stmts_end : (xs : List (Rc StmtCode Global)) (i : ℕ) → length xs ≤ i → stmts_at xs i ≡ t.no_stmts
-stmts_end [] zero h = refl
-stmts_end [] (suc i) h = refl
-stmts_end (y ∷ ys) zero h = absurd (omega arith)
-stmts_end (y ∷ ys) (suc i) h = stmts_end ys i (omega arith)
 
 vars_here : (xs : List VarCode) (i : ℕ) (x : VarCode) → i < length xs → x ≡ get_or xs i x → vars_at xs i ≡ t.more_items x.name.value (maybe_expr x.value) (vars_at xs (suc i))
 vars_here [] i x h e = absurd (omega arith)

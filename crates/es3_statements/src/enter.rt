@@ -11,7 +11,6 @@ ghost use Rattle.es3_moves.specs.Where.{plain_env, plain_labels, plain_loop};
 ghost use Rattle.es3_moves.specs.Moves.{effect_plan, move_plan};
 ghost use Rattle.es3_statements.specs.Places.{maybe_labels};
 
-use crate::loops::{begin_body, begin_test};
 use caja_units::{Memory, Units};
 use es3_heap::Value;
 use es3_moves::code::{
@@ -20,6 +19,7 @@ use es3_moves::code::{
 use es3_moves::frame::{
     Effect, End, Env, Flow, Frame, Handlers, Labels, Looping, Move, Task, VarsEnd,
 };
+use es3_nodes::loops::{begin_body, begin_test};
 use std::alloc::Global;
 use std::rc::Rc;
 

@@ -1,6 +1,6 @@
 //! `for` .. `in` (ES3 12.6.4).
 
-ghost use Rattle.std.specs.Prelude.{◌≡◌, ◌<◌, IfOk};
+ghost use Rattle.std.specs.Prelude.{◌≡◌, ◌<◌, ◌≤◌, IfOk, length};
 ghost use Rattle.es3_language.specs.Store.{Store};
 ghost use Rattle.es3_language.specs.Statements as st;
 ghost use Rattle.es3_moves.specs.Code.{names_of, plain_stmt, plain_target};
@@ -13,10 +13,10 @@ ghost use Rattle.es3_moves.specs.declared.frame.After.TheVariants as after;
 ghost use Rattle.es3_access.specs.Sizes.{size};
 ghost use Rattle.es3_statements.specs.Keys.{body_of, key_of, keys_of, target_of, written_of};
 
-use crate::loops::{Turn, turned};
 use caja_units::{Memory, Units};
 use es3_access::errors::throw_error;
 use es3_access::note;
+use es3_endings::loops::{Turn, turned};
 use es3_heap::{Heap, ObjId, Proto, Value};
 use es3_language::Touch;
 use es3_moves::code::{StmtCode, TargetCode};
@@ -78,6 +78,7 @@ pub fn write_key(
 ) -> Result<Move, Memory>
     ensures plan { IfOk result (λ x. move_plan x (store_of h.new texts.new) ≡ after_plan (after.WriteKey reference.now k.now w) (store_of h.old texts.old)) }
     ensures small { IfOk result (λ x. size x < 18) }
+    ensures live { length h.old.list ≤ length h.new.list }
 {
     let key = k.copy(alloc)?;
     write(alloc, reference, Value::Text(key), h, texts)?;
@@ -103,6 +104,7 @@ pub fn begin_key(
 ) -> Result<Move, Memory>
     ensures plan { IfOk result (λ x. move_plan x (store_of h.new texts.new) ≡ key_of k.value w.value (store_of h.old texts.old)) }
     ensures small { IfOk result (λ x. size x < 18) }
+    ensures live { length h.old.list ≤ length h.new.list }
 {
     if h.has(w.object, &k) {
         write_to_target(alloc, k, w, h, texts)
@@ -121,6 +123,7 @@ fn write_to_target(
 ) -> Result<Move, Memory>
     ensures plan { IfOk result (λ x. move_plan x (store_of h.new texts.new) ≡ written_of k.value w.value (store_of h.old texts.old)) }
     ensures small { IfOk result (λ x. size x < 18) }
+    ensures live { length h.old.list ≤ length h.new.list }
 {
     match &*w.target {
         TargetCode::Var(name) => {
@@ -173,6 +176,7 @@ pub fn for_keys(
 ) -> Result<Move, Memory>
     ensures plan { IfOk result (λ x. move_plan x (store_of h.new texts.now) ≡ st.for_keys (plain_target target.value) (plain_stmt body.value) (plain_labels labels.value) (plain_env env) v.now (store_of h.old texts.now)) }
     ensures small { IfOk result (λ x. size x < 9) }
+    ensures live { length h.old.list ≤ length h.new.list }
 {
     let Some(object) = keys_object(v, h) else {
         return throw_error(alloc, b"no object", h, texts);

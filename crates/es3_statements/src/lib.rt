@@ -2,12 +2,8 @@
 //! when a part of it ended.
 #![tactic(auto)]
 
-pub mod ends;
 pub mod enter;
 pub mod keys;
-pub mod lists;
-pub mod loops;
 pub mod objects;
-pub mod switch;
 pub mod values;
 pub mod vars;

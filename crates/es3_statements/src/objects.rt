@@ -1,6 +1,6 @@
 //! `with` (ES3 12.10).
 
-ghost use Rattle.std.specs.Prelude.{◌≡◌, ◌<◌, IfOk, OnOk, Some, length, pos};
+ghost use Rattle.std.specs.Prelude.{◌≡◌, ◌<◌, ◌≤◌, IfOk, OnOk, Some, length, pos};
 ghost use Rattle.es3_heap.specs.declared.value.Class.TheVariants as class;
 ghost use Rattle.es3_heap.specs.declared.value.Proto.TheVariants as proto;
 ghost use Rattle.es3_heap.specs.declared.value.Value.TheVariants.{Num};
@@ -28,6 +28,7 @@ use std::rc::Rc;
 fn object_of(p: Proto, h: &mut Heap) -> Result<ObjId, Memory>
     ensures object { IfOk result (λ o. o ≡ length h.old.list) }
     ensures store { OnOk result (h.new ≡ made class.Object (Some (proto_id p)) h.old) }
+    ensures live { length h.old.list ≤ length h.new.list }
 {
     let above = h.proto(p);
     h.make(Class::Object, Some(above))
@@ -37,6 +38,7 @@ fn object_of(p: Proto, h: &mut Heap) -> Result<ObjId, Memory>
 fn object_of_text(alloc: Global, text: &Units, h: &mut Heap) -> Result<ObjId, Memory>
     ensures object { IfOk result (λ o. o ≡ length h.old.list) }
     ensures store { OnOk result (h.new ≡ define (made class.Object (Some (proto_id proto.String)) h.old) (length h.old.list) length_key (Num (pos (length text.now))) fixed_attrs) }
+    ensures live { length h.old.list ≤ length h.new.list }
 {
     let length = Units::from_ascii(alloc, b"length")?;
     let object = object_of(Proto::String, h)?;
@@ -77,6 +79,7 @@ pub fn with_value(
 ) -> Result<Move, Memory>
     ensures plan { IfOk result (λ x. move_plan x (store_of h.new texts.new) ≡ st.with_value_of (plain_stmt body.value) (plain_env env) v (store_of h.old texts.old)) }
     ensures small { IfOk result (λ x. size x < 9) }
+    ensures live { length h.old.list ≤ length h.new.list }
 {
     match v {
         Value::Obj(o) => begin_with(alloc, body, env, o, texts),

@@ -1,6 +1,6 @@
 //! What statements do with values (ES3 12).
 
-ghost use Rattle.std.specs.Prelude.{◌≡◌, ◌<◌, IfOk};
+ghost use Rattle.std.specs.Prelude.{◌≡◌, ◌<◌, ◌≤◌, IfOk, length};
 ghost use Rattle.es3_language.specs.Store.{Store};
 ghost use Rattle.es3_language.specs.Statements as st;
 ghost use Rattle.es3_moves.specs.Code.{maybe_stmt, plain_stmt};
@@ -10,9 +10,7 @@ ghost use Rattle.es3_moves.specs.Moves.{effect_plan, move_plan};
 ghost use Rattle.es3_access.specs.Sizes.{size};
 
 use crate::keys::for_keys;
-use crate::loops::{begin_test, tested};
 use crate::objects::with_value;
-use crate::switch::{after_test, find_case};
 use crate::vars::after_var;
 use caja_units::Memory;
 use es3_convert::to_bool;
@@ -20,6 +18,8 @@ use es3_heap::{Heap, Value};
 use es3_moves::code::StmtCode;
 use es3_moves::frame::{Effect, Env, Flow, Move, Task};
 use es3_moves::texts::Texts;
+use es3_nodes::loops::{begin_test, tested};
+use es3_nodes::switch::{after_test, find_case};
 use std::alloc::Global;
 use std::rc::Rc;
 
@@ -33,6 +33,7 @@ pub fn use_effect(
 ) -> Result<Move, Memory>
     ensures plan { IfOk result (λ x. move_plan x (store_of h.new texts.new) ≡ effect_plan then v (store_of h.old texts.old)) }
     ensures small { IfOk result (λ x. size x < 24) }
+    ensures live { length h.old.list ≤ length h.new.list }
 {
     match then {
         Effect::ToNormal => Ok(Move::End(Flow::Normal(Some(v)))),

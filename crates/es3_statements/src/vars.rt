@@ -1,6 +1,6 @@
 //! The variables of a `var` (ES3 12.2).
 
-ghost use Rattle.std.specs.Prelude.{◌≡◌, ◌<◌, IfOk, option_map};
+ghost use Rattle.std.specs.Prelude.{◌≡◌, ◌<◌, ◌≤◌, IfOk, length, option_map};
 ghost use Rattle.es3_language.specs.Store.{Store};
 ghost use Rattle.es3_language.specs.Statements as st;
 ghost use Rattle.es3_moves.specs.Code.{vars_at};
@@ -10,12 +10,12 @@ ghost use Rattle.es3_moves.specs.Moves.{move_plan, vars_end};
 ghost use Rattle.es3_statements.specs.Lists.{plain_valued, valued};
 ghost use Rattle.es3_access.specs.Sizes.{size};
 
-use crate::loops::begin_test;
 use caja_units::{Memory, Units};
 use es3_heap::{Heap, Value};
 use es3_moves::code::{ExprCode, VarCode};
 use es3_moves::frame::{Effect, Env, Flow, Frame, Move, Ref, Task, VarsEnd};
 use es3_moves::texts::Texts;
+use es3_nodes::loops::begin_test;
 use es3_references::names::reference;
 use es3_references::references::write;
 use std::alloc::Global;
@@ -103,6 +103,7 @@ pub fn after_var(
 ) -> Result<Move, Memory>
     ensures plan { IfOk result (λ x. move_plan x (store_of h.new texts.new) ≡ st.after_var (plain_ref reference.now) (vars_at items.value.items at) (plain_env env) (vars_end end) v (store_of h.old texts.old)) }
     ensures small { IfOk result (λ x. size x < 24) }
+    ensures live { length h.old.list ≤ length h.new.list }
 {
     write(alloc, reference, v, h, texts)?;
     Ok(Move::Vars(items, at, end, env))

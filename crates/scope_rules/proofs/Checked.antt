@@ -3,12 +3,12 @@ use Rattle.std.proofs.Common.{◌≡◌, ℕ, List, [], ◌++◌, Option, Some, 
 use Rattle.es3_tree.specs.Tree as t
 use Rattle.es3_tree.specs.Placed.{Placed}
 use Rattle.cajita_tree.specs.Tree as c
-use Rattle.scope_rules.specs.Declarations.{Declaration}
-use Rattle.scope_rules.specs.Scope.{in_module}
+use Rattle.cajita_names.specs.Declarations.{Declaration}
+use Rattle.cajita_names.specs.Scope.{in_module}
 use Rattle.scope_rules.specs.Resolve.{body_of, module_of}
-use Rattle.scope_rules.specs.Faults.{Fault, redeclared, faults_in, module_scope, all_faults, faults, first}
-use Rattle.scope_rules.specs.Found.{first_in}
-use Rattle.scope_rules.proofs.Order.{none_at_all}
+use Rattle.cajita_rules.specs.Faults.{Fault, redeclared, faults_in, module_scope, all_faults, faults, first}
+use Rattle.cajita_rules.specs.Found.{first_in}
+use Rattle.cajita_rules.proofs.Order.{none_at_all}
 use Rattle.scope_rules.proofs.Given.{There, no_front, no_back, body_given, module_given}
 
 none-there : {C A : Type 0} (o : Option A) → There o → o ≡ None → C

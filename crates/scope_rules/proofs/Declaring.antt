@@ -12,7 +12,8 @@ use Rattle.es3_tree.specs.PlacedView as v
 use Rattle.es3_tree.proofs.PlacedRows.{placed_views, placed_declared}
 use Rattle.cajita_tree.specs.Tree as c
 use Rattle.scope_rules.specs.Declaring.{is_declaration}
-use Rattle.scope_rules.specs.Resolve.{behind, both, resolved, declared_functions}
+use Rattle.cajita_forms.specs.Options.{both}
+use Rattle.scope_rules.specs.Resolve.{behind, resolved, declared_functions}
 
 pub undeclared : (x : Stmt) → ((f : Func) → x ≡ s.Func f → ⊥) → false ≡ is_declaration (v.stmt x)
 undeclared x h =

@@ -8,7 +8,7 @@ use Rattle.cajita_tree.specs.declared.CStmt.{CStmt}
 use Rattle.cajita_tree.specs.declared.CFunc.{CFunc}
 use Rattle.cajita_tree.specs.Tree as c
 use Rattle.cajita_tree.specs.View as view
-use Rattle.scope_rules.specs.Resolve.{both, three}
+use Rattle.cajita_forms.specs.Options.{both, three}
 
 abbrev pub in_front : {A T : Type 0} → (A → T → T) → List A → T → T
 in_front f [] rest = rest

@@ -8,10 +8,12 @@ use Rattle.es3_tree.specs.declared.UnOp.TheVariants.{Delete, Void, Typeof, Plus,
 use Rattle.cajita_tree.specs.Tree as c
 use Rattle.cajita_tree.specs.Parts as parts
 use Rattle.cajita_tree.specs.Parts.{called, target_of}
-use Rattle.scope_rules.specs.Declarations.{body_declarations}
-use Rattle.scope_rules.specs.Scope.{Scope, in_function, in_catch, is_arguments}
-use Rattle.scope_rules.specs.Resolve.{one, both, three, four, from, resolved, declared_functions, behind, unary_of, name_or_arguments, text_of, body_of, module_of, imports_of}
-use Rattle.scope_rules.specs.Faults.{Fault, faults_in, target, deleted, word_fault, within_its_name}
+use Rattle.cajita_names.specs.Declarations.{body_declarations}
+use Rattle.cajita_names.specs.Scope.{Scope, in_function, in_catch, is_arguments}
+use Rattle.cajita_forms.specs.Options.{one, both, three, four, from}
+use Rattle.cajita_forms.specs.Forms.{unary_of, name_or_arguments, text_of}
+use Rattle.scope_rules.specs.Resolve.{resolved, declared_functions, behind, body_of, module_of, imports_of}
+use Rattle.cajita_rules.specs.Faults.{Fault, faults_in, target, deleted, word_fault, within_its_name}
 
 pub no_front : (fs gs : List Fault) → fs ++ gs ≡ [] → fs ≡ []
 no_front [] gs e = refl

@@ -1,13 +1,7 @@
 pub mod Checked
-pub mod Declared
 pub mod Declaring
-pub mod Formed
 pub mod Front
 pub mod Given
-pub mod Misplaced
-pub mod Named
 pub mod OnceParts
-pub mod Order
-pub mod Parts
 pub mod Resolved
 pub mod Single

@@ -11,10 +11,10 @@ use Rattle.es3_tree.specs.declared.Stmt.TheVariants as s
 use Rattle.es3_tree.specs.Tree as t
 use Rattle.es3_tree.specs.PlacedView as v
 use Rattle.es3_tree.proofs.PlacedRows.{placed_call, placed_new, placed_switch}
-use Rattle.scope_rules.specs.Rules.{is_among}
-use Rattle.scope_rules.specs.Scope.{Scope}
+use Rattle.cajita_names.specs.Rules.{is_among}
+use Rattle.cajita_names.specs.Scope.{Scope}
 use Rattle.scope_rules.specs.Free.{free}
-use Rattle.scope_rules.specs.Resolve.{once_after}
+use Rattle.cajita_names.specs.Once.{once_after}
 
 abbrev pub Names : Type 0
 Names = List (List ℕ)

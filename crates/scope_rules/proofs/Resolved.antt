@@ -17,9 +17,10 @@ use Rattle.es3_tree.proofs.PlacedRows.{placed_call, placed_new, placed_if, place
 use Rattle.cajita_tree.specs.Tree as c
 use Rattle.cajita_tree.specs.View as view
 use Rattle.cajita_tree.specs.Parts.{called, target_of}
-use Rattle.scope_rules.specs.Gives.{Gives}
-use Rattle.scope_rules.proofs.Formed.{as_given}
-use Rattle.scope_rules.specs.Resolve.{one, both, three, four, from, resolved}
+use Rattle.cajita_forms.specs.Gives.{Gives}
+use Rattle.cajita_forms.proofs.Formed.{as_given}
+use Rattle.cajita_forms.specs.Options.{one, both, three, four, from}
+use Rattle.scope_rules.specs.Resolve.{resolved}
 
 pub resolved_call : {x : Expr} (b : Box Expr) (y : Vec Expr) → x ≡ e.Call b y
     → resolved t.expr (v.expr x) ≡ both called (resolved t.expr (v.expr b.value)) (resolved t.exprs (v.of_exprs y.items))

@@ -7,7 +7,7 @@ use Rattle.cajita_tree.specs.View.{module_view}
 use Rattle.scope_rules.specs.declared.RuleError.{RuleError}
 use Rattle.scope_rules.specs.declared.RuleError.TheVariants as error
 use Rattle.scope_rules.specs.Resolve.{module_of}
-use Rattle.scope_rules.specs.Faults.{faults, first}
+use Rattle.cajita_rules.specs.Faults.{faults, first}
 
 abbrev pub Checks : Result Module RuleError → List (List ℕ) → Placed t.stmts → Type 0
 Checks (Ok m) grants body = (faults grants body ≡ []) × (module_of grants body ≡ Some (module_view m))

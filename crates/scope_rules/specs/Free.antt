@@ -3,9 +3,9 @@ use Rattle.std.specs.Prelude.{ℕ, List, [], ◌∷◌, ◌++◌, if◌then◌el
 use Rattle.es3_tree.specs.Tree as t
 use Rattle.es3_tree.specs.Placed as p
 use Rattle.es3_tree.specs.Placed.{Placed, Word}
-use Rattle.scope_rules.specs.Declarations.{body_declarations}
-use Rattle.scope_rules.specs.Scope.{Scope, in_function, in_catch, imports}
-use Rattle.scope_rules.specs.Faults.{within_its_name}
+use Rattle.cajita_names.specs.Declarations.{body_declarations}
+use Rattle.cajita_names.specs.Scope.{Scope, in_function, in_catch, imports}
+use Rattle.cajita_rules.specs.Faults.{within_its_name}
 
 abbrev pub import_at : Scope → Word → List (List ℕ)
 import_at s x = if imports s x.text then x.text ∷ [] else []

@@ -4,7 +4,7 @@
 use Rattle.std.specs.Prelude.{◌&&◌, Bool, true, false, []}
 use Rattle.es3_tree.specs.declared.BinOp.TheVariants.{Add}
 use Rattle.cajita_tree.specs.Tree as c
-use Rattle.scope_rules.specs.Rules.{is_free_name, is_free_key, is_record_key}
+use Rattle.cajita_names.specs.Rules.{is_free_name, is_free_key, is_record_key}
 
 -- a `var` of one variable
 abbrev pub is_single : c.Tree c.items → Bool

@@ -1,13 +1,5 @@
-pub mod Rules
-pub mod Declarations
-pub mod Scope
-pub mod Views
-pub mod Faults
 pub mod Free
 pub mod Resolve
 pub mod Declaring
 pub mod Language
-pub mod Found
-pub mod Boxed
-pub mod Gives
 pub mod Check

@@ -1,105 +1,16 @@
 -- The resolved module of a tree.
-use Rattle.std.specs.Prelude.{ℕ, ◌||◌, Bool, true, false, List, [], ◌∷◌, ◌++◌, map, Option, Some, None, if◌then◌else◌}
+use Rattle.std.specs.Prelude.{ℕ, List, [], Option, Some, None}
 use Rattle.es3_tree.specs.Tree as t
 use Rattle.es3_tree.specs.Placed as p
-use Rattle.es3_tree.specs.Placed.{Placed, Word}
-use Rattle.es3_tree.specs.declared.UnOp.{UnOp}
-use Rattle.es3_tree.specs.declared.UnOp.TheVariants.{Delete}
+use Rattle.es3_tree.specs.Placed.{Placed}
 use Rattle.cajita_tree.specs.Tree as c
-use Rattle.cajita_tree.specs.Parts.{called, target_of, deleted}
-use Rattle.scope_rules.specs.Rules.{is_among}
-use Rattle.scope_rules.specs.Declarations as d
-use Rattle.scope_rules.specs.Declarations.{Role, Declaration, declarations}
-use Rattle.scope_rules.specs.Scope.{is_arguments}
-use Rattle.scope_rules.specs.Faults.{module_scope}
+use Rattle.cajita_tree.specs.Parts.{called, target_of}
+use Rattle.cajita_names.specs.Once.{once_after, vars_of}
+use Rattle.cajita_rules.specs.Faults.{module_scope}
+use Rattle.cajita_forms.specs.Options.{one, both, three, four, from}
+use Rattle.cajita_forms.specs.Forms.{text_of, texts_of, name_or_arguments, unary_of}
+use Rattle.cajita_forms.specs.Arguments.{names_arguments}
 use Rattle.scope_rules.specs.Free.{free}
-
--- where it is there, where both are there or all, where what follows from it is there
-abbrev pub one : {A B : Type 0} → (A → B) → Option A → Option B
-one f (Some a) = Some (f a)
-one f None = None
-
-abbrev pub both : {A B D : Type 0} → (A → B → D) → Option A → Option B → Option D
-both f (Some a) (Some b) = Some (f a b)
-both f a b = None
-
-abbrev pub three : {A B D E : Type 0} → (A → B → D → E) → Option A → Option B → Option D → Option E
-three f (Some a) (Some b) (Some d) = Some (f a b d)
-three f a b d = None
-
-abbrev pub four : {A B D E F : Type 0} → (A → B → D → E → F) → Option A → Option B → Option D → Option E → Option F
-four f (Some a) (Some b) (Some d) (Some e) = Some (f a b d e)
-four f a b d e = None
-
-abbrev pub from : {A B : Type 0} → (A → Option B) → Option A → Option B
-from f (Some a) = f a
-from f None = None
-
--- each name once, where it stands first, behind those that were seen before
-abbrev pub once_after : List (List ℕ) → List (List ℕ) → List (List ℕ)
-once_after seen [] = seen
-once_after seen (x ∷ xs) = once_after (if is_among seen x then seen else seen ++ x ∷ []) xs
-
--- the names that a body declares by `var`: those of `var` statements and of heads without `in`, then those that heads with `in` alone declare
-abbrev pub is_variable : Role → Bool
-is_variable d.variable = true
-is_variable r = false
-
-abbrev pub is_loop_variable : Role → Bool
-is_loop_variable d.loop_variable = true
-is_loop_variable r = false
-
-abbrev pub names_of : (Role → Bool) → List Declaration → List (List ℕ)
-names_of has [] = []
-names_of has (e ∷ es) = if has e.role then e.word.text ∷ names_of has es else names_of has es
-
-abbrev pub vars_of : Placed t.stmts → List (List ℕ)
-vars_of body = once_after (once_after [] (names_of is_variable (declarations t.stmts body))) (names_of is_loop_variable (declarations t.stmts body))
-
--- whether a part names `arguments` outside the functions within it
-unfoldable pub names_arguments : (s : t.Sort) → Placed s → Bool
-names_arguments _ (p.name x) = is_arguments x.text
-names_arguments _ (p.array es) = names_arguments _ es
-names_arguments _ (p.object fs) = names_arguments _ fs
-names_arguments _ (p.dot e k) = names_arguments _ e
-names_arguments _ (p.index e f) = names_arguments _ e || names_arguments _ f
-names_arguments _ (p.call e es) = names_arguments _ e || names_arguments _ es
-names_arguments _ (p.new e es) = names_arguments _ e || names_arguments _ es
-names_arguments _ (p.unary op e at) = names_arguments _ e
-names_arguments _ (p.step up before e) = names_arguments _ e
-names_arguments _ (p.binary op e f) = names_arguments _ e || names_arguments _ f
-names_arguments _ (p.and e f) = names_arguments _ e || names_arguments _ f
-names_arguments _ (p.or e f) = names_arguments _ e || names_arguments _ f
-names_arguments _ (p.choice e f g) = (names_arguments _ e || names_arguments _ f) || names_arguments _ g
-names_arguments _ (p.assign op e f) = names_arguments _ e || names_arguments _ f
-names_arguments _ (p.comma e f) = names_arguments _ e || names_arguments _ f
-names_arguments _ (p.more_exprs e es) = names_arguments _ e || names_arguments _ es
-names_arguments _ (p.more_fields k e rest) = names_arguments _ e || names_arguments _ rest
-names_arguments _ (p.some_expr e) = names_arguments _ e
-names_arguments _ (p.block ss) = names_arguments _ ss
-names_arguments _ (p.var is) = names_arguments _ is
-names_arguments _ (p.expression e) = names_arguments _ e
-names_arguments _ (p.branch e x m) = (names_arguments _ e || names_arguments _ x) || names_arguments _ m
-names_arguments _ (p.while_loop e x) = names_arguments _ e || names_arguments _ x
-names_arguments _ (p.do_loop x e) = names_arguments _ x || names_arguments _ e
-names_arguments _ (p.for_loop i e f x) = ((names_arguments _ i || names_arguments _ e) || names_arguments _ f) || names_arguments _ x
-names_arguments _ (p.for_in i e x) = (names_arguments _ i || names_arguments _ e) || names_arguments _ x
-names_arguments _ (p.return m at) = names_arguments _ m
-names_arguments _ (p.with_object e x at) = names_arguments _ e || names_arguments _ x
-names_arguments _ (p.switch e cs) = names_arguments _ e || names_arguments _ cs
-names_arguments _ (p.label l x) = names_arguments _ x
-names_arguments _ (p.throw e) = names_arguments _ e
-names_arguments _ (p.try ss h m) = (names_arguments _ ss || names_arguments _ h) || names_arguments _ m
-names_arguments _ (p.more_stmts x ss) = names_arguments _ x || names_arguments _ ss
-names_arguments _ (p.more_items x m is) = names_arguments _ m || names_arguments _ is
-names_arguments _ (p.some_stmt x) = names_arguments _ x
-names_arguments _ (p.some_block ss) = names_arguments _ ss
-names_arguments _ (p.first_var is) = names_arguments _ is
-names_arguments _ (p.first_expr e) = names_arguments _ e
-names_arguments _ (p.loop_expr e) = names_arguments _ e
-names_arguments _ (p.more_cases m ss cs) = (names_arguments _ m || names_arguments _ ss) || names_arguments _ cs
-names_arguments _ (p.some_handler x ss) = names_arguments _ ss
-names_arguments _ _ = false
 
 -- what a resolved part is
 abbrev pub of_sort : t.Sort → c.Sort
@@ -118,21 +29,6 @@ of_sort t.cases = c.cases
 of_sort t.handler = c.handler
 of_sort t.func = c.func
 of_sort t.program = c.program
-
-abbrev pub text_of : Option Word → Option (List ℕ)
-text_of None = None
-text_of (Some x) = Some x.text
-
-abbrev pub texts_of : List Word → List (List ℕ)
-texts_of xs = map (λ x. x.text) xs
-
-abbrev pub name_or_arguments : List ℕ → c.Tree c.expr
-name_or_arguments x = if is_arguments x then c.args else c.name x
-
--- an operator before its operand
-abbrev pub unary_of : UnOp → c.Tree c.expr → Option (c.Tree c.expr)
-unary_of Delete e = deleted e
-unary_of op e = Some (c.unary op e)
 
 -- what a list of statements begins with: a declared function stands in its body's functions alone
 abbrev pub behind : Placed t.stmt → Option (c.Tree c.stmt) → Option (c.Tree c.stmts) → Option (c.Tree c.stmts)

@@ -3,17 +3,17 @@
 ghost use Rattle.std.specs.Prelude.{◌≡◌, ◌++◌, [], map, IfOk};
 ghost use Rattle.es3_tree.specs.Tree as tree;
 ghost use Rattle.es3_tree.specs.PlacedView as source;
-ghost use Rattle.scope_rules.specs.Rules.{fixed_names};
-ghost use Rattle.scope_rules.specs.Scope.{in_module};
-ghost use Rattle.scope_rules.specs.Faults.{within_its_name};
+ghost use Rattle.cajita_names.specs.Rules.{fixed_names};
+ghost use Rattle.cajita_names.specs.Scope.{in_module};
+ghost use Rattle.cajita_rules.specs.Faults.{within_its_name};
 ghost use Rattle.scope_rules.specs.Free.{free, import_at};
-ghost use Rattle.scope_rules.specs.Resolve.{once_after};
-ghost use Rattle.scope_rules.specs.Views.{declaration_of, scope_of};
+ghost use Rattle.cajita_names.specs.Once.{once_after};
+ghost use Rattle.cajita_names.specs.Views.{declaration_of, scope_of};
 
-use crate::declarations::{Declaration, function_declarations};
-use crate::once::add_name;
-use crate::scope::Scope;
 use caja_units::{Memory, Units};
+use cajita_names::declarations::{Declaration, function_declarations};
+use cajita_names::once::add_name;
+use cajita_names::scope::Scope;
 use es3_tree::{Case, Expr, First, Func, Loop, Name, Stmt, VarItem};
 use std::alloc::Global;
 

@@ -5,8 +5,8 @@ ghost use Rattle.cajita_tree.specs.Tree as tree;
 ghost use Rattle.cajita_tree.specs.View as view;
 ghost use Rattle.scope_rules.specs.Language.{is_first, is_single as is_one};
 
-use crate::words::{is_free_key, is_free_name, is_record_key};
 use caja_units::Units;
+use cajita_names::words::{is_free_key, is_free_name, is_record_key};
 use cajita_tree::{CBody, CExpr, CStmt, CVarItem, Key, Module};
 use es3_tree::BinOp;
 

@@ -8,31 +8,17 @@ ghost use Rattle.es3_tree.specs.PlacedView.{of_stmts};
 ghost use Rattle.cajita_tree.specs.Tree as resolved_tree;
 ghost use Rattle.cajita_tree.specs.View.{module_view};
 ghost use Rattle.scope_rules.specs.Check.{Checks};
-ghost use Rattle.scope_rules.specs.Faults.{faults as faults_of};
+ghost use Rattle.cajita_rules.specs.Faults.{faults as faults_of};
 ghost use Rattle.scope_rules.specs.Language.{is_first as is_of_the_first};
 ghost use Rattle.scope_rules.specs.Resolve.{module_of};
 
-mod arguments;
-mod boxes;
-mod declarations;
-mod expr_forms;
-mod faults;
-mod faults_of_declarations;
-mod faults_of_expressions;
-mod faults_of_statements;
-mod faults_of_words;
-mod found;
 mod imports;
-mod labels;
 mod language;
-mod once;
 mod resolve;
-mod scope;
-mod stmt_forms;
-mod together;
-mod words;
 
 use caja_units::{Memory, Units};
+use cajita_names::declarations::module_declarations;
+use cajita_rules::{earlier, first_bad_label, first_fault};
 use cajita_tree::Module;
 use es3_tree::Program;
 use std::alloc::Global;
@@ -83,9 +69,9 @@ pub fn a_program_without_faults_has_a_module()
 pub fn check(alloc: Global, program: &Program, grants: &[Units]) -> Result<Module, RuleError>
     ensures { Checks result grants.now (of_stmts program.now.body.items) }
 {
-    let declarations = declarations::module_declarations(alloc, &program.body)?;
-    let names = faults::first_fault(alloc, grants, &declarations, &program.body);
-    if let Some(found) = found::earlier(names, labels::first_bad_label(alloc, program))? {
+    let declarations = module_declarations(alloc, &program.body)?;
+    let names = first_fault(alloc, grants, &declarations, &program.body);
+    if let Some(found) = earlier(names, first_bad_label(alloc, program))? {
         return Err(RuleError::Fault(found.rule, found.at, found.text));
     }
     let imports = imports::imports(alloc, grants, &declarations, &program.body)?;

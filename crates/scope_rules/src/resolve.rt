@@ -4,17 +4,17 @@ ghost use Rattle.std.specs.Prelude.{◌≡◌};
 ghost use Rattle.es3_tree.specs.Tree as tree;
 ghost use Rattle.es3_tree.specs.PlacedView as source;
 ghost use Rattle.cajita_tree.specs.View as view;
-ghost use Rattle.scope_rules.specs.Boxed as held;
+ghost use Rattle.cajita_forms.specs.Boxed as held;
 ghost use Rattle.scope_rules.specs.Declaring.{is_declaration as declares_function};
-ghost use Rattle.scope_rules.specs.Gives.{Gives};
+ghost use Rattle.cajita_forms.specs.Gives.{Gives};
 ghost use Rattle.scope_rules.specs.Resolve.{resolved, declared_functions, body_of};
 
-use crate::arguments::are_named;
-use crate::boxes::unboxed;
-use crate::declarations::module_declarations;
-use crate::once::vars_of;
-use crate::{expr_forms, stmt_forms};
 use caja_units::{Memory, Units};
+use cajita_forms::arguments::are_named;
+use cajita_forms::boxes::unboxed;
+use cajita_forms::{expr_forms, stmt_forms};
+use cajita_names::declarations::module_declarations;
+use cajita_names::once::vars_of;
 use cajita_tree::{
     CBody, CCase, CExpr, CFirst, CFunc, CStmt, CVarItem, Target, make_body, make_func,
 };

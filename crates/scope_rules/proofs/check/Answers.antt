@@ -4,11 +4,11 @@ use Rattle.es3_tree.specs.PlacedView.{of_stmts}
 use Rattle.es3_labels.specs.Around.{in_program}
 use Rattle.es3_labels.specs.Misplaced.{misplaced}
 use Rattle.cajita_tree.specs.View as view
-use Rattle.scope_rules.specs.Rules.{fixed_names}
-use Rattle.scope_rules.specs.Scope.{in_module}
-use Rattle.scope_rules.specs.Faults.{redeclared, faults_in, bad_label}
-use Rattle.scope_rules.specs.Found.{fault_of}
-use Rattle.scope_rules.specs.Views.{declaration_of}
+use Rattle.cajita_names.specs.Rules.{fixed_names}
+use Rattle.cajita_names.specs.Scope.{in_module}
+use Rattle.cajita_rules.specs.Faults.{redeclared, faults_in, bad_label}
+use Rattle.cajita_rules.specs.Found.{fault_of}
+use Rattle.cajita_names.specs.Views.{declaration_of}
 use Rattle.scope_rules.proofs.Checked.{never}
 use Rattle.scope_rules.proofs.check.Goals as goal
 

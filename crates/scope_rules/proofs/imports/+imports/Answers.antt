@@ -2,8 +2,8 @@ use Rattle.std.proofs.Common.{◌++◌, refl, sym, ap, ◌∙◌, arith}
 use Rattle.es3_tree.specs.Tree as tree
 use Rattle.es3_tree.specs.PlacedView as source
 use Rattle.scope_rules.specs.Free.{free}
-use Rattle.scope_rules.specs.Resolve.{once_after}
-use Rattle.scope_rules.specs.Views.{scope_of}
+use Rattle.cajita_names.specs.Once.{once_after}
+use Rattle.cajita_names.specs.Views.{scope_of}
 use Rattle.scope_rules.proofs.OnceParts.{once_parts, turn, second, free_of_call, free_of_switch}
 use Rattle.scope_rules.proofs.imports.+imports.Goals as goal
 

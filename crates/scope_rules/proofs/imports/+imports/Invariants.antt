@@ -3,8 +3,8 @@ use Rattle.std.proofs.Common.{◌≡◌, drop}
 use Rattle.es3_tree.specs.Tree as t
 use Rattle.es3_tree.specs.PlacedView as v
 use Rattle.scope_rules.specs.Free.{free}
-use Rattle.scope_rules.specs.Resolve.{once_after}
-use Rattle.scope_rules.specs.Views.{scope_of}
+use Rattle.cajita_names.specs.Once.{once_after}
+use Rattle.cajita_names.specs.Views.{scope_of}
 use Rattle.scope_rules.proofs.imports.+imports.Given as goal
 
 abbrev pub invariant-from_exprs-loop-expression : goal.invariant-from_exprs-loop-expression

@@ -4,13 +4,14 @@ use Rattle.es3_tree.specs.PlacedView as source
 use Rattle.cajita_tree.specs.Tree as made
 use Rattle.cajita_tree.specs.Parts.{target_of}
 use Rattle.cajita_tree.specs.View as view
-use Rattle.scope_rules.specs.Resolve.{from, resolved, declared_functions}
-use Rattle.scope_rules.specs.Boxed as held
+use Rattle.cajita_forms.specs.Options.{from}
+use Rattle.scope_rules.specs.Resolve.{resolved, declared_functions}
+use Rattle.cajita_forms.specs.Boxed as held
 use Rattle.scope_rules.proofs.Front as front
 use Rattle.scope_rules.proofs.Front.{turn, ended, missing, passed, two_left}
 use Rattle.scope_rules.proofs.Declaring.{undeclared, stands, left_out, declares_one, declares_none}
 use Rattle.scope_rules.proofs.Resolved.{resolved_call, resolved_new, resolved_binary, resolved_assign, resolved_if, resolved_for, resolved_switch, resolved_try, caught_given, uncaught_given, last_given, no_last_given}
-use Rattle.scope_rules.proofs.Formed.{as_given}
+use Rattle.cajita_forms.proofs.Formed.{as_given}
 use Rattle.scope_rules.proofs.resolve.+resolve.Goals as goal
 use Rattle.scope_rules.proofs.resolve.+resolve.Goals.{resolve_funcs-in-Func+in_ok-function+in-Some+in_ok-push, resolve_funcs-in_default, resolve_stmt-in-Some, resolve_stmt-in-None, resolve_stmt-in-Some-last, resolve_stmt-in-None-last}
 
