@@ -1,6 +1,6 @@
 //! Errors that the interpreter throws (ES3 15.11.6.5).
 
-ghost use Rattle.std.specs.Prelude.{◌≡◌, ◌≤◌, IfOk};
+ghost use Rattle.std.specs.Prelude.{◌≡◌, ◌≤◌, IfOk, length};
 ghost use Rattle.es3_language.specs.Meaning as m;
 ghost use Rattle.es3_moves.specs.Texts.{store_of};
 ghost use Rattle.es3_moves.specs.Moves.{move_plan};
@@ -21,6 +21,7 @@ pub fn throw_error(
 ) -> Result<Move, Memory>
     ensures plan { IfOk result (λ x. move_plan x (store_of h.new texts.now) ≡ m.throw_error message.now (store_of h.old texts.now)) }
     ensures small { IfOk result (λ x. size x ≤ 8) }
+    ensures live { length h.old.list ≤ length h.new.list }
 {
     let name = Units::from_ascii(alloc, b"TypeError")?;
     let message = Units::from_ascii(alloc, message)?;

@@ -1,6 +1,6 @@
 //! Reads of references (ES3 8.7.1).
 
-ghost use Rattle.std.specs.Prelude.{◌≡◌, ◌≤◌, ◌+◌, IfOk};
+ghost use Rattle.std.specs.Prelude.{◌≡◌, ◌≤◌, ◌+◌, IfOk, length};
 ghost use Rattle.es3_language.specs.References as r;
 ghost use Rattle.es3_language.specs.Expressions as e;
 ghost use Rattle.es3_moves.specs.Where.{plain_env, plain_ref};
@@ -30,6 +30,7 @@ pub fn with_read(
 ) -> Result<Move, Memory>
     ensures plan { IfOk result (λ x. move_plan x (store_of h.new texts.new) ≡ e.with_read (plain_ref reference.now) (plain_env env.now) (store_of h.old texts.old) (then_plan then)) }
     ensures small { IfOk result (λ x. size x ≤ then_size then + 1) }
+    ensures live { length h.old.list ≤ length h.new.list }
 {
     match reference {
         Ref::OwnArguments(c) => {
@@ -58,6 +59,7 @@ fn read_now(
 ) -> Result<Move, Memory>
     ensures plan { IfOk result (λ x. move_plan x (store_of h.new texts.now) ≡ e.on_read (r.read (plain_ref reference.now) (store_of h.old texts.now)) (plain_ref reference.now) (plain_env env.now) (store_of h.old texts.now) (then_plan then)) }
     ensures small { IfOk result (λ x. size x ≤ then_size then + 1) }
+    ensures live { length h.old.list ≤ length h.new.list }
 {
     match read(alloc, reference, h, texts)? {
         Some(v) => {

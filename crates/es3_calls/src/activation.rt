@@ -1,6 +1,6 @@
 //! What control finds when it enters the code of a function (ES3 10.1.3, 10.1.6, 10.2.3).
 
-ghost use Rattle.std.specs.Prelude.{◌≡◌, ◌∷◌, IfOk, OnOk, length, slice_get};
+ghost use Rattle.std.specs.Prelude.{◌≡◌, ◌≤◌, ◌∷◌, IfOk, OnOk, length, slice_get};
 ghost use Rattle.es3_language.specs.Store.{with_code, with_params, with_vars, with_scope, with_slot};
 ghost use Rattle.es3_language.specs.Hoisting as hoisting;
 ghost use Rattle.es3_language.specs.Expressions as e;
@@ -97,6 +97,7 @@ pub fn open_call(
 ) -> Result<Rc<Chain>, Memory>
     ensures chain { IfOk result (λ c. plain_chain c.value ≡ length (plain_scopes texts.old) ∷ plain_chain outer.value) }
     ensures store { OnOk result (store_of h.new texts.new ≡ e.with_functions (funcs_of functions.now) (length (plain_scopes texts.old)) (length (plain_scopes texts.old) ∷ plain_chain outer.value) by (with_scope (plain_owner scope.owner) scope.names (store_of h.old texts.old))) }
+    ensures live { length h.old.list ≤ length h.new.list }
 {
     let chain = texts.open_scope(alloc, scope, outer)?;
     let c = innermost(&chain);
@@ -114,7 +115,8 @@ fn declare_functions(
     h: &mut Heap,
     texts: &mut Texts,
 ) -> Result<(), Memory>
-    ensures { OnOk result (store_of h.new texts.new ≡ e.with_functions (funcs_of functions.now) c (plain_chain chain.now.value) by (store_of h.old texts.old)) }
+    ensures store { OnOk result (store_of h.new texts.new ≡ e.with_functions (funcs_of functions.now) c (plain_chain chain.now.value) by (store_of h.old texts.old)) }
+    ensures live { length h.old.list ≤ length h.new.list }
 {
     for function in functions {
         declare_function(alloc, function, c, chain, by, h, texts)?;
@@ -132,7 +134,8 @@ fn declare_function(
     h: &mut Heap,
     texts: &mut Texts,
 ) -> Result<(), Memory>
-    ensures { OnOk result (store_of h.new texts.new ≡ with_slot c (hoisting.declared_name (plain_func function.now)) (Value.Obj (length h.old.list)) (with_code (hoisting.code_of (plain_func function.now) (plain_chain chain.now.value)) by (store_of h.old texts.old))) }
+    ensures store { OnOk result (store_of h.new texts.new ≡ with_slot c (hoisting.declared_name (plain_func function.now)) (Value.Obj (length h.old.list)) (with_code (hoisting.code_of (plain_func function.now) (plain_chain chain.now.value)) by (store_of h.old texts.old))) }
+    ensures live { length h.old.list ≤ length h.new.list }
 {
     let around = chain.clone()?;
     let object = make_function(alloc, function, around, by, h, texts)?;

@@ -1,6 +1,6 @@
 //! Calls of functions, and what functions make by `new` (ES3 11.2.2, 11.2.3, 13.2.1, 13.2.2).
 
-ghost use Rattle.std.specs.Prelude.{◌≡◌, ◌<◌, IfOk, OnOk, true, length, option_map, slice_get};
+ghost use Rattle.std.specs.Prelude.{◌≡◌, ◌≤◌, ◌<◌, IfOk, IsOk, OnOk, true, length, option_map, slice_get};
 ghost use Rattle.plans.specs.Plans.{enter, ends};
 ghost use Rattle.es3_heap.specs.Objects.{object_at, callable_of};
 ghost use Rattle.es3_language.specs.Store.{Store};
@@ -42,6 +42,7 @@ pub fn apply(
 ) -> Result<Move, Memory>
     ensures plan { IfOk result (λ x. move_plan x (store_of h.new texts.new) ≡ e.apply f this args.items (plain_env env) (store_of h.old texts.old)) }
     ensures small { IfOk result (λ x. size x < 19) }
+    ensures live { length h.old.list ≤ length h.new.list }
 {
     match f {
         Value::Obj(o) => apply_object(alloc, o, this, args, env, h, texts),
@@ -99,6 +100,7 @@ fn apply_object(
 ) -> Result<Move, Memory>
     ensures plan { IfOk result (λ x. move_plan x (store_of h.new texts.new) ≡ e.apply_callable (callable_of (object_at h.old o)) (Value.Obj o) this args.items (plain_env env) (store_of h.old texts.old)) }
     ensures small { IfOk result (λ x. size x < 19) }
+    ensures live { length h.old.list ≤ length h.new.list }
 {
     match callable(h, o) {
         Some((FuncKind::Code(c), by)) => {
@@ -127,7 +129,9 @@ fn open_code(
     texts: &mut Texts,
 ) -> Result<Move, Memory>
     ensures plan { IfOk result (λ x. move_plan x (store_of h.new texts.new) ≡ e.open_code (slice_get (plain_codes texts.old) c) by (Value.Obj callee) this args.items calls (store_of h.old texts.old) (call_end made)) }
+    ensures deep { c < length (plain_codes texts.old) → 1000 ≤ calls → IsOk result }
     ensures small { IfOk result (λ x. size x < 19) }
+    ensures live { length h.old.list ≤ length h.new.list }
 {
     let at = c as usize;
     if at >= texts.codes.len() {
@@ -175,6 +179,7 @@ pub fn construct(
 ) -> Result<Move, Memory>
     ensures plan { IfOk result (λ x. move_plan x (store_of h.new texts.new) ≡ e.construct f args.items (plain_env env) (store_of h.old texts.old)) }
     ensures small { IfOk result (λ x. size x < 19) }
+    ensures live { length h.old.list ≤ length h.new.list }
 {
     match f {
         Value::Obj(o) => construct_object(alloc, o, args, env, h, texts),
@@ -197,6 +202,7 @@ fn construct_object(
 ) -> Result<Move, Memory>
     ensures plan { IfOk result (λ x. move_plan x (store_of h.new texts.new) ≡ e.construct_callable (callable_of (object_at h.old o)) o args.items (plain_env env) (store_of h.old texts.old)) }
     ensures small { IfOk result (λ x. size x < 19) }
+    ensures live { length h.old.list ≤ length h.new.list }
 {
     match callable(h, o) {
         Some((FuncKind::Code(c), by)) => {
@@ -229,6 +235,7 @@ fn construct_object(
 fn make_object(alloc: Global, f: ObjId, h: &mut Heap) -> Result<ObjId, Memory>
     ensures id { IfOk result (λ o. o ≡ length h.old.list) }
     ensures store { OnOk result (h.new ≡ made_by f h.old) }
+    ensures live { length h.old.list ≤ length h.new.list }
 {
     let key = Units::from_ascii(alloc, b"prototype")?;
     let above = made_proto(h.get(f, &key), h);

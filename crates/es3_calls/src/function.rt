@@ -1,6 +1,6 @@
 //! Functions that texts make (ES3 13, 13.2).
 
-ghost use Rattle.std.specs.Prelude.{◌≡◌, IfOk, OnOk, length};
+ghost use Rattle.std.specs.Prelude.{◌≡◌, ◌≤◌, IfOk, OnOk, length};
 ghost use Rattle.es3_language.specs.Store.{new_function, with_code};
 ghost use Rattle.es3_language.specs.Hoisting as hoisting;
 ghost use Rattle.es3_language.specs.Arguments.{arguments_name};
@@ -32,6 +32,7 @@ fn new_function(
 ) -> Result<ObjId, Memory>
     ensures id { IfOk result (λ o. o ≡ length h.old.list) }
     ensures heap { OnOk result (h.new ≡ new_function code params maker h.old) }
+    ensures live { length h.old.list ≤ length h.new.list }
 {
     if params >= 4_294_967_296 {
         return Err(Memory);
@@ -83,6 +84,7 @@ pub fn make_function(
 ) -> Result<ObjId, Memory>
     ensures id { IfOk result (λ o. o ≡ length h.old.list) }
     ensures store { OnOk result (store_of h.new texts.new ≡ with_code (hoisting.code_of (plain_func function.now) (plain_chain chain.value)) maker (store_of h.old texts.old)) }
+    ensures live { length h.old.list ≤ length h.new.list }
 {
     let code = closure(alloc, function, chain, &texts.arguments)?;
     let number = texts.make_code(code)?;
@@ -97,7 +99,8 @@ pub fn enter_function(
     h: &mut Heap,
     texts: &mut Texts,
 ) -> Result<Move, Memory>
-    ensures { IfOk result (λ x. move_plan x (store_of h.new texts.new) ≡ e.function_plan (plain_func function.now) (plain_env env) (store_of h.old texts.old)) }
+    ensures plan { IfOk result (λ x. move_plan x (store_of h.new texts.new) ≡ e.function_plan (plain_func function.now) (plain_env env) (store_of h.old texts.old)) }
+    ensures live { length h.old.list ≤ length h.new.list }
 {
     let chain = env.chain().clone()?;
     let maker = env.by();
@@ -120,6 +123,7 @@ fn make_named(
 ) -> Result<ObjId, Memory>
     ensures id { IfOk result (λ o. o ≡ length h.old.list) }
     ensures store { OnOk result (store_of h.new texts.new ≡ named_function (plain_func function.now) name.now.value (plain_chain outer.value) maker (store_of h.old texts.old)) }
+    ensures live { length h.old.list ≤ length h.new.list }
 {
     let scope = Scope {
         owner: Owner::OwnName,

@@ -1,6 +1,6 @@
 //! What a program declares (ES3 10.1.3, 10.2.1, 14).
 
-ghost use Rattle.std.specs.Prelude.{◌≡◌, ◌∷◌, [], OnOk};
+ghost use Rattle.std.specs.Prelude.{◌≡◌, ◌≤◌, ◌∷◌, [], OnOk, length};
 ghost use Rattle.es3_language.specs.Hoisting as hoisting;
 ghost use Rattle.es3_language.specs.Meaning as m;
 ghost use Rattle.es3_moves.specs.Code.{names_of, plain_func, plain_stmts};
@@ -24,7 +24,8 @@ pub fn declare_program(
     h: &mut Heap,
     texts: &mut Texts,
 ) -> Result<(), Memory>
-    ensures { OnOk result (store_of h.new texts.new ≡ m.with_global_vars (hoisting.vars_of (plain_stmts body.now)) (m.with_global_functions (hoisting.functions_of (plain_stmts body.now)) by (store_of h.old texts.old))) }
+    ensures store { OnOk result (store_of h.new texts.new ≡ m.with_global_vars (hoisting.vars_of (plain_stmts body.now)) (m.with_global_functions (hoisting.functions_of (plain_stmts body.now)) by (store_of h.old texts.old))) }
+    ensures live { length h.old.list ≤ length h.new.list }
 {
     let functions = functions_of(alloc, body)?;
     let vars = vars_of(alloc, body)?;
@@ -40,7 +41,8 @@ fn declare_functions(
     h: &mut Heap,
     texts: &mut Texts,
 ) -> Result<(), Memory>
-    ensures { OnOk result (store_of h.new texts.new ≡ m.with_global_functions (funcs_of functions.now) by (store_of h.old texts.old)) }
+    ensures store { OnOk result (store_of h.new texts.new ≡ m.with_global_functions (funcs_of functions.now) by (store_of h.old texts.old)) }
+    ensures live { length h.old.list ≤ length h.new.list }
 {
     for function in functions {
         declare_function(alloc, function, by, h, texts)?;
@@ -56,7 +58,8 @@ fn declare_function(
     h: &mut Heap,
     texts: &mut Texts,
 ) -> Result<(), Memory>
-    ensures { OnOk result (store_of h.new texts.new ≡ m.with_global_functions (plain_func function.now ∷ []) by (store_of h.old texts.old)) }
+    ensures store { OnOk result (store_of h.new texts.new ≡ m.with_global_functions (plain_func function.now ∷ []) by (store_of h.old texts.old)) }
+    ensures live { length h.old.list ≤ length h.new.list }
 {
     let outermost = Rc::new(alloc, Chain::End)?;
     let object = make_function(alloc, function, outermost, by, h, texts)?;
@@ -66,7 +69,8 @@ fn declare_function(
 
 /// Makes the variables that a program declares names of the global object, where they are none yet.
 fn declare_vars(vars: &[Rc<Units>], h: &mut Heap, texts: &Texts) -> Result<(), Memory>
-    ensures { OnOk result (store_of h.new texts.now ≡ m.with_global_vars (names_of vars.now) (store_of h.old texts.now)) }
+    ensures store { OnOk result (store_of h.new texts.now ≡ m.with_global_vars (names_of vars.now) (store_of h.old texts.now)) }
+    ensures live { length h.old.list ≤ length h.new.list }
 {
     for name in vars {
         declare_var(name, h, texts)?;
@@ -76,7 +80,8 @@ fn declare_vars(vars: &[Rc<Units>], h: &mut Heap, texts: &Texts) -> Result<(), M
 
 /// Makes a variable a name of the global object, where it is none yet.
 fn declare_var(name: &Units, h: &mut Heap, texts: &Texts) -> Result<(), Memory>
-    ensures { OnOk result (store_of h.new texts.now ≡ m.with_global_vars (name.now ∷ []) (store_of h.old texts.now)) }
+    ensures store { OnOk result (store_of h.new texts.now ≡ m.with_global_vars (name.now ∷ []) (store_of h.old texts.now)) }
+    ensures live { length h.old.list ≤ length h.new.list }
 {
     if h.own(texts.globals, name).is_some() {
         return Ok(());

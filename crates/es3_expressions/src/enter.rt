@@ -1,6 +1,6 @@
 //! What entering an expression does (ES3 11).
 
-ghost use Rattle.std.specs.Prelude.{◌≡◌, IfOk, Some, None};
+ghost use Rattle.std.specs.Prelude.{◌≡◌, ◌≤◌, IfOk, Some, None, length};
 ghost use Rattle.es3_tree.specs.Tree as t;
 ghost use Rattle.es3_tree.specs.declared.UnOp.TheVariants as un;
 ghost use Rattle.es3_language.specs.Store.{Store};
@@ -30,7 +30,8 @@ pub fn enter_expr(
     h: &mut Heap,
     texts: &mut Texts,
 ) -> Result<Move, Memory>
-    ensures { IfOk result (λ x. move_plan x (store_of h.new texts.new) ≡ e.expr_plan (plain_expr code.now) (plain_env env) (store_of h.old texts.old)) }
+    ensures plan { IfOk result (λ x. move_plan x (store_of h.new texts.new) ≡ e.expr_plan (plain_expr code.now) (plain_env env) (store_of h.old texts.old)) }
+    ensures live { length h.old.list ≤ length h.new.list }
 {
     match code {
         ExprCode::This => Ok(give(Value::Obj(env.this()))),
@@ -89,7 +90,8 @@ fn enter_name(
     h: &mut Heap,
     texts: &mut Texts,
 ) -> Result<Move, Memory>
-    ensures { IfOk result (λ x. move_plan x (store_of h.new texts.new) ≡ e.name_value_plan name.now.value (plain_env env.now) (store_of h.old texts.old)) }
+    ensures plan { IfOk result (λ x. move_plan x (store_of h.new texts.new) ≡ e.name_value_plan name.now.value (plain_env env.now) (store_of h.old texts.old)) }
+    ensures live { length h.old.list ≤ length h.new.list }
 {
     let found = reference(env.chain(), name, h, texts)?;
     with_read(alloc, &found, Then::Give, env, h, texts)
@@ -110,7 +112,8 @@ fn enter_object(
     h: &mut Heap,
     texts: &Texts,
 ) -> Result<Move, Memory>
-    ensures { IfOk result (λ x. move_plan x (store_of h.new texts.now) ≡ e.object_plan (plain_fields fields.now.value.items) (plain_env env) (store_of h.old texts.now)) }
+    ensures plan { IfOk result (λ x. move_plan x (store_of h.new texts.now) ≡ e.object_plan (plain_fields fields.now.value.items) (plain_env env) (store_of h.old texts.now)) }
+    ensures live { length h.old.list ≤ length h.new.list }
 {
     let fields = fields.clone()?;
     let above = h.proto(Proto::Object);

@@ -1,6 +1,6 @@
 //! Lists of parts, one after another: items, properties, arguments (ES3 11.1.4, 11.1.5, 11.2.4).
 
-ghost use Rattle.std.specs.Prelude.{◌≡◌, ◌<◌, [], IfOk};
+ghost use Rattle.std.specs.Prelude.{◌≡◌, ◌≤◌, ◌<◌, [], IfOk, length};
 ghost use Rattle.es3_language.specs.Store.{Store};
 ghost use Rattle.es3_language.specs.Expressions as e;
 ghost use Rattle.es3_moves.specs.Code.{exprs_at, fields_at};
@@ -34,6 +34,7 @@ pub fn next_item(
 ) -> Result<Move, Memory>
     ensures plan { IfOk result (λ x. move_plan x (store_of h.new texts.now) ≡ e.items vs.items (exprs_at es.value.items at) (plain_env env) (store_of h.old texts.now)) }
     ensures small { IfOk result (λ x. size x < 18) }
+    ensures live { length h.old.list ≤ length h.new.list }
 {
     if at >= es.len() {
         let array = h.make_array(vs)?;
@@ -97,6 +98,7 @@ pub fn next_argument(
 ) -> Result<Move, Memory>
     ensures plan { IfOk result (λ x. move_plan x (store_of h.new texts.new) ≡ e.arguments (plain_callee calling.value.callee) calling.value.values.items (exprs_at calling.value.list.value.items calling.value.at) (plain_env calling.value.env) (store_of h.old texts.old)) }
     ensures small { IfOk result (λ x. size x < 23) }
+    ensures live { length h.old.list ≤ length h.new.list }
 {
     let at = calling.at;
     if at >= calling.list.len() {
@@ -126,6 +128,7 @@ fn do_call(
 ) -> Result<Move, Memory>
     ensures plan { IfOk result (λ x. move_plan x (store_of h.new texts.new) ≡ e.do_call (plain_callee callee) args.items (plain_env env) (store_of h.old texts.old)) }
     ensures small { IfOk result (λ x. size x < 23) }
+    ensures live { length h.old.list ≤ length h.new.list }
 {
     match callee {
         Callee::Called(reference) => {

@@ -1,6 +1,6 @@
 //! Members of values (ES3 11.2.1).
 
-ghost use Rattle.std.specs.Prelude.{◌≡◌, ◌<◌, IfOk};
+ghost use Rattle.std.specs.Prelude.{◌≡◌, ◌≤◌, ◌<◌, IfOk, length};
 ghost use Rattle.es3_convert.specs.Conversions.{text_of};
 ghost use Rattle.es3_language.specs.Store.{Store};
 ghost use Rattle.es3_language.specs.References as r;
@@ -34,6 +34,7 @@ pub fn dot_value(
 ) -> Result<Move, Memory>
     ensures plan { IfOk result (λ x. move_plan x (store_of h.new texts.new) ≡ e.dot_value key.value (plain_env env.now) base (store_of h.old texts.old)) }
     ensures small { IfOk result (λ x. size x < 13) }
+    ensures live { length h.old.list ≤ length h.new.list }
 {
     match member_of(base, key) {
         Some(reference) => with_read(alloc, &reference, Then::Give, env, h, texts),
@@ -51,6 +52,7 @@ pub fn dot_target(
 ) -> Result<Move, Memory>
     ensures plan { IfOk result (λ x. move_plan x (store_of h.new texts.now) ≡ e.dot_target key.value base (store_of h.old texts.now)) }
     ensures small { IfOk result (λ x. size x < 13) }
+    ensures live { length h.old.list ≤ length h.new.list }
 {
     match member_of(base, key) {
         Some(reference) => Ok(Move::End(Flow::Found(reference))),
@@ -107,6 +109,7 @@ pub fn index_value(
 ) -> Result<Move, Memory>
     ensures plan { IfOk result (λ x. move_plan x (store_of h.new texts.new) ≡ e.index_value (plain_env env.now) base key.now (store_of h.old texts.old)) }
     ensures small { IfOk result (λ x. size x < 13) }
+    ensures live { length h.old.list ≤ length h.new.list }
 {
     match index_of(alloc, base, key, h)? {
         Indexed::Member(reference) => with_read(alloc, &reference, Then::Give, env, h, texts),
@@ -125,6 +128,7 @@ pub fn index_target(
 ) -> Result<Move, Memory>
     ensures plan { IfOk result (λ x. move_plan x (store_of h.new texts.now) ≡ e.index_target base key.now (store_of h.old texts.now)) }
     ensures small { IfOk result (λ x. size x < 13) }
+    ensures live { length h.old.list ≤ length h.new.list }
 {
     match index_of(alloc, base, key, h)? {
         Indexed::Member(reference) => Ok(Move::End(Flow::Found(reference))),

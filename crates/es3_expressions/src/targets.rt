@@ -1,6 +1,6 @@
 //! What entering an expression as a reference does, and what is done with a reference (ES3 8.7).
 
-ghost use Rattle.std.specs.Prelude.{◌≡◌, ◌<◌, ◌≤◌, IfOk};
+ghost use Rattle.std.specs.Prelude.{◌≡◌, ◌<◌, ◌≤◌, IfOk, length};
 ghost use Rattle.es3_tree.specs.Tree as t;
 ghost use Rattle.es3_language.specs.Store.{Store};
 ghost use Rattle.es3_language.specs.Expressions as e;
@@ -33,7 +33,8 @@ pub fn enter_target(
     h: &mut Heap,
     texts: &mut Texts,
 ) -> Result<Move, Memory>
-    ensures { IfOk result (λ x. move_plan x (store_of h.new texts.new) ≡ e.target_plan (plain_expr code.now) (plain_env env) (store_of h.old texts.old)) }
+    ensures plan { IfOk result (λ x. move_plan x (store_of h.new texts.new) ≡ e.target_plan (plain_expr code.now) (plain_env env) (store_of h.old texts.old)) }
+    ensures live { length h.old.list ≤ length h.new.list }
 {
     match code {
         ExprCode::Name(name) => {
@@ -95,6 +96,7 @@ pub fn use_target(
 ) -> Result<Move, Memory>
     ensures plan { IfOk result (λ x. move_plan x (store_of h.new texts.new) ≡ target_use then (plain_ref reference) (store_of h.old texts.old)) }
     ensures small { IfOk result (λ x. size x < 24) }
+    ensures live { length h.old.list ≤ length h.new.list }
 {
     match then {
         Target::AssignTo(value, env) => assign_to(value, env, reference),
@@ -150,6 +152,7 @@ fn type_of(
 ) -> Result<Move, Memory>
     ensures plan { IfOk result (λ x. move_plan x (store_of h.new texts.new) ≡ e.type_plan (plain_env env.now) (plain_ref reference.now) (store_of h.old texts.old)) }
     ensures small { IfOk result (λ x. size x < 24) }
+    ensures live { length h.old.list ≤ length h.new.list }
 {
     match reference {
         Ref::Unresolved(_) => give_type(alloc, &Value::Undefined, h),

@@ -1,6 +1,6 @@
 //! What expressions do with values of their parts (ES3 11).
 
-ghost use Rattle.std.specs.Prelude.{◌≡◌, ◌<◌, ◌≤◌, IfOk};
+ghost use Rattle.std.specs.Prelude.{◌≡◌, ◌<◌, ◌≤◌, IfOk, IsOk, length};
 ghost use Rattle.es3_language.specs.Store.{Store};
 ghost use Rattle.es3_language.specs.Tasks as m;
 ghost use Rattle.es3_language.specs.Expressions as e;
@@ -10,6 +10,7 @@ ghost use Rattle.es3_moves.specs.Texts.{store_of};
 ghost use Rattle.es3_moves.specs.Moves.{move_plan, use_plan, then_plan};
 ghost use Rattle.es3_operators.specs.Given.{plain_given};
 ghost use Rattle.es3_access.specs.Sizes.{size, then_size};
+ghost use Rattle.es3_expressions.specs.Settled.{IsSettled};
 
 use crate::enter::{give, value_part};
 use crate::lists::begin_arguments;
@@ -40,6 +41,7 @@ pub fn use_value(
 ) -> Result<Move, Memory>
     ensures plan { IfOk result (λ x. move_plan x (store_of h.new texts.new) ≡ use_plan then v (store_of h.old texts.old)) }
     ensures small { IfOk result (λ x. size x < 24) }
+    ensures live { length h.old.list ≤ length h.new.list }
 {
     match then {
         Use::BinaryLeft(op, right, env) => Ok(value_part(right, env, Use::BinaryRight(op, v))),
@@ -134,6 +136,8 @@ fn index_value_base(key: Rc<ExprCode>, env: Env, base: Value) -> Result<Move, Me
 fn give_given(alloc: Global, given: Given, h: &mut Heap, texts: &Texts) -> Result<Move, Memory>
     ensures plan { IfOk result (λ x. move_plan x (store_of h.new texts.now) ≡ m.with_given (plain_given given) (store_of h.old texts.now) m.give) }
     ensures small { IfOk result (λ x. size x ≤ 8) }
+    ensures settled { IsSettled (plain_given given) → IsOk result }
+    ensures live { length h.old.list ≤ length h.new.list }
 {
     match given {
         Given::Value(v) => Ok(give(v)),
@@ -152,6 +156,7 @@ pub fn use_read(
 ) -> Result<Move, Memory>
     ensures plan { IfOk result (λ x. move_plan x (store_of h.new texts.now) ≡ then_plan then v (store_of h.old texts.now)) }
     ensures small { IfOk result (λ x. size x < then_size then) }
+    ensures live { length h.old.list ≤ length h.new.list }
 {
     match then {
         Then::Give => Ok(give(v)),

@@ -1,6 +1,6 @@
 //! What is written by assignments, `++` and `--` (ES3 8.7.2, 11.3, 11.4, 11.13).
 
-ghost use Rattle.std.specs.Prelude.{◌≡◌, ◌<◌, IfOk};
+ghost use Rattle.std.specs.Prelude.{◌≡◌, ◌≤◌, ◌<◌, IfOk, IfNone, IsOk, length};
 ghost use Rattle.plans.specs.Plans.{ends};
 ghost use Rattle.es3_convert.specs.Numbers.{number_of};
 ghost use Rattle.es3_language.specs.Store.{Store};
@@ -12,6 +12,7 @@ ghost use Rattle.es3_moves.specs.Texts.{store_of};
 ghost use Rattle.es3_moves.specs.Moves.{move_plan};
 ghost use Rattle.es3_operators.specs.Given.{plain_given};
 ghost use Rattle.es3_access.specs.Sizes.{size};
+ghost use Rattle.es3_expressions.specs.Settled.{IsFault};
 
 use crate::enter::give;
 use caja_num::Whole;
@@ -84,6 +85,7 @@ pub fn compound(
 ) -> Result<Move, Memory>
     ensures plan { IfOk result (λ x. move_plan x (store_of h.new texts.now) ≡ e.compound_value op (plain_ref reference) old.now (plain_env env.now) v.now (store_of h.old texts.now)) }
     ensures small { IfOk result (λ x. size x < 11) }
+    ensures live { length h.old.list ≤ length h.new.list }
 {
     let given = operate(alloc, op, old, v, h)?;
     write_given(alloc, reference, given, env, h, texts)
@@ -100,6 +102,8 @@ fn write_given(
 ) -> Result<Move, Memory>
     ensures plan { IfOk result (λ x. move_plan x (store_of h.new texts.now) ≡ m.with_given (plain_given given) (store_of h.old texts.now) (λ w s. e.write_plan (plain_ref reference) w w (plain_env env.now) s)) }
     ensures small { IfOk result (λ x. size x < 11) }
+    ensures stops { IsFault (plain_given given) → IsOk result }
+    ensures live { length h.old.list ≤ length h.new.list }
 {
     match given {
         Given::Value(v) => assign(alloc, reference, v, env, h),
@@ -138,6 +142,7 @@ fn step_number(
 ) -> Result<Move, Memory>
     ensures plan { IfOk result (λ x. (s : Store) → s.heap ≡ h.now → move_plan x s ≡ e.step_number before n next (plain_ref reference) (plain_env env.now) s) }
     ensures small { IfOk result (λ x. size x < 11) }
+    ensures stops { IfNone next (IsOk result) }
 {
     match next {
         Some(m) => {
@@ -159,6 +164,7 @@ pub fn write_reference(
 ) -> Result<Move, Memory>
     ensures plan { IfOk result (λ x. move_plan x (store_of h.new texts.new) ≡ ends (m.gave given) (r.write (plain_ref reference) written (store_of h.old texts.old))) }
     ensures small { IfOk result (λ x. size x < 9) }
+    ensures live { length h.old.list ≤ length h.new.list }
 {
     write(alloc, &reference, written, h, texts)?;
     Ok(give(given))

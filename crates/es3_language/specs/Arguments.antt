@@ -1,6 +1,8 @@
 -- The arguments object (ES3 10.1.8): it is made when its name is first read, which nobody can tell from its being made at the call.
 -- An item whose argument belongs to a parameter has the value of that parameter, whichever of the two is written, until the item is deleted.
+-- Where two parameters have one name, the name has the value of the last (10.1.3): only the item of that one has its value, and the others keep their own arguments.
 use Rattle.std.specs.Prelude.{ℕ, ◌+◌, Bool, true, false, List, [], ◌∷◌, ◌++◌, Option, Some, None, is_some, length, slice_get, pos, codes, nat_eq, if◌then◌else◌}
+use Rattle.std.specs.List.{list_any}
 use Rattle.caja_units.specs.Units.{same_units}
 use Rattle.caja_units.specs.Index.{number_units}
 use Rattle.es3_heap.specs.declared.value.Value.{Value}
@@ -24,11 +26,15 @@ abbrev pub value_or : Value → Option Value → Value
 value_or v None = v
 value_or v (Some w) = w
 
--- the items from an index on: the value that a parameter has by now, and behind the parameters the arguments
+-- 10.1.3: whether the name of a parameter is that of one behind it too
+abbrev pub comes_again : List ℕ → List (List ℕ) → Bool
+comes_again x xs = list_any (same_units x) xs
+
+-- the items from an index on: the value that a parameter has by now; its argument, where the name comes again and behind the parameters
 abbrev pub with_items : ℕ → ℕ → List (List ℕ) → List Value → Names → Objects → Objects
 with_items o i xs [] names h = h
 with_items o i [] (v ∷ vs) names h = with_items o (i + 1) [] vs names (define h o (number_units i) v hidden_attrs)
-with_items o i (x ∷ xs) (v ∷ vs) names h = with_items o (i + 1) xs vs names (define h o (number_units i) (value_or v (name_value x names)) hidden_attrs)
+with_items o i (x ∷ xs) (v ∷ vs) names h = with_items o (i + 1) xs vs names (define h o (number_units i) (if comes_again x xs then v else value_or v (name_value x names)) hidden_attrs)
 
 abbrev pub with_arguments_object : Value → List (List ℕ) → List Value → Names → Objects → Objects
 with_arguments_object f xs vs names h =
@@ -40,7 +46,7 @@ with_arguments_object f xs vs names h =
 abbrev pub shared_items : ℕ → List (List ℕ) → List Value → List (List ℕ × List ℕ)
 shared_items i [] vs = []
 shared_items i (x ∷ xs) [] = []
-shared_items i (x ∷ xs) (v ∷ vs) = (number_units i, x) ∷ shared_items (i + 1) xs vs
+shared_items i (x ∷ xs) (v ∷ vs) = if comes_again x xs then shared_items (i + 1) xs vs else (number_units i, x) ∷ shared_items (i + 1) xs vs
 
 abbrev pub made_for : Owner → ℕ → Names → Store → Store
 made_for (activation f xs vs) c names s =

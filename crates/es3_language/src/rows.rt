@@ -27,6 +27,21 @@ pub fn the_last_of_two_parameters_counts()
     ensures { value_of (t.expression (t.call (t.function (t.fun None (codes "a" ∷ codes "a" ∷ []) (body_of ((returned (t.name (codes "a"))) ∷ [])))) (t.more_exprs t.null (t.more_exprs (t.bool true) t.no_exprs)))) ≡ Some (Bool true) }
 {}
 
+/// `(function (a, b) { a = 3; return arguments[0]; })(1, 2);` is 3: an item has the value of its parameter.
+pub fn an_item_has_the_value_of_its_parameter()
+    ensures { value_of (t.expression (t.call (t.function (t.fun None (codes "a" ∷ codes "b" ∷ []) (body_of ((t.expression (t.assign None (t.name (codes "a")) (t.num (pos 3)))) ∷ (returned (t.index (t.name (codes "arguments")) (t.num (pos 0)))) ∷ [])))) (t.more_exprs (t.num (pos 1)) (t.more_exprs (t.num (pos 2)) t.no_exprs)))) ≡ Some (Num (pos 3)) }
+{}
+
+/// `(function (a, a) { return arguments[0]; })(1, 2);` is 1: an item has its own argument, also where two parameters have one name.
+pub fn an_item_has_its_own_argument()
+    ensures { value_of (t.expression (t.call (t.function (t.fun None (codes "a" ∷ codes "a" ∷ []) (body_of ((returned (t.index (t.name (codes "arguments")) (t.num (pos 0)))) ∷ [])))) (t.more_exprs (t.num (pos 1)) (t.more_exprs (t.num (pos 2)) t.no_exprs)))) ≡ Some (Num (pos 1)) }
+{}
+
+/// `(function (a, a) { arguments[1] = 4; arguments[0] = 3; return a; })(1, 2);` is 4: the last item of a name has the value of the parameter.
+pub fn the_last_item_of_a_name_is_its_parameter()
+    ensures { value_of (t.expression (t.call (t.function (t.fun None (codes "a" ∷ codes "a" ∷ []) (body_of ((t.expression (t.assign None (t.index (t.name (codes "arguments")) (t.num (pos 1))) (t.num (pos 4)))) ∷ (t.expression (t.assign None (t.index (t.name (codes "arguments")) (t.num (pos 0))) (t.num (pos 3)))) ∷ (returned (t.name (codes "a"))) ∷ [])))) (t.more_exprs (t.num (pos 1)) (t.more_exprs (t.num (pos 2)) t.no_exprs)))) ≡ Some (Num (pos 4)) }
+{}
+
 /// `(function () { return f(); function f() { return null; } })();` is null.
 pub fn a_declared_function_is_there_at_first()
     ensures { value_of (t.expression (t.call (t.function (t.fun None [] (body_of ((returned (t.call (t.name (codes "f")) t.no_exprs)) ∷ (t.declare (t.fun (Some (codes "f")) [] (body_of ((returned t.null) ∷ [])))) ∷ [])))) t.no_exprs)) ≡ Some Null }

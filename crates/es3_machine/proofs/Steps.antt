@@ -26,7 +26,7 @@ use Rattle.es3_moves.specs.declared.frame.After.TheVariants as after
 use Rattle.es3_moves.specs.declared.frame.Move.{Move}
 use Rattle.es3_moves.specs.declared.frame.Move.TheVariants as move
 use Rattle.es3_access.specs.Sizes.{size, end_size, then_size, after_size}
-use Rattle.es3_statements.specs.Again.{BeginsTurn, IsFirst}
+use Rattle.es3_nodes.specs.Again.{BeginsTurn, IsFirst}
 use Rattle.std.proofs.lemmas.Bool.{false≢true}
 use Rattle.std.proofs.lemmas.Bool.Decides.{nat_tests}
 use Rattle.std.proofs.lemmas.List.{length-append}

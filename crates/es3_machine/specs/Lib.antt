@@ -1,3 +1,4 @@
 pub mod Outcome
 pub mod Machine
 pub mod Held
+pub mod Kept

@@ -1,6 +1,6 @@
 //! The machine's loop: one move after another, each of which leaves the rest of the run as it is.
 
-ghost use Rattle.std.specs.Prelude.{◌≡◌, ◌<◌, false, IfOk};
+ghost use Rattle.std.specs.Prelude.{◌≡◌, ◌<◌, ◌≤◌, false, IfOk, length};
 ghost use Rattle.es3_tree.specs.Tree as tree;
 ghost use Rattle.es3_heap.specs.Objects.{Objects};
 ghost use Rattle.es3_language.specs.Meaning.{outermost, run_program, run_call};
@@ -19,9 +19,9 @@ use es3_moves::code::StmtCode;
 use es3_moves::frame::{After, Chain, Context, End, Env, Fault, Flow, Frame, Move};
 use es3_moves::natives::Natives;
 use es3_moves::texts::Texts;
-use es3_statements::lists::next_statement;
-use es3_statements::loops::first_node;
-use es3_statements::switch::find_case;
+use es3_nodes::lists::next_statement;
+use es3_nodes::loops::first_node;
+use es3_nodes::switch::find_case;
 use es3_statements::vars::next_var;
 use std::alloc::Global;
 use std::rc::Rc;
@@ -85,6 +85,7 @@ impl Engine {
         requires { is_over self.now now ≡ false }
         ensures same { IfOk result (λ m. run_of N.table self.new h.new (N.state natives.new) m ≡ run_of N.table self.old h.old (N.state natives.old) now) }
         ensures less { IfOk result (λ m. work self.new m < work self.old now) }
+        ensures live { length h.old.list ≤ length h.new.list }
     {
         match now {
             Move::Enter(task, frame) => {
@@ -126,7 +127,8 @@ impl Engine {
         h: &mut Heap,
         natives: &mut N,
     ) -> Result<Outcome, Memory>
-        ensures { IfOk result (λ o. ended o (store_of h.new self.new.texts) (N.state natives.new) self.new.left ≡ run_of N.table self.old h.old (N.state natives.old) first) }
+        ensures ran { IfOk result (λ o. ended o (store_of h.new self.new.texts) (N.state natives.new) self.new.left ≡ run_of N.table self.old h.old (N.state natives.old) first) }
+        ensures live { length h.old.list ≤ length h.new.list }
     {
         let mut now = first;
         'run: while !self.is_over(&now) {
@@ -158,7 +160,8 @@ impl Engine {
         natives: &mut N,
         steps: u64,
     ) -> Result<Outcome, Memory>
-        ensures { IfOk result (λ o. ended o (store_of h.new self.new.texts) (N.state natives.new) self.new.left ≡ run_program N.table (tree.script (plain_stmts program.value.items)) by (store_of h.old self.old.texts) (N.state natives.old) steps) }
+        ensures ran { IfOk result (λ o. ended o (store_of h.new self.new.texts) (N.state natives.new) self.new.left ≡ run_program N.table (tree.script (plain_stmts program.value.items)) by (store_of h.old self.old.texts) (N.state natives.old) steps) }
+        ensures live { length h.old.list ≤ length h.new.list }
     {
         self.frames = Vec::new(self.alloc);
         self.left = steps;
@@ -178,7 +181,8 @@ impl Engine {
         natives: &mut N,
         steps: u64,
     ) -> Result<Outcome, Memory>
-        ensures { IfOk result (λ o. ended o (store_of h.new self.new.texts) (N.state natives.new) self.new.left ≡ run_call N.table f this args.items by (store_of h.old self.old.texts) (N.state natives.old) steps) }
+        ensures ran { IfOk result (λ o. ended o (store_of h.new self.new.texts) (N.state natives.new) self.new.left ≡ run_call N.table f this args.items by (store_of h.old self.old.texts) (N.state natives.old) steps) }
+        ensures live { length h.old.list ≤ length h.new.list }
     {
         self.frames = Vec::new(self.alloc);
         self.left = steps;

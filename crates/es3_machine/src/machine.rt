@@ -1,10 +1,12 @@
 //! The machine, as its users see it.
 
-ghost use Rattle.std.specs.Prelude.{◌≡◌, ◌-◌, ◌≤◌, IfOk, OnErr, OnOk, None, Some};
+ghost use Rattle.std.specs.Prelude.{◌≡◌, ◌-◌, ◌≤◌, IfOk, OnErr, OnOk, None, Some, length};
 ghost use Rattle.es3_tree.specs.View as v;
 ghost use Rattle.es3_heap.specs.Objects.{Objects};
 ghost use Rattle.es3_moves.specs.Texts.{store_of};
 ghost use Rattle.es3_moves.specs.Where.{plain_flow};
+ghost use Rattle.es3_live.specs.Runs.{LiveStore};
+ghost use Rattle.es3_machine.specs.Kept.{LiveStart, LeavesLive};
 ghost use Rattle.es3_machine.specs.Machine.{a_program, a_call, completed, run_started, value_or_undefined, Ran};
 ghost use Rattle.es3_machine.specs.Held.{plain_start, started_of, store_in, new_store};
 ghost use Rattle.es3_machine.specs.Outcome.{answer_of, ended};
@@ -92,7 +94,7 @@ impl Machine {
     }
 
     /// Runs what was started, with so many steps at most. The answer is what it came to and the steps that it took, or
-    /// why it stopped for good; after it nothing is started. Where memory is wanting, nothing is told of the run.
+    /// why it stopped for good; after it nothing is started. Where memory is wanting, nothing is told of the run but that no object is gone.
     pub fn run<N: Natives>(
         &mut self,
         h: &mut Heap,
@@ -101,6 +103,8 @@ impl Machine {
     ) -> Result<(Completion, u64), Stop>
         ensures ran { Ran result (run_started N.table (started_of self.old) (store_in h.old self.old) (N.state natives.old) steps) steps (store_in h.new self.new) (N.state natives.new) }
         ensures nothing { started_of self.new ≡ None }
+        ensures live { length h.old.list ≤ length h.new.list }
+        ensures ids { N.fits (N.state natives.old) h.old → LiveStore (store_in h.old self.old) → LiveStart (length h.old.list) (started_of self.old) → LeavesLive N.fits h.old result (store_in h.new self.new) (N.state natives.new) }
     {
         let Some(start) = self.started.take() else {
             return Ok((Completion::Normal(Value::Undefined), 0));
@@ -122,6 +126,7 @@ fn run_start<N: Natives>(
 ) -> Result<Outcome, Memory>
     ensures count { OnOk result (engine.new.left ≤ steps) }
     ensures same { IfOk result (λ o. ended o (store_of h.new engine.new.texts) (N.state natives.new) engine.new.left ≡ run_started N.table (Some (plain_start start)) (store_of h.old engine.old.texts) (N.state natives.old) steps) }
+    ensures live { length h.old.list ≤ length h.new.list }
 {
     match start {
         Start::Program(program, by) => engine.run_program(program, by, h, natives, steps),

@@ -1,6 +1,6 @@
 //! Functions that are no texts: their calls, and the record of what texts touch.
 
-ghost use Rattle.std.specs.Prelude.{◌≡◌, IfOk, OnOk};
+ghost use Rattle.std.specs.Prelude.{◌≡◌, ◌≤◌, IfOk, OnOk, length};
 ghost use Rattle.es3_language.specs.Store.{Store};
 ghost use Rattle.es3_language.specs.Expressions.{note_call, apply};
 ghost use Rattle.es3_language.specs.Meaning.{task_plan, task_state, native_call};
@@ -28,6 +28,7 @@ pub fn call_native<N: Natives>(
 ) -> Result<Move, Memory>
     ensures plan { IfOk result (λ x. move_plan x (store_of h.new texts.now) ≡ task_plan N.table (native_call call.which call.this call.args.items (plain_env call.env)) (store_of h.old texts.now) (N.state natives.old)) }
     ensures state { OnOk result (N.state natives.new ≡ task_state N.table (native_call call.which call.this call.args.items (plain_env call.env)) (store_of h.old texts.now) (N.state natives.old)) }
+    ensures live { length h.old.list ≤ length h.new.list }
 {
     let NativeCall {
         which,

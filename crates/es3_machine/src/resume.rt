@@ -1,6 +1,6 @@
 //! What the machine does where a task is entered, where a node ended, and behind a record of a touch.
 
-ghost use Rattle.std.specs.Prelude.{◌≡◌, ◌<◌, IfOk, OnOk};
+ghost use Rattle.std.specs.Prelude.{◌≡◌, ◌<◌, ◌≤◌, IfOk, OnOk, length};
 ghost use Rattle.es3_language.specs.Meaning.{task_plan, task_state};
 ghost use Rattle.es3_moves.specs.Where.{plain_flow};
 ghost use Rattle.es3_moves.specs.Texts.{store_of};
@@ -11,6 +11,7 @@ ghost use Rattle.es3_access.specs.Sizes.{size, after_size};
 use crate::natives::call_native;
 use caja_units::Memory;
 use es3_calls::{apply, construct};
+use es3_endings::loops::{after_label, after_turn};
 use es3_expressions::enter::enter_expr;
 use es3_expressions::targets::{enter_target, use_target};
 use es3_expressions::uses::{use_read, use_value};
@@ -19,10 +20,9 @@ use es3_heap::Heap;
 use es3_moves::frame::{After, Flow, Frame, Move, Ref, Task};
 use es3_moves::natives::Natives;
 use es3_moves::texts::Texts;
+use es3_nodes::lists::after_statement;
 use es3_statements::enter::enter_stmt;
 use es3_statements::keys::{after_key, begin_key, key_target, write_key};
-use es3_statements::lists::after_statement;
-use es3_statements::loops::{after_label, after_turn};
 use es3_statements::values::use_effect;
 use std::alloc::Global;
 
@@ -36,6 +36,7 @@ pub fn begin<N: Natives>(
 ) -> Result<Move, Memory>
     ensures plan { IfOk result (λ x. move_plan x (store_of h.new texts.new) ≡ task_plan N.table (plain_task task) (store_of h.old texts.old) (N.state natives.old)) }
     ensures state { OnOk result (N.state natives.new ≡ task_state N.table (plain_task task) (store_of h.old texts.old) (N.state natives.old)) }
+    ensures live { length h.old.list ≤ length h.new.list }
 {
     match task {
         Task::Value(e, env) => enter_expr(alloc, &e, env, h, texts),
@@ -55,7 +56,8 @@ pub fn resume(
     h: &mut Heap,
     texts: &mut Texts,
 ) -> Result<Move, Memory>
-    ensures { IfOk result (λ x. move_plan x (store_of h.new texts.new) ≡ moves.resume frame (plain_flow flow) (store_of h.old texts.old)) }
+    ensures plan { IfOk result (λ x. move_plan x (store_of h.new texts.new) ≡ moves.resume frame (plain_flow flow) (store_of h.old texts.old)) }
+    ensures live { length h.old.list ≤ length h.new.list }
 {
     match frame {
         Frame::Value(then) => match flow {
@@ -89,6 +91,7 @@ pub fn resume(
 pub fn follow(alloc: Global, after: After, h: &mut Heap, texts: &mut Texts) -> Result<Move, Memory>
     ensures plan { IfOk result (λ x. move_plan x (store_of h.new texts.new) ≡ after_plan after (store_of h.old texts.old)) }
     ensures small { IfOk result (λ x. size x < after_size after) }
+    ensures live { length h.old.list ≤ length h.new.list }
 {
     match after {
         After::Then(then, v) => use_read(alloc, then, v, h, texts),

@@ -1,7 +1,9 @@
 //! Functions that are no texts, and what a program comes to.
 
-ghost use Rattle.std.specs.Prelude.{◌≡◌, OnOk};
+ghost use Rattle.std.specs.Prelude.{◌≡◌, ◌≤◌, OnOk, length};
+ghost use Rattle.es3_heap.specs.Objects.{Objects};
 ghost use Rattle.es3_language.specs.Natives.{Table};
+ghost use Rattle.es3_live.specs.Keeps.{KeepsLive};
 ghost use Rattle.std.specs.Option.{option_copied};
 ghost use Rattle.es3_moves.specs.Answers.{Answers};
 
@@ -38,6 +40,9 @@ pub trait Natives {
     /// What each of them does, and what a touch leaves.
     ghost table: { Table State };
 
+    /// Whether what they keep fits a store's objects: each object that they keep is one of it.
+    ghost fits: { State → Objects → Type 0 };
+
     /// A call of the native `which`, while the module `by` runs, with its receiver and its arguments.
     fn call(
         &mut self,
@@ -48,7 +53,8 @@ pub trait Natives {
         this: &Value,
         args: &[Value],
     ) -> Answer
-        ensures { Answers (table.answer which by this.now args.now h.old (state self.old)) result h.new (state self.new) };
+        ensures answers { Answers (table.answer which by this.now args.now h.old (state self.old)) result h.new (state self.new) }
+        ensures live { length h.old.list ≤ length h.new.list };
 
     /// A touch of an object with a name, by the module `by`, at a key where there is one.
     fn touch(
@@ -60,4 +66,7 @@ pub trait Natives {
         key: Option<&Units>,
     ) -> Result<(), Memory>
         ensures { OnOk result (state self.new ≡ table.touch (record { by = by; what = what; on = on; key = option_copied key.entry }) (state self.old)) };
+
+    /// What they keep names live objects alone, and goes on doing so.
+    ghost keeps_live: { KeepsLive fits table };
 }

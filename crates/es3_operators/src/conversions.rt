@@ -1,6 +1,6 @@
 //! Conversions of operands (ES3 9), and the comparisons and the sum that rest on them (11.6.1, 11.8.5, 11.9.3).
 
-ghost use Rattle.std.specs.Prelude.{◌≡◌, IfOk};
+ghost use Rattle.std.specs.Prelude.{◌≡◌, IfErr, IfOk};
 ghost use Rattle.es3_convert.specs.Conversions.{text_of, sum_of};
 ghost use Rattle.es3_convert.specs.Numbers.{number_of};
 ghost use Rattle.es3_convert.specs.Comparisons.{loosely_equal, less_of};
@@ -17,7 +17,8 @@ use std::alloc::Global;
 /// What a conversion comes to; want of memory is kept apart from what stops the run.
 fn settled<T: Drop>(r: Result<T, Stop>) -> Result<Result<T, Fault>, Memory>
     requires { TakesNoSteps r }
-    ensures { IfOk result (λ x. as_stop x ≡ r) }
+    ensures value { IfOk result (λ x. as_stop x ≡ r) }
+    ensures memory { IfErr result (λ e. r ≡ Err Stop.Memory) }
 {
     match r {
         Ok(x) => Ok(Ok(x)),

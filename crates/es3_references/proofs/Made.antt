@@ -1,5 +1,5 @@
 -- The store with the arguments object of an activation.
-use Rattle.std.proofs.Common.{◌≡◌, ℕ, ◌<◌, ◌+◌, List, [], ◌∷◌, ◌++◌, length, get_or, refl, sym, ap, ◌∙◌, Vec, Global}
+use Rattle.std.proofs.Common.{◌≡◌, ℕ, ◌<◌, ◌+◌, Bool, true, false, cond, Some, None, List, [], ◌∷◌, ◌++◌, length, get_or, refl, sym, ap, ◌∙◌, Vec, Global}
 use Rattle.std.specs.Prelude.{map, option_map, slice_get, slice_set}
 use Rattle.std.proofs.lemmas.Option.{slice_get_read, slice_get-map}
 use Rattle.caja_units.specs.Index.{number_units}
@@ -8,14 +8,14 @@ use Rattle.es3_heap.specs.declared.value.Value.TheVariants.{Obj}
 use Rattle.es3_heap.specs.Objects.{Objects}
 use Rattle.es3_language.specs.Store as s
 use Rattle.es3_language.specs.Store.{activation, with_name, scope_at, renamed}
-use Rattle.es3_language.specs.Arguments.{arguments_name, with_arguments_object, shared_items, made_for, made_at}
+use Rattle.es3_language.specs.Arguments.{arguments_name, comes_again, with_arguments_object, shared_items, made_for, made_at}
 use Rattle.es3_moves.specs.declared.texts.Closure.{Closure}
 use Rattle.es3_moves.specs.declared.texts.Owner.{Owner}
 use Rattle.es3_moves.specs.declared.texts.Scope.{Scope}
 use Rattle.es3_moves.specs.declared.texts.Shared.{Shared}
 use Rattle.es3_moves.specs.declared.texts.Texts.{Texts}
 use Rattle.es3_moves.specs.Texts.{plain_owner, plain_scope, plain_scopes, plain_code, plain_codes, plain_share, plain_shared, store_of}
-use Rattle.es3_references.specs.Shares.{shared_front}
+use Rattle.es3_references.specs.Shares.{own_parameter, item_of, shared_front}
 
 -- the functions and the arguments objects of the texts
 abbrev pub codes_in : Vec Closure Global → List s.Code
@@ -30,10 +30,14 @@ made_here h t c x w lt is own =
     ap (λ o. made_at o c (store_of h t)) (slice_get-map plain_scope t.scopes.items c ∙ ap (option_map plain_scope) (slice_get_read t.scopes.items (length t.scopes.items) c x refl lt is))
     ∙ ap (λ u. made_for (plain_owner u) c x.names (store_of h t)) own
 
+item-own : (again : Bool) (i : ℕ) (x : List ℕ) (rest : List (List ℕ × List ℕ)) → item_of i (cond again None (Some x)) ++ rest ≡ cond again rest ((number_units i, x) ∷ rest)
+item-own true i x rest = refl
+item-own false i x rest = refl
+
 front-shared : (i : ℕ) (xs : List (List ℕ)) (vs : List Value) → shared_front i xs (length vs) ≡ shared_items i xs vs
 front-shared i [] vs = refl
 front-shared i (x ∷ xs) [] = refl
-front-shared i (x ∷ xs) (v ∷ vs) = ap (λ l. (number_units i, x) ∷ l) (front-shared (i + 1) xs vs)
+front-shared i (x ∷ xs) (v ∷ vs) = ap (λ l. item_of i (own_parameter (x ∷ xs)) ++ l) (front-shared (i + 1) xs vs) ∙ item-own (comes_again x xs) i x (shared_items (i + 1) xs vs)
 
 abbrev stored : Objects → List s.Scope → List s.Code → ℕ → List s.Shared → s.Store
 stored h a b g l = record { heap = h; scopes = a; codes = b; globals = g; shared = l }

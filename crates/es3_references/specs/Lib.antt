@@ -1,2 +1,3 @@
 pub mod Owners
 pub mod Shares
+pub mod AtOnce

@@ -1,6 +1,6 @@
 //! The arguments objects of calls, whose items have the values of parameters (ES3 10.1.8).
 
-ghost use Rattle.std.specs.Prelude.{◌≡◌, ◌+◌, ◌<◌, IfOk, OnOk, is_some, length, map, position, option_map, slice_get};
+ghost use Rattle.std.specs.Prelude.{◌≡◌, ◌+◌, ◌<◌, ◌≤◌, ◌++◌, IfOk, OnOk, is_some, drop, length, map, position, option_map, slice_get};
 ghost use Rattle.caja_units.specs.Units.{same_units};
 ghost use Rattle.caja_units.specs.Index.{number_units};
 ghost use Rattle.es3_heap.specs.Objects.{hidden_attrs};
@@ -9,7 +9,7 @@ ghost use Rattle.es3_language.specs.Store.{name_value, scope_at};
 ghost use Rattle.es3_language.specs.Arguments as a;
 ghost use Rattle.es3_moves.specs.Code.{names_of};
 ghost use Rattle.es3_moves.specs.Texts.{store_of, plain_item, plain_scopes, plain_share, plain_shared};
-ghost use Rattle.es3_references.specs.Shares.{plain_parameter, item_value, shared_front, one_unshared};
+ghost use Rattle.es3_references.specs.Shares.{own_parameter, item_value, item_of, shared_front, one_unshared};
 
 use crate::members::whole;
 use caja_units::{Memory, Units};
@@ -27,7 +27,8 @@ fn put_item(
     value: &Value,
     h: &mut Heap,
 ) -> Result<(), Memory>
-    ensures { OnOk result (h.new ≡ a.put_item object key.now value.now h.old) }
+    ensures store { OnOk result (h.new ≡ a.put_item object key.now value.now h.old) }
+    ensures live { length h.old.list ≤ length h.new.list }
 {
     if h.own(object, key).is_none() {
         return Ok(());
@@ -46,7 +47,8 @@ fn put_items(
     value: &Value,
     h: &mut Heap,
 ) -> Result<(), Memory>
-    ensures { OnOk result (h.new ≡ a.put_items object (map plain_item items.now) name.now value.now h.old) }
+    ensures store { OnOk result (h.new ≡ a.put_items object (map plain_item items.now) name.now value.now h.old) }
+    ensures live { length h.old.list ≤ length h.new.list }
 {
     for item in items {
         if name.same(&item.name) {
@@ -65,7 +67,8 @@ fn put_shared(
     h: &mut Heap,
     texts: &Texts,
 ) -> Result<(), Memory>
-    ensures { OnOk result (h.new ≡ a.put_shared (plain_shared texts.now) c name.now value.now h.old) }
+    ensures store { OnOk result (h.new ≡ a.put_shared (plain_shared texts.now) c name.now value.now h.old) }
+    ensures live { length h.old.list ≤ length h.new.list }
 {
     for shared in &texts.shared {
         if shared.scope == c {
@@ -84,7 +87,8 @@ pub fn write_slot(
     h: &mut Heap,
     texts: &mut Texts,
 ) -> Result<(), Memory>
-    ensures { OnOk result (store_of h.new texts.new ≡ a.write_slot c name.now.value value (store_of h.old texts.old)) }
+    ensures store { OnOk result (store_of h.new texts.new ≡ a.write_slot c name.now.value value (store_of h.old texts.old)) }
+    ensures live { length h.old.list ≤ length h.new.list }
 {
     if texts.is_fixed(c) {
         return Ok(());
@@ -106,22 +110,18 @@ fn parameter_in<'a>(items: &'a [SharedItem], key: &Units) -> Option<&'a Rc<Units
 }
 
 /// The parameter whose value a member of an object has, with the number of its scope.
-fn parameter_of(
-    object: ObjId,
-    key: &Units,
-    texts: &Texts,
-) -> Result<Option<(u32, Rc<Units>)>, Memory>
-    ensures { IfOk result (λ p. option_map plain_parameter p ≡ a.parameter_of (plain_shared texts.now) object key.now) }
+fn parameter_of<'a>(object: ObjId, key: &Units, texts: &'a Texts) -> Option<(u32, &'a Rc<Units>)>
+    ensures { option_map (λ p. (p.0, p.1.now.value)) result ≡ a.parameter_of (plain_shared texts.now) object key.now }
 {
     for shared in &texts.shared {
         if shared.object == object {
             return match parameter_in(&shared.items, key) {
-                Some(name) => Ok(Some((shared.scope, name.clone()?))),
-                None => Ok(None),
+                Some(name) => Some((shared.scope, name)),
+                None => None,
             };
         }
     }
-    Ok(None)
+    None
 }
 
 /// A value for a member of an object (ES3 8.6.2.2, 10.1.8).
@@ -133,14 +133,16 @@ pub fn put_member(
     h: &mut Heap,
     texts: &mut Texts,
 ) -> Result<(), Memory>
-    ensures { OnOk result (store_of h.new texts.new ≡ a.put_member object key.now value (store_of h.old texts.old)) }
+    ensures store { OnOk result (store_of h.new texts.new ≡ a.put_member object key.now value (store_of h.old texts.old)) }
+    ensures live { length h.old.list ≤ length h.new.list }
 {
-    match parameter_of(object, key, texts)? {
+    match parameter_of(object, key, texts) {
         None => {
             h.put(object, key, value)?;
             Ok(())
         }
         Some((c, name)) => {
+            let name = name.clone()?;
             let copy = value.copy(alloc)?;
             h.put(object, key, copy)?;
             write_slot(alloc, c, &name, value, h, texts)
@@ -153,6 +155,7 @@ pub fn put_member(
 pub fn delete_member(object: ObjId, key: &Units, h: &mut Heap, texts: &mut Texts) -> bool
     ensures answer { result ≡ can_delete h.old object key.now }
     ensures store { store_of h.new texts.new ≡ a.delete_member object key.now (store_of h.old texts.old) }
+    ensures live { length h.old.list ≤ length h.new.list }
 {
     let goes = h.delete(object, key);
     if goes {
@@ -202,7 +205,34 @@ fn without_item(key: &Units, items: &mut Vec<SharedItem>)
     }
 }
 
-/// The value of an argument's parameter by now, or the argument behind the parameters.
+/// Whether the name of a parameter is that of one behind it too (ES3 10.1.3).
+fn comes_again(name: &Units, behind: &[Rc<Units>]) -> bool
+    ensures { result ≡ a.comes_again name.now (names_of behind.now) }
+{
+    for other in behind {
+        if name.same(other) {
+            return true;
+        }
+    }
+    false
+}
+
+/// The parameter whose value the item of an index has: none behind the parameters, and none where the name comes again.
+fn parameter_at<'a>(params: &'a [Rc<Units>], i: usize) -> Option<&'a Rc<Units>>
+    ensures { option_map (λ x. x.now.value) result ≡ own_parameter (drop i (names_of params.now)) }
+{
+    if i >= params.len() {
+        return None;
+    }
+    let name = &params[i];
+    if comes_again(name, &params[i + 1..]) {
+        None
+    } else {
+        Some(name)
+    }
+}
+
+/// The value of an argument's parameter by now, or the argument where its item has the value of none.
 fn item_value(
     alloc: Global,
     params: &[Rc<Units>],
@@ -212,12 +242,12 @@ fn item_value(
 ) -> Result<Value, Memory>
     ensures { IfOk result (λ v. v ≡ item_value (names_of params.now) i arg.now names.now) }
 {
-    if i >= params.len() {
-        return arg.copy(alloc);
-    }
-    match names.get(&params[i]) {
-        Some(v) => v.copy(alloc),
+    match parameter_at(params, i) {
         None => arg.copy(alloc),
+        Some(name) => match names.get(name) {
+            Some(v) => v.copy(alloc),
+            None => arg.copy(alloc),
+        },
     }
 }
 
@@ -231,7 +261,8 @@ fn define_item(
     names: &Names,
     h: &mut Heap,
 ) -> Result<(), Memory>
-    ensures { OnOk result (h.new ≡ define h.old object (number_units i) (item_value (names_of params.now) i arg.now names.now) hidden_attrs) }
+    ensures store { OnOk result (h.new ≡ define h.old object (number_units i) (item_value (names_of params.now) i arg.now names.now) hidden_attrs) }
+    ensures live { length h.old.list ≤ length h.new.list }
 {
     let value = item_value(alloc, params, i, arg, names)?;
     let key = index_key(alloc, i as u64)?;
@@ -249,7 +280,8 @@ fn define_items(
     names: &Names,
     h: &mut Heap,
 ) -> Result<(), Memory>
-    ensures { OnOk result (h.new ≡ a.with_items object 0 (names_of params.now) args.now names.now h.old) }
+    ensures store { OnOk result (h.new ≡ a.with_items object 0 (names_of params.now) args.now names.now h.old) }
+    ensures live { length h.old.list ≤ length h.new.list }
 {
     for (i, arg) in args.iter().enumerate() {
         define_item(alloc, object, params, i, arg, names, h)?;
@@ -268,6 +300,7 @@ fn make_object(
 ) -> Result<ObjId, Memory>
     ensures id { IfOk result (λ o. o ≡ length h.old.list) }
     ensures store { OnOk result (h.new ≡ a.with_arguments_object callee.now (names_of params.now) args.now names.now h.old) }
+    ensures live { length h.old.list ≤ length h.new.list }
 {
     if args.len() >= 4_294_967_296 {
         return Err(Memory);
@@ -293,7 +326,22 @@ fn shared_item(alloc: Global, i: usize, name: &Rc<Units>) -> Result<SharedItem, 
     Ok(SharedItem { key, name })
 }
 
-/// The items that have the values of parameters.
+/// The item of an index, if it has the value of a parameter, behind the others.
+fn push_item(
+    alloc: Global,
+    params: &[Rc<Units>],
+    i: usize,
+    items: &mut Vec<SharedItem>,
+) -> Result<(), Memory>
+    ensures { OnOk result (map plain_item items.new.items ≡ map plain_item items.old.items ++ item_of i (own_parameter (drop i (names_of params.now)))) }
+{
+    if let Some(name) = parameter_at(params, i) {
+        items.push(shared_item(alloc, i, name)?)?;
+    }
+    Ok(())
+}
+
+/// The items that have the values of parameters, as many parameters as there are arguments.
 #[tactic(auto, using(crate::proofs::Sharing::front_more, crate::proofs::Sharing::front_full, crate::proofs::Sharing::front_done))]
 fn shared_items(
     alloc: Global,
@@ -303,11 +351,11 @@ fn shared_items(
     ensures { IfOk result (λ items. map plain_item items.items ≡ shared_front 0 (names_of params.now) count) }
 {
     let mut items = Vec::new(alloc);
-    for (i, name) in params.iter().enumerate() {
+    for i in 0..params.len() {
         if i >= count {
             return Ok(items);
         }
-        items.push(shared_item(alloc, i, name)?)?;
+        push_item(alloc, params, i, &mut items)?;
     }
     Ok(items)
 }
@@ -315,7 +363,8 @@ fn shared_items(
 /// Makes the arguments object of an activation, which is the next object, and binds it to its name, unless the name is bound
 /// by now.
 pub fn make_arguments(alloc: Global, c: u32, h: &mut Heap, texts: &mut Texts) -> Result<(), Memory>
-    ensures { OnOk result (store_of h.new texts.new ≡ a.with_arguments c (store_of h.old texts.old)) }
+    ensures store { OnOk result (store_of h.new texts.new ≡ a.with_arguments c (store_of h.old texts.old)) }
+    ensures live { length h.old.list ≤ length h.new.list }
 {
     if has_arguments(c, texts) {
         return Ok(());
@@ -332,7 +381,8 @@ fn has_arguments(c: u32, texts: &Texts) -> bool
 
 /// Makes the arguments object of an activation, and binds it to its name.
 fn bind_arguments(alloc: Global, c: u32, h: &mut Heap, texts: &mut Texts) -> Result<(), Memory>
-    ensures { OnOk result (store_of h.new texts.new ≡ a.made_at (slice_get (plain_scopes texts.old) c) c (store_of h.old texts.old)) }
+    ensures store { OnOk result (store_of h.new texts.new ≡ a.made_at (slice_get (plain_scopes texts.old) c) c (store_of h.old texts.old)) }
+    ensures live { length h.old.list ≤ length h.new.list }
 {
     let at = c as usize;
     if at >= texts.scopes.len() {

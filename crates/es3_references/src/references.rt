@@ -1,10 +1,11 @@
 //! Reading, writing and deleting what a reference stands for (ES3 8.7.1, 8.7.2, 11.4.1).
 
-ghost use Rattle.std.specs.Prelude.{◌≡◌, IfOk, OnOk, slice_get};
+ghost use Rattle.std.specs.Prelude.{◌≡◌, ◌≤◌, IfOk, IsOk, OnOk, length, slice_get};
 ghost use Rattle.es3_language.specs.Store.{name_value, scope_at};
 ghost use Rattle.es3_language.specs.References as r;
 ghost use Rattle.es3_moves.specs.Where.{plain_ref};
 ghost use Rattle.es3_moves.specs.Texts.{store_of, plain_scopes};
+ghost use Rattle.es3_references.specs.AtOnce.{IsNotWritten, IsDeletedAtOnce};
 
 use crate::arguments::{delete_member, put_member, write_slot};
 use crate::members::get_member;
@@ -68,7 +69,9 @@ pub fn write(
     h: &mut Heap,
     texts: &mut Texts,
 ) -> Result<(), Memory>
-    ensures { OnOk result (store_of h.new texts.new ≡ r.write (plain_ref reference.now) v (store_of h.old texts.old)) }
+    ensures store { OnOk result (store_of h.new texts.new ≡ r.write (plain_ref reference.now) v (store_of h.old texts.old)) }
+    ensures sure { IsNotWritten (plain_ref reference.now) → IsOk result }
+    ensures live { length h.old.list ≤ length h.new.list }
 {
     match reference {
         Ref::Unresolved(name) => {
@@ -99,7 +102,9 @@ fn write_member(
     h: &mut Heap,
     texts: &mut Texts,
 ) -> Result<(), Memory>
-    ensures { OnOk result (store_of h.new texts.new ≡ r.write (r.member base.now key.now) v (store_of h.old texts.old)) }
+    ensures store { OnOk result (store_of h.new texts.new ≡ r.write (r.member base.now key.now) v (store_of h.old texts.old)) }
+    ensures sure { IsNotWritten (r.member base.now key.now) → IsOk result }
+    ensures live { length h.old.list ≤ length h.new.list }
 {
     match base {
         Value::Obj(o) => put_member(alloc, *o, key, v, h, texts),
@@ -120,6 +125,8 @@ pub fn delete(
 ) -> Result<bool, Memory>
     ensures answer { IfOk result (λ b. b ≡ r.may_go (plain_ref reference.now) (store_of h.old texts.old)) }
     ensures store { OnOk result (store_of h.new texts.new ≡ r.deleted (plain_ref reference.now) (store_of h.old texts.old)) }
+    ensures sure { IsDeletedAtOnce (plain_ref reference.now) → IsOk result }
+    ensures live { length h.old.list ≤ length h.new.list }
 {
     match reference {
         Ref::Slot(_, _) => Ok(false),
@@ -142,6 +149,8 @@ fn delete_of(
 ) -> Result<bool, Memory>
     ensures answer { IfOk result (λ b. b ≡ r.may_go (r.member base.now key.now) (store_of h.old texts.old)) }
     ensures store { OnOk result (store_of h.new texts.new ≡ r.deleted (r.member base.now key.now) (store_of h.old texts.old)) }
+    ensures sure { IsDeletedAtOnce (r.member base.now key.now) → IsOk result }
+    ensures live { length h.old.list ≤ length h.new.list }
 {
     match base {
         Value::Obj(o) => Ok(delete_member(*o, key, h, texts)),

@@ -25,8 +25,12 @@ GuardAnswers row (Value x) heap = row ≡ record { reply = value_reply x; heap =
 GuardAnswers row (Throw x) heap = row ≡ record { reply = throw_reply x; heap = heap }
 GuardAnswers row (Stops s) heap = Stopped row s heap
 
--- the same of a guard's outcome or the stop in its place
+-- the answer for a guard's outcome, or for the stop in its place
+abbrev pub guarded : Result Outcome Stop → Guarded
+guarded (Ok (outcome.Value x)) = Value x
+guarded (Ok (outcome.Throw x)) = Throw x
+guarded (Err s) = Stops s
+
+-- what a guard's outcome is, or the stop in its place
 abbrev pub ComesTo : Row → Result Outcome Stop → Objects → Type 0
-ComesTo row (Ok (outcome.Value x)) heap = row ≡ record { reply = value_reply x; heap = heap }
-ComesTo row (Ok (outcome.Throw x)) heap = row ≡ record { reply = throw_reply x; heap = heap }
-ComesTo row (Err s) heap = Stopped row s heap
+ComesTo row r heap = GuardAnswers row (guarded r) heap

@@ -1,8 +1,11 @@
 //! The guards that a rewritten module calls, each a function of the running module, its arguments and the store.
 #![tactic(auto)]
 
+ghost use Rattle.std.specs.Prelude.{◌≤◌, length};
 ghost use Rattle.guard_runtime.specs.Guards.{guard, initialize_map, read_pub};
+ghost use Rattle.es3_live.specs.Live.{AreClosed};
 ghost use Rattle.guard_runtime.specs.Answers.{GuardAnswers, ComesTo};
+ghost use Rattle.guard_runtime.specs.Live.{LeavesLive};
 
 mod map;
 mod read;
@@ -21,7 +24,8 @@ const READ_PUB: u32 = 7;
 
 /// What the guard of a number comes to.
 fn outcome(alloc: Global, h: &mut Heap, row: u32, by: u32, args: &[Value]) -> Result<Outcome, Stop>
-    ensures { ComesTo (guard row by args.now h.old) result h.new }
+    ensures outcome { ComesTo (guard row by args.now h.old) result h.new }
+    ensures live { length h.old.list ≤ length h.new.list }
 {
     let absent = Value::Undefined;
     let first = argument_or(args, 0, &absent);
@@ -36,7 +40,9 @@ fn outcome(alloc: Global, h: &mut Heap, row: u32, by: u32, args: &[Value]) -> Re
 /// A call of the guard of a number, while the module `by` runs: 5 is `initializeMap`, 7 is `readPub`, and another throws
 /// a TypeError `not a function`. An absent argument is undefined, and a new error or record takes the module's next name.
 pub fn guard_row(alloc: Global, h: &mut Heap, row: u32, by: u32, args: &[Value]) -> Guarded
-    ensures { GuardAnswers (guard row by args.now h.old) result h.new }
+    ensures answer { GuardAnswers (guard row by args.now h.old) result h.new }
+    ensures live { length h.old.list ≤ length h.new.list }
+    ensures ids { AreClosed h.old → LeavesLive result h.new }
 {
     answer_of(outcome(alloc, h, row, by, args))
 }
@@ -44,7 +50,9 @@ pub fn guard_row(alloc: Global, h: &mut Heap, row: u32, by: u32, args: &[Value])
 /// `initializeMap(l)`: a new record of the items of an array, keys and values in turn (ES3 11.1.5). It throws a TypeError
 /// `bad argument` where `l` is no array, and the run stops where a key has no text.
 pub fn initialize_map(alloc: Global, h: &mut Heap, by: u32, l: &Value) -> Guarded
-    ensures { GuardAnswers (initialize_map by l.now h.old) result h.new }
+    ensures answer { GuardAnswers (initialize_map by l.now h.old) result h.new }
+    ensures live { length h.old.list ≤ length h.new.list }
+    ensures ids { AreClosed h.old → LeavesLive result h.new }
 {
     answer_of(map::initialize_map(alloc, h, by, l))
 }
@@ -52,7 +60,9 @@ pub fn initialize_map(alloc: Global, h: &mut Heap, by: u32, l: &Value) -> Guarde
 /// `readPub(o, k)`: the value of a public property, undefined where there is none. It throws a TypeError `no object` where
 /// `o` is undefined or null, and the run stops where the key has no text.
 pub fn read_public(alloc: Global, h: &mut Heap, by: u32, o: &Value, k: &Value) -> Guarded
-    ensures { GuardAnswers (read_pub by o.now k.now h.old) result h.new }
+    ensures answer { GuardAnswers (read_pub by o.now k.now h.old) result h.new }
+    ensures live { length h.old.list ≤ length h.new.list }
+    ensures ids { AreClosed h.old → LeavesLive result h.new }
 {
     answer_of(read::read_public(alloc, h, by, o, k))
 }

@@ -1,6 +1,6 @@
 //! Records of the items of an array.
 
-ghost use Rattle.std.specs.Prelude.{◌≡◌, ◌++◌, ◌∷◌, [], IfOk, OnOk, MatchResult, length};
+ghost use Rattle.std.specs.Prelude.{◌≡◌, ◌≤◌, ◌++◌, ◌∷◌, [], IfOk, OnOk, MatchResult, length};
 ghost use Rattle.es3_heap.specs.Objects.{object_at, class_of};
 ghost use Rattle.es3_heap.specs.Making.{proto_id, made};
 ghost use Rattle.es3_convert.specs.Answers.{Answers};
@@ -50,7 +50,8 @@ fn keyed(alloc: Global, h: &Heap, items: &[Value]) -> Result<Vec<(Units, Value)>
 
 /// Gives an object these keys and values.
 fn define_pairs(h: &mut Heap, o: ObjId, pairs: Vec<(Units, Value)>) -> Result<(), Memory>
-    ensures { OnOk result (h.new ≡ with_pairs pairs.items o h.old) }
+    ensures store { OnOk result (h.new ≡ with_pairs pairs.items o h.old) }
+    ensures live { length h.new.list ≡ length h.old.list }
 {
     for (key, value) in pairs {
         h.define(o, &key, value, Attrs::PLAIN)?;
@@ -62,6 +63,7 @@ fn define_pairs(h: &mut Heap, o: ObjId, pairs: Vec<(Units, Value)>) -> Result<()
 fn empty_record(h: &mut Heap) -> Result<ObjId, Memory>
     ensures id { IfOk result (λ o. o ≡ length h.old.list) }
     ensures store { OnOk result (h.new ≡ made Class.Object (Some (proto_id Proto.Object)) h.old) }
+    ensures live { length h.old.list ≤ length h.new.list }
 {
     let proto = h.proto(Proto::Object);
     h.make(Class::Object, Some(proto))
@@ -69,7 +71,8 @@ fn empty_record(h: &mut Heap) -> Result<ObjId, Memory>
 
 /// A new record of the items of an array, made by the running module.
 fn new_record(alloc: Global, h: &mut Heap, by: u32, l: ObjId) -> Result<Outcome, Stop>
-    ensures { ComesTo (new_record by h.old (keyed h.old (array_items h.old l))) result h.new }
+    ensures outcome { ComesTo (new_record by h.old (keyed h.old (array_items h.old l))) result h.new }
+    ensures live { length h.old.list ≤ length h.new.list }
 {
     let items = array_items(alloc, h, l).map_err(out_of_memory)?;
     let pairs = keyed(alloc, h, &items)?;
@@ -81,7 +84,8 @@ fn new_record(alloc: Global, h: &mut Heap, by: u32, l: ObjId) -> Result<Outcome,
 
 /// A new record of the items of an object, which is to be an array.
 fn record_of(alloc: Global, h: &mut Heap, by: u32, l: ObjId) -> Result<Outcome, Stop>
-    ensures { ComesTo (record_of (class_of (object_at h.old l)) l by h.old) result h.new }
+    ensures outcome { ComesTo (record_of (class_of (object_at h.old l)) l by h.old) result h.new }
+    ensures live { length h.old.list ≤ length h.new.list }
 {
     match h.class(l) {
         Class::Array => new_record(alloc, h, by, l),
@@ -91,7 +95,8 @@ fn record_of(alloc: Global, h: &mut Heap, by: u32, l: ObjId) -> Result<Outcome, 
 
 /// The guard `initializeMap`.
 pub fn initialize_map(alloc: Global, h: &mut Heap, by: u32, l: &Value) -> Result<Outcome, Stop>
-    ensures { ComesTo (initialize_map by l.now h.old) result h.new }
+    ensures outcome { ComesTo (initialize_map by l.now h.old) result h.new }
+    ensures live { length h.old.list ≤ length h.new.list }
 {
     match l {
         Value::Obj(o) => record_of(alloc, h, by, *o),

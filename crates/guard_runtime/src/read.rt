@@ -1,6 +1,6 @@
 //! The public properties of values.
 
-ghost use Rattle.std.specs.Prelude.{◌≡◌, IfOk, length, pos};
+ghost use Rattle.std.specs.Prelude.{◌≡◌, ◌≤◌, IfOk, length, pos};
 ghost use Rattle.caja_units.specs.Units.{same_units};
 ghost use Rattle.caja_units.specs.Index.{array_index};
 ghost use Rattle.es3_heap.specs.Objects.{object_at, class_of};
@@ -81,7 +81,8 @@ pub fn read_public(
     x: &Value,
     k: &Value,
 ) -> Result<Outcome, Stop>
-    ensures { ComesTo (read_pub by x.now k.now h.old) result h.new }
+    ensures outcome { ComesTo (read_pub by x.now k.now h.old) result h.new }
+    ensures live { length h.old.list ≤ length h.new.list }
 {
     match x {
         Value::Undefined | Value::Null => thrown(alloc, h, by, b"no object"),

@@ -1,9 +1,8 @@
 //! What a guard answers, and what its errors are.
 
-ghost use Rattle.std.specs.Prelude.{◌≡◌, IfOk, OnOk, length, unwrap_or, slice_get};
-ghost use Rattle.guard_runtime.specs.Guards.{Row, thrown};
-ghost use Rattle.guard_runtime.specs.Answers.{GuardAnswers, ComesTo};
-ghost use Rattle.es3_heap.specs.Objects.{Objects};
+ghost use Rattle.std.specs.Prelude.{◌≡◌, ◌≤◌, IfOk, OnOk, length, unwrap_or, slice_get};
+ghost use Rattle.guard_runtime.specs.Guards.{thrown};
+ghost use Rattle.guard_runtime.specs.Answers.{guarded, ComesTo};
 
 use caja_units::{Memory, Units};
 use es3_convert::out_of_memory;
@@ -29,7 +28,7 @@ pub enum Outcome {
 
 /// The answer for what a guard came to.
 pub fn answer_of(outcome: Result<Outcome, Stop>) -> Guarded
-    ensures { (row : Row) (heap : Objects) → ComesTo row outcome heap → GuardAnswers row result heap }
+    ensures { result ≡ guarded outcome }
 {
     match outcome {
         Ok(Outcome::Value(x)) => Guarded::Value(x),
@@ -52,6 +51,7 @@ pub fn argument_or<'a>(args: &'a [Value], n: usize, absent: &'a Value) -> &'a Va
 fn type_error(alloc: Global, h: &mut Heap, by: u32, message: &[u8]) -> Result<ObjId, Memory>
     ensures id { IfOk result (λ o. o ≡ length h.old.list) }
     ensures store { OnOk result (h.new ≡ (thrown message.now by h.old).heap) }
+    ensures live { length h.old.list ≤ length h.new.list }
 {
     let name = Units::from_ascii(alloc, b"TypeError")?;
     let message = Units::from_ascii(alloc, message)?;
@@ -62,7 +62,8 @@ fn type_error(alloc: Global, h: &mut Heap, by: u32, message: &[u8]) -> Result<Ob
 
 /// Throws a new TypeError with this message, made by the running module.
 pub fn thrown(alloc: Global, h: &mut Heap, by: u32, message: &[u8]) -> Result<Outcome, Stop>
-    ensures { ComesTo (thrown message.now by h.old) result h.new }
+    ensures outcome { ComesTo (thrown message.now by h.old) result h.new }
+    ensures live { length h.old.list ≤ length h.new.list }
 {
     let error = type_error(alloc, h, by, message).map_err(out_of_memory)?;
     Ok(Outcome::Throw(Value::Obj(error)))

@@ -1,5 +1,5 @@
 -- The natives of a page, and what a module's program comes to among them.
-use Rattle.std.specs.Prelude.{ℕ, List, [], ◌∷◌, false, codes, nat_eq, if◌then◌else◌}
+use Rattle.std.specs.Prelude.{ℕ, ◌<◌, length, List, [], ◌∷◌, false, codes, nat_eq, if◌then◌else◌}
 use Rattle.es3_tree.specs.Tree as t
 use Rattle.es3_heap.specs.declared.value.Value.{Value}
 use Rattle.es3_heap.specs.declared.value.Value.TheVariants.{Undefined, Obj}
@@ -9,6 +9,10 @@ use Rattle.es3_heap.specs.Objects.{Objects, object_at, class_of}
 use Rattle.es3_language.specs.Store.{Store}
 use Rattle.es3_language.specs.Natives.{invoke_reply, Turn, Table}
 use Rattle.es3_language.specs.Meaning.{Run, run_program}
+use Rattle.es3_moves.specs.declared.natives.Answer.{Answer}
+use Rattle.es3_moves.specs.declared.natives.Answer.TheVariants as answer
+use Rattle.guard_runtime.specs.declared.reply.Guarded.{Guarded}
+use Rattle.guard_runtime.specs.declared.reply.Guarded.TheVariants as guarded
 use Rattle.guard_runtime.specs.Guards.{Row, guard, thrown}
 use Rattle.module_loader.specs.declared.natives.PageNatives.{PageNatives}
 use Rattle.module_loader.specs.Opened.{load_module, opened, runtime_id, imports_id, globals_id}
@@ -20,6 +24,16 @@ pub record Kept : Type 0 where
 
 abbrev pub kept_of : PageNatives → Kept
 kept_of n = record { runtime = n.runtime; imports = n.imports }
+
+-- what is kept fits a store's objects: both are there
+abbrev pub kept_fits : Kept → Objects → Type 0
+kept_fits z h = (z.runtime < length h.list) × (z.imports < length h.list)
+
+-- a guard's answer, as that of a native
+abbrev pub answered : Guarded → Answer
+answered (guarded.Value x) = answer.Value x
+answered (guarded.Throw x) = answer.Throw x
+answered (guarded.Stop s) = answer.Stop s
 
 abbrev pub turn_of : Row → Kept → Turn Kept
 turn_of r z = record { reply = r.reply; heap = r.heap; state = z }

@@ -1,11 +1,11 @@
 //! The natives of a page.
 
-ghost use Rattle.std.specs.Prelude.{IfOk, codes};
+ghost use Rattle.std.specs.Prelude.{◌≡◌, ◌≤◌, IfOk, codes, length};
 ghost use Rattle.es3_heap.specs.Objects.{Objects, object_at, class_of};
 ghost use Rattle.es3_moves.specs.Answers.{Answers};
-ghost use Rattle.guard_runtime.specs.Answers.{GuardAnswers};
-ghost use Rattle.guard_runtime.specs.Guards.{Row, guard, thrown};
-ghost use Rattle.module_loader.specs.Page.{Kept, kept_of, turn_of, module_turn, loads, load_answer, page_table};
+ghost use Rattle.guard_runtime.specs.Guards.{guard, thrown};
+ghost use Rattle.module_loader.specs.Keeps.{page_keeps_live};
+ghost use Rattle.module_loader.specs.Page.{Kept, answered, kept_of, kept_fits, turn_of, module_turn, loads, load_answer, page_table};
 
 use crate::opening::LOAD_MODULE;
 use caja_units::{Memory, Units};
@@ -24,7 +24,7 @@ pub struct PageNatives {
 
 /// A guard's answer as that of a native.
 fn answer_of(guarded: Guarded) -> Answer
-    ensures { (row : Row) (kept : Kept) (heap : Objects) → GuardAnswers row guarded heap → Answers (turn_of row kept) result heap kept }
+    ensures { result ≡ answered guarded }
 {
     match guarded {
         Guarded::Value(v) => Answer::Value(v),
@@ -42,7 +42,8 @@ fn ask(
     by: u32,
     args: &[Value],
 ) -> Answer
-    ensures { Answers (turn_of (guard row by args.now heap.old) (kept_of natives.now)) result heap.new (kept_of natives.now) }
+    ensures answers { Answers (turn_of (guard row by args.now heap.old) (kept_of natives.now)) result heap.new (kept_of natives.now) }
+    ensures live { length heap.old.list ≤ length heap.new.list }
 {
     let _ = natives;
     answer_of(guard_row(alloc, heap, row, by, args))
@@ -50,7 +51,8 @@ fn ask(
 
 /// Throws that what was to be called is no function.
 fn not_a_function(natives: &PageNatives, alloc: Global, heap: &mut Heap, by: u32) -> Answer
-    ensures { Answers (turn_of (thrown (codes "not a function") by heap.old) (kept_of natives.now)) result heap.new (kept_of natives.now) }
+    ensures answers { Answers (turn_of (thrown (codes "not a function") by heap.old) (kept_of natives.now)) result heap.new (kept_of natives.now) }
+    ensures live { length heap.old.list ≤ length heap.new.list }
 {
     ask(natives, alloc, heap, LOAD_MODULE, by, &[])
 }
@@ -73,7 +75,8 @@ fn load_object(
     by: u32,
     callee: ObjId,
 ) -> Answer
-    ensures { Answers (loads (class_of (object_at heap.old callee)) callee by heap.old (kept_of natives.now)) result heap.new (kept_of natives.now) }
+    ensures answers { Answers (loads (class_of (object_at heap.old callee)) callee by heap.old (kept_of natives.now)) result heap.new (kept_of natives.now) }
+    ensures live { length heap.old.list ≤ length heap.new.list }
 {
     match heap.class(callee) {
         Class::Function => {
@@ -85,7 +88,8 @@ fn load_object(
 
 /// `loadModule`, by the value that it is called with.
 fn load(natives: &PageNatives, alloc: Global, heap: &mut Heap, by: u32, callee: &Value) -> Answer
-    ensures { Answers (load_answer callee.now by heap.old (kept_of natives.now)) result heap.new (kept_of natives.now) }
+    ensures answers { Answers (load_answer callee.now by heap.old (kept_of natives.now)) result heap.new (kept_of natives.now) }
+    ensures live { length heap.old.list ≤ length heap.new.list }
 {
     match callee {
         Value::Obj(o) => load_object(natives, alloc, heap, by, *o),
@@ -99,6 +103,8 @@ impl Natives for PageNatives {
     ghost state = { kept_of };
 
     ghost table = { page_table };
+
+    ghost fits = { kept_fits };
 
     fn call(
         &mut self,
@@ -127,4 +133,6 @@ impl Natives for PageNatives {
     ) -> Result<(), Memory> {
         Ok(())
     }
+
+    ghost keeps_live = { page_keeps_live };
 }

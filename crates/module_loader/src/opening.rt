@@ -1,6 +1,6 @@
 //! The store that a module of a page begins in.
 
-ghost use Rattle.std.specs.Prelude.{◌≡◌, IfOk, OnOk};
+ghost use Rattle.std.specs.Prelude.{◌≡◌, ◌≤◌, IfOk, OnOk, length};
 ghost use Rattle.es3_heap.specs.Properties.{define};
 ghost use Rattle.module_loader.specs.Opened.{opened, with_guard, with_guards, runtime_id, imports_id, globals_id};
 
@@ -31,7 +31,8 @@ pub struct Opened {
 
 /// Gives an object a hidden property.
 fn hide(alloc: Global, heap: &mut Heap, o: ObjId, name: &[u8], value: Value) -> Result<(), Memory>
-    ensures { OnOk result (heap.new ≡ define heap.old o name.now value Attrs.HIDDEN) }
+    ensures store { OnOk result (heap.new ≡ define heap.old o name.now value Attrs.HIDDEN) }
+    ensures live { length heap.old.list ≤ length heap.new.list }
 {
     let key = Units::from_ascii(alloc, name)?;
     heap.define(o, &key, value, Attrs::HIDDEN)
@@ -45,7 +46,8 @@ fn add_guard(
     row: u32,
     runtime: ObjId,
 ) -> Result<(), Memory>
-    ensures { OnOk result (heap.new ≡ with_guard name.now row runtime heap.old) }
+    ensures store { OnOk result (heap.new ≡ with_guard name.now row runtime heap.old) }
+    ensures live { length heap.old.list ≤ length heap.new.list }
 {
     let guard = heap.make_func(FuncKind::Simple(row), 0)?;
     hide(alloc, heap, runtime, name, Value::Obj(guard))
@@ -53,7 +55,8 @@ fn add_guard(
 
 /// Gives the object of the runtime the guards that there are.
 fn add_guards(alloc: Global, heap: &mut Heap, runtime: ObjId) -> Result<(), Memory>
-    ensures { OnOk result (heap.new ≡ with_guards runtime heap.old) }
+    ensures store { OnOk result (heap.new ≡ with_guards runtime heap.old) }
+    ensures live { length heap.old.list ≤ length heap.new.list }
 {
     add_guard(alloc, heap, b"loadModule", LOAD_MODULE, runtime)?;
     add_guard(alloc, heap, b"initializeMap", INITIALIZE_MAP, runtime)?;

@@ -7,6 +7,7 @@ ghost use Rattle.es3_language.specs.Store.{Store};
 ghost use Rattle.es3_machine.specs.Held.{new_store};
 ghost use Rattle.es3_machine.specs.Machine.{Ran};
 ghost use Rattle.page_runner.specs.Log.{run_log, run_end};
+ghost use Rattle.page_runner.specs.Shown.{ShowsAtOnce};
 
 use crate::log::completion_line;
 use crate::{End, Outcome};
@@ -48,6 +49,7 @@ fn shown<N: Natives>(
 ) -> Result<Outcome, Memory>
     ensures log { IfOk result (λ o. (r : Run N.State) (steps : ℕ) (s : Store) (z : N.State) → s.heap ≡ heap.now → Ran answer r steps s z → o.log.items ≡ run_log r) }
     ensures end { IfOk result (λ o. (r : Run N.State) (steps : ℕ) (s : Store) (z : N.State) → Ran answer r steps s z → o.end ≡ run_end r) }
+    ensures at_once { ShowsAtOnce answer result }
 {
     match answer {
         Ok((completion, _taken)) => {

@@ -2,6 +2,8 @@
 
 ghost use Rattle.std.specs.Prelude.{◌≡◌, IfOk, ⊤};
 ghost use Rattle.es3_tree.specs.View.{program};
+ghost use Rattle.es3_kept.specs.Kept.{AlwaysFits};
+ghost use Rattle.es3_kept.proofs.Rows.{throwing_keeps};
 ghost use Rattle.page_runner.specs.Text.{text_objects, text_globals, no_natives, text_log, text_end};
 
 use crate::Outcome;
@@ -32,6 +34,8 @@ impl Natives for NoNatives {
 
     ghost table = { no_natives };
 
+    ghost fits = { AlwaysFits };
+
     fn call(
         &mut self,
         _alloc: Global,
@@ -54,6 +58,8 @@ impl Natives for NoNatives {
     ) -> Result<(), Memory> {
         Ok(())
     }
+
+    ghost keeps_live = { throwing_keeps };
 }
 
 /// The store that a text begins in, and the global object in it, whose only name is `undefined` (ES3 15.1.1.3).

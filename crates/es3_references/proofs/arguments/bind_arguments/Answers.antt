@@ -10,8 +10,8 @@ use Rattle.es3_references.specs.Shares.{shared_front}
 use Rattle.es3_references.proofs.Made.{shares_in, made_here, made_bound}
 use Rattle.es3_references.proofs.arguments.bind_arguments.Goals as goal
 
-pub returns-in_ok-name-in-Activation : goal.returns-in_ok-name-in-Activation
-returns-in_ok-name-in-Activation c =
+pub returns-in_ok-name-in-Activation-clause-store : goal.returns-in_ok-name-in-Activation-clause-store
+returns-in_ok-name-in-Activation-clause-store c =
     let h = c.args.h.now in
     let t = c.args.texts.now in
     let f = c.in-Activation.callee in
@@ -35,11 +35,11 @@ returns-in_ok-name-in-Activation c =
     let pushed = ap (λ l. map plain_share l) c.in_ok-push-in-Activation.ensures.items ∙ map-append plain_share t.shared.items (record { object = o; scope = c.args.c; items = c.in_ok-items-in-Activation.items } ∷ []) in
     on_ok_weaker c.put.result (λ bound. made_bound h c.make_object.new.h t c.put.new.self c.args.c o f xs vs.items x.names c.in_ok-name-in-Activation.name.value items here (c.in_ok-name-in-Activation.ensures.cases ∙ t.named) c.in_ok-object-in-Activation.ensures.id made fronts bound c.put.ensures.functions c.put.ensures.globals (ap shares_in c.put.ensures.shared ∙ pushed)) c.put.ensures.scopes
 
-pub returns-in-OwnName : goal.returns-in-OwnName
-returns-in-OwnName c = sym (made_here c.args.h.now c.args.texts.now c.args.c c.index-scope.result.now OwnName (omega arith) c.index-scope.ensures c.in-OwnName.is)
+pub returns-in-OwnName-clause-store : goal.returns-in-OwnName-clause-store
+returns-in-OwnName-clause-store c = sym (made_here c.args.h.now c.args.texts.now c.args.c c.index-scope.result.now OwnName (omega arith) c.index-scope.ensures c.in-OwnName.is)
 
-pub returns-in-Caught : goal.returns-in-Caught
-returns-in-Caught c = sym (made_here c.args.h.now c.args.texts.now c.args.c c.index-scope.result.now Caught (omega arith) c.index-scope.ensures c.in-Caught.is)
+pub returns-in-Caught-clause-store : goal.returns-in-Caught-clause-store
+returns-in-Caught-clause-store c = sym (made_here c.args.h.now c.args.texts.now c.args.c c.index-scope.result.now Caught (omega arith) c.index-scope.ensures c.in-Caught.is)
 
-pub returns-in-WithObject : goal.returns-in-WithObject
-returns-in-WithObject c = sym (made_here c.args.h.now c.args.texts.now c.args.c c.index-scope.result.now (WithObject c.in-WithObject.field-0) (omega arith) c.index-scope.ensures c.in-WithObject.is)
+pub returns-in-WithObject-clause-store : goal.returns-in-WithObject-clause-store
+returns-in-WithObject-clause-store c = sym (made_here c.args.h.now c.args.texts.now c.args.c c.index-scope.result.now (WithObject c.in-WithObject.field-0) (omega arith) c.index-scope.ensures c.in-WithObject.is)

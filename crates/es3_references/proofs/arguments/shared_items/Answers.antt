@@ -1,8 +1,6 @@
-use Rattle.std.proofs.Common.{◌<◌, ◌++◌, [], ◌∷◌, length, ap, sym, ◌∙◌, arith}
+use Rattle.std.proofs.Common.{arith}
 use Rattle.std.specs.Prelude.{map}
-use Rattle.std.proofs.lemmas.List.{map-append, length-map, get_or-map}
-use Rattle.caja_units.specs.Index.{number_units}
-use Rattle.es3_moves.specs.Code.{names_of, units_of}
+use Rattle.es3_moves.specs.Code.{names_of}
 use Rattle.es3_moves.specs.Texts.{plain_item}
 use Rattle.es3_references.specs.Shares.{shared_front}
 use Rattle.es3_references.proofs.Sharing.{front_more, front_full}
@@ -14,13 +12,5 @@ returns-then-i-count c =
 
 pub loop-i-preserved : goal.loop-i-preserved
 loop-i-preserved c =
-    let i = c.loop-i.i in
-    let ps = c.args.params.now in
-    let p = c.index-params-i.result in
-    let done = map plain_item c.loop-i.items.items in
-    let item = c.in_ok-shared_item.field-0 in
-    let within : i < length ps = omega arith in
-    let named = ap units_of c.index-params-i.is ∙ sym (get_or-map units_of ps i p (units_of p) within) in
-    let one = c.in_ok-shared_item.ensures ∙ ap (λ w. (number_units i, w)) named in
-    let pushed = ap (λ l. map plain_item l) c.in_ok-push.ensures.items ∙ map-append plain_item c.loop-i.items.items (item ∷ []) ∙ ap (λ y. done ++ y ∷ []) one in
-    front_more i c.args.count (names_of ps) (units_of p) done (map plain_item c.push.new.self.items) (shared_front 0 (names_of ps) c.args.count) (rw (length-map ps units_of) within) (omega arith) pushed c.loop-i.invariant
+    let xs = names_of c.args.params.now in
+    front_more c.loop-i.i c.args.count xs (map plain_item c.loop-i.items.items) (map plain_item c.push_item.new.items.items) (shared_front 0 xs c.args.count) (omega arith) c.in_ok-push_item.ensures c.loop-i.invariant

@@ -1,7 +1,10 @@
-use Rattle.std.proofs.Common.{◌≡◌}
+use Rattle.std.proofs.Common.{◌≡◌, length}
 use Rattle.std.specs.Vec.Iter.{into_iter_items}
 use Rattle.guard_runtime.specs.Guards.{with_pairs}
 use Rattle.guard_runtime.proofs.map.define_pairs.Given as goal
 
 abbrev pub invariant-loop-key : goal.invariant-loop-key
-invariant-loop-key l = with_pairs (into_iter_items l.key-iterator) l.o l.h ≡ with_pairs l.fn.pairs.items l.o l.initial.h
+invariant-loop-key l = record {
+  store : with_pairs (into_iter_items l.key-iterator) l.o l.h ≡ with_pairs l.fn.pairs.items l.o l.initial.h;
+  live : length l.h.list ≡ length l.initial.h.list;
+}

@@ -18,7 +18,7 @@ returns-in-Go-clause-less g c = less_by_step c.begin.result c.args.now c.args.se
 
 pub returns-in-Some-clause-same : goal.returns-in-Some-clause-same
 returns-in-Some-clause-same g c =
-    did_end g.N.Natives.table c.args.self.now.frames.items _ c.args.now c.resume.result c.in-Some.frame c.in-End.flow (store_of c.args.h.now c.args.self.now.texts) _ (g.N.Natives.state c.args.natives.now) c.args.self.now.left c.in-End.is c.in-Some.ensures.items c.resume.ensures
+    did_end g.N.Natives.table c.args.self.now.frames.items _ c.args.now c.resume.result c.in-Some.frame c.in-End.flow (store_of c.args.h.now c.args.self.now.texts) _ (g.N.Natives.state c.args.natives.now) c.args.self.now.left c.in-End.is c.in-Some.ensures.items c.resume.ensures.plan
 
 pub returns-in-Some-clause-less : goal.returns-in-Some-clause-less
 returns-in-Some-clause-less g c = less_by_frame c.resume.result c.args.now c.in-End.flow c.args.self.now.left c.args.self.now.frames.items _ c.in-Some.frame c.in-End.is c.in-Some.ensures.items

@@ -1,0 +1,16 @@
+pub mod Next
+pub mod Plans
+pub mod Parts
+pub mod Names
+pub mod Stores
+pub mod Arguments
+pub mod References
+pub mod Operators
+pub mod Going
+pub mod Lists
+pub mod Calls
+pub mod Expressions
+pub mod Loops
+pub mod Statements
+pub mod Meaning
+pub mod Rows

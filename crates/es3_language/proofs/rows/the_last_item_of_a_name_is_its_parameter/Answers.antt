@@ -1,0 +1,9 @@
+use Rattle.std.proofs.Common.{refl}
+use Rattle.std.specs.Fmt.{digits}
+use Rattle.caja_units.specs.Index.{array_index}
+use Rattle.es3_convert.specs.Conversions.{text_within}
+use Rattle.es3_language.proofs.rows.the_last_item_of_a_name_is_its_parameter.Goals as goal
+
+pub returns : goal.returns
+unfolding digits array_index text_within
+returns c = refl

@@ -1,0 +1,4 @@
+pub mod Growth
+pub mod Reading
+pub mod Writing
+pub mod Making
