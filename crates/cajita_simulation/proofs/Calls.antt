@@ -10,9 +10,9 @@ use Rattle.es3_language.specs.Store.{Store}
 use Rattle.es3_language.specs.References.{member}
 use Rattle.es3_language.specs.Meaning as Target
 use Rattle.cajita_rewrite.specs.Rewrite.{runtime_name, runtime_call}
-use Rattle.cajita_meaning.specs.World.{World}
-use Rattle.cajita_meaning.specs.Direct as Source
-use Rattle.cajita_meaning.specs.Direct.{Item, printed}
+use Rattle.first_meaning.specs.World.{World}
+use Rattle.first_meaning.specs.Direct as Source
+use Rattle.first_meaning.specs.Direct.{Item, printed}
 use Rattle.module_loader.specs.Opened.{runtime_id}
 use Rattle.module_loader.specs.Page.{Kept, page_table}
 use Rattle.cajita_simulation.proofs.Heaps.Opened.{IsOpened}
@@ -21,7 +21,7 @@ use Rattle.cajita_simulation.proofs.Relation.{EsValue, Here, env_of, Temps, Rel,
 use Rattle.cajita_simulation.proofs.Forms.Name.{name_plan}
 use Rattle.cajita_simulation.proofs.Laws.{Cont', M, most_steps, steps_hold}
 
-pub opened_of : {by : ℕ} {objects : ℕ → List Rattle.cajita_meaning.specs.World.Object} {h : Rattle.es3_heap.specs.Objects.Objects} {m : ℕ} → ObjectsAre by objects h m → IsOpened h
+pub opened_of : {by : ℕ} {objects : ℕ → List Rattle.first_meaning.specs.World.Object} {h : Rattle.es3_heap.specs.Objects.Objects} {m : ℕ} → ObjectsAre by objects h m → IsOpened h
 opened_of o = record { first = o.opened; large = o.large }
 
 -- `___.g(..)` from its node: the name and the member are entered, and then the arguments

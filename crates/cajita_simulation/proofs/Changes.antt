@@ -13,9 +13,9 @@ use Rattle.es3_heap.specs.Making.{count_at, raised}
 use Rattle.es3_language.specs.Store.{Store, name_value, with_heap, with_slot}
 use Rattle.es3_language.specs.References.{slot, resolve}
 use Rattle.cajita_simulation.proofs.Heaps.Names.{name_value-with_name}
-use Rattle.cajita_meaning.specs.World as World
-use Rattle.cajita_meaning.specs.World.{Value, Pairs, Object, value_at, with_value, with_last, with_object, next_name, World as State}
-use Rattle.cajita_meaning.specs.Direct.{Item, printed, scope_at, assigned, assign}
+use Rattle.first_meaning.specs.World as World
+use Rattle.first_meaning.specs.World.{Value, Pairs, Object, value_at, with_value, with_last, with_object, next_name, World as State}
+use Rattle.first_meaning.specs.Direct.{Item, printed, scope_at, assigned, assign}
 use Rattle.module_loader.specs.Page.{Kept}
 use Rattle.cajita_simulation.proofs.Heaps.Made.{tagged, with_named}
 use Rattle.cajita_simulation.proofs.Heaps.Lists.{slice_get-set, slice_get-push, slice_get-push-other}
@@ -143,9 +143,9 @@ variables_keep {H = H} {T = T} {s = s} g k r = record {
 -- an item that the log doesn't print
 pub printed_none : (z : List Item) → printed z ≡ []
 printed_none [] = refl
-printed_none (Rattle.cajita_meaning.specs.Direct.made m n ∷ z) = printed_none z
-printed_none (Rattle.cajita_meaning.specs.Direct.got m n o ∷ z) = printed_none z
-printed_none (Rattle.cajita_meaning.specs.Direct.touched m n k ∷ z) = printed_none z
+printed_none (Rattle.first_meaning.specs.Direct.made m n ∷ z) = printed_none z
+printed_none (Rattle.first_meaning.specs.Direct.got m n o ∷ z) = printed_none z
+printed_none (Rattle.first_meaning.specs.Direct.touched m n k ∷ z) = printed_none z
 
 pub rel_told : {H : Here} {T : Temps} {k : ℕ} {w : State} {z : List Item} {n : ℕ} {s : Store} {y : Kept} {m : ℕ} (i : Item) → Rel H T k w z n s y m → Rel H T k w (z ++ i ∷ []) n s y m
 rel_told {z = z} i r = record { steps = r.steps; items = printed_none (z ++ i ∷ []); objects = r.objects; variables = r.variables; kept = r.kept }

@@ -13,9 +13,9 @@ use Rattle.es3_language.specs.Natives.{Touched}
 use Rattle.es3_language.specs.Meaning as Target
 use Rattle.es3_language.specs.Meaning.{es3}
 use Rattle.cajita_tree.specs.Tree as c
-use Rattle.cajita_meaning.specs.World.{Value, World}
-use Rattle.cajita_meaning.specs.Direct as Source
-use Rattle.cajita_meaning.specs.Direct.{Item, printed, direct}
+use Rattle.first_meaning.specs.World.{Value, World}
+use Rattle.first_meaning.specs.Direct as Source
+use Rattle.first_meaning.specs.Direct.{Item, printed, direct}
 use Rattle.module_loader.specs.Page.{Kept, page_table}
 pub use Rattle.cajita_simulation.specs.Alike.{most_steps}
 use Rattle.cajita_simulation.specs.Alike.{shown, IsPrefix, GuestFault}

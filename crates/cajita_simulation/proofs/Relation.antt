@@ -10,10 +10,10 @@ use Rattle.es3_language.specs.Store.{Store, name_value}
 use Rattle.es3_language.specs.Arguments.{is_fixed}
 use Rattle.es3_language.specs.References.{slot, resolve}
 use Rattle.es3_language.specs.Meaning as Target
-use Rattle.cajita_meaning.specs.World as World
-use Rattle.cajita_meaning.specs.World.{Name, Value, Pairs, Object, a_record, an_error, World as State}
-use Rattle.cajita_meaning.specs.Direct as Source
-use Rattle.cajita_meaning.specs.Direct.{Item, printed, scope_at, lookup}
+use Rattle.first_meaning.specs.World as World
+use Rattle.first_meaning.specs.World.{Name, Value, Pairs, Object, a_record, an_error, World as State}
+use Rattle.first_meaning.specs.Direct as Source
+use Rattle.first_meaning.specs.Direct.{Item, printed, scope_at, lookup}
 use Rattle.module_loader.specs.Opened.{opened, runtime_id}
 use Rattle.module_loader.specs.Page.{Kept, first_kept}
 use Rattle.cajita_simulation.specs.Guest.{is_among}

@@ -10,8 +10,8 @@ use Rattle.es3_language.specs.Store as store
 use Rattle.es3_language.specs.Store.{Store, name_value, with_name, with_heap, with_slot}
 use Rattle.es3_language.specs.Arguments.{is_fixed, put_shared, write_slot}
 use Rattle.es3_language.specs.References.{Ref, slot, unresolved, named, resolve, global_name, in_owner, in_with}
-use Rattle.cajita_meaning.specs.World.{Value, Pairs, value_at, with_value}
-use Rattle.cajita_meaning.specs.Direct.{lookup, first_of, scope_at, assigned}
+use Rattle.first_meaning.specs.World.{Value, Pairs, value_at, with_value}
+use Rattle.first_meaning.specs.Direct.{lookup, first_of, scope_at, assigned}
 use Rattle.cajita_simulation.proofs.Heaps.Lists.{slice_get-set, slice_get-set-other}
 use Rattle.cajita_simulation.proofs.Heaps.Names.{name_value-with_name, name_value-with_name-other}
 use Rattle.cajita_simulation.proofs.Relation.{EsValue, Val, OptVal, Here, Found, ScopeIs, names_at, OwnNames, IsScope, AreScopes, OwnersAre}

@@ -9,8 +9,8 @@ use Rattle.es3_heap.specs.Objects as heap
 use Rattle.es3_heap.specs.Objects.{Objects}
 use Rattle.es3_convert.specs.Conversions as es3
 use Rattle.es3_convert.specs.Conversions.{primitive_of}
-use Rattle.cajita_meaning.specs.World.{Value, undefined, null, truth, number, text, object, Object, a_record, an_error}
-use Rattle.cajita_meaning.specs.Sums.{text_of, number_of, primitive, sum_of_primitives, sum_of}
+use Rattle.first_meaning.specs.World.{Value, undefined, null, truth, number, text, object, Object, a_record, an_error}
+use Rattle.first_meaning.specs.Sums.{text_of, number_of, primitive, sum_of_primitives, sum_of}
 use Rattle.cajita_simulation.proofs.Relation.{EsValue, Val, ObjectsAre}
 use Rattle.es3_heap.specs.declared.value.Proto.TheVariants as proto
 use Rattle.cajita_simulation.proofs.Heaps.Opened.{IsOpened}
@@ -63,7 +63,7 @@ truths false = refl
 abbrev sums : Option ℤ → Option ℤ → Result EsValue Fault
 sums a b = es3.number_or_fault (es3.sum_of_numbers a b)
 
-numbers_sum : (a b : Option ℤ) → sums a b ≡ result_of (Rattle.cajita_meaning.specs.Sums.sum_of_numbers a b)
+numbers_sum : (a b : Option ℤ) → sums a b ≡ result_of (Rattle.first_meaning.specs.Sums.sum_of_numbers a b)
 numbers_sum (Some a) (Some b) = numbers_add a b
 numbers_sum (Some a) None = refl
 numbers_sum None (Some b) = refl
@@ -138,7 +138,7 @@ mapped_plain : (o : Option ℤ) → IsPlain (option_map number o)
 mapped_plain None = tt
 mapped_plain (Some n) = tt
 
-numbers_plain : (a b : Option ℤ) → IsPlain (Rattle.cajita_meaning.specs.Sums.sum_of_numbers a b)
+numbers_plain : (a b : Option ℤ) → IsPlain (Rattle.first_meaning.specs.Sums.sum_of_numbers a b)
 numbers_plain (Some a) (Some b) = mapped_plain (sum a b)
 numbers_plain (Some a) None = tt
 numbers_plain None (Some b) = tt

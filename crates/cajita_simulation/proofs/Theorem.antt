@@ -7,9 +7,9 @@ use Rattle.matching.proofs.Theorem as matching
 use Rattle.es3_language.specs.Meaning as Target
 use Rattle.cajita_tree.specs.Tree as c
 use Rattle.cajita_rewrite.specs.Rewrite.{program_of}
-use Rattle.cajita_meaning.specs.World.{World, empty_world}
-use Rattle.cajita_meaning.specs.Direct as Source
-use Rattle.cajita_meaning.specs.Direct.{Item, printed, direct_run}
+use Rattle.first_meaning.specs.World.{World, empty_world}
+use Rattle.first_meaning.specs.Direct as Source
+use Rattle.first_meaning.specs.Direct.{Item, printed, direct_run}
 use Rattle.es3_language.specs.Store.{Store}
 use Rattle.module_loader.specs.Page.{Kept, module_run, first_store, first_kept}
 use Rattle.cajita_simulation.specs.Guest.{GuestModule, a_guest}

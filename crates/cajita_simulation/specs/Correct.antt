@@ -6,9 +6,9 @@ use Rattle.es3_language.specs.Store.{Store}
 use Rattle.es3_language.specs.Meaning as Target
 use Rattle.cajita_tree.specs.Tree as c
 use Rattle.cajita_rewrite.specs.Rewrite.{program_of}
-use Rattle.cajita_meaning.specs.World.{World}
-use Rattle.cajita_meaning.specs.Direct as Source
-use Rattle.cajita_meaning.specs.Direct.{printed, direct_run}
+use Rattle.first_meaning.specs.World.{World}
+use Rattle.first_meaning.specs.Direct as Source
+use Rattle.first_meaning.specs.Direct.{printed, direct_run}
 use Rattle.module_loader.specs.Page.{Kept, module_run}
 use Rattle.cajita_simulation.specs.Alike.{shown, IsPrefix, GuestFault, most_steps}
 use Rattle.cajita_simulation.specs.Correspond.{Val, AllStand}

@@ -10,8 +10,8 @@ use Rattle.es3_heap.specs.Objects as heap
 use Rattle.es3_heap.specs.Objects.{Property, Objects}
 use Rattle.es3_heap.specs.Properties.{find}
 use Rattle.es3_heap.specs.Making.{proto_id}
-use Rattle.cajita_meaning.specs.World as World
-use Rattle.cajita_meaning.specs.World.{Name, Value, Pairs, Object, a_record, an_error}
+use Rattle.first_meaning.specs.World as World
+use Rattle.first_meaning.specs.World.{Name, Value, Pairs, Object, a_record, an_error}
 
 abbrev pub EsValue : Type 0
 EsValue = es_value.Value

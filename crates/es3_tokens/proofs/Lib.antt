@@ -13,6 +13,7 @@ pub mod Longest
 pub mod Names
 pub mod Numbers
 pub mod Punctuators
+pub mod Quick
 pub mod Sources
 pub mod Tests
 pub mod Texts

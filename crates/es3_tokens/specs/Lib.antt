@@ -8,3 +8,5 @@ pub mod Refusals
 pub mod Cut
 pub mod Steps
 pub mod Back
+pub mod Quick
+pub mod TextNumber

@@ -15,8 +15,9 @@ ghost use Rattle.es3_tokens.specs.Numbers.{number};
 ghost use Rattle.es3_tokens.specs.Texts.{body};
 ghost use Rattle.es3_tokens.specs.Gaps.{comment_end, not_line};
 ghost use Rattle.es3_tokens.specs.Refusals.{open_comment};
-ghost use Rattle.es3_tokens.specs.Cut.{point, skip, accept, refuse, cut, cut_from};
+ghost use Rattle.es3_tokens.specs.Cut.{point, skip, accept, refuse, cut, cut_from, cut_chars};
 ghost use Rattle.es3_tokens.specs.Steps.{number_step, text_step, sign_step, begins_sign, is_sign};
+ghost use Rattle.es3_tokens.specs.Quick.{quick_from, quick_chars};
 ghost use Rattle.es3_tokens.specs.Back.{spelling, IsToken, stays, spelled, AllStay, tokens_in};
 
 /// Gaps (ES3 7.2, 7.3): white space and line terminators are skipped, one at a time, and a line terminator is told.
@@ -77,4 +78,11 @@ pub fn tokens_are_read_back()
 #[tactic(auto, using(crate::proofs::BackSources::cut_ascii))]
 pub fn ascii_is_cut_as_it_stands()
     ensures { (limit : ℕ) (s : List ℕ) → length s ≤ limit → All (λ b. b < 128) s → cut limit s ≡ cut_from 0 0 false true s }
+{}
+
+/// What is cut by the first character at each point is the cut: so the tokens of a whole source are found by computation.
+#[tactic(auto, using(crate::proofs::Quick::quick_same, crate::proofs::Quick::chars_same))]
+pub fn the_quick_cut_is_the_cut()
+    ensures from { (n p : ℕ) (l o : Bool) (s : List ℕ) → quick_from n p l o s ≡ cut_from n p l o s }
+    ensures chars { (s : List ℕ) → quick_chars s ≡ cut_chars s }
 {}

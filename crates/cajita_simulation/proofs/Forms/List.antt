@@ -8,9 +8,9 @@ use Rattle.es3_language.specs.Store.{Store}
 use Rattle.es3_language.specs.Meaning as Target
 use Rattle.cajita_tree.specs.Tree as c
 use Rattle.cajita_rewrite.specs.Rewrite.{rewritten, joined}
-use Rattle.cajita_meaning.specs.World.{Value, World}
-use Rattle.cajita_meaning.specs.Direct as Source
-use Rattle.cajita_meaning.specs.Direct.{Item}
+use Rattle.first_meaning.specs.World.{Value, World}
+use Rattle.first_meaning.specs.Direct as Source
+use Rattle.first_meaning.specs.Direct.{Item}
 use Rattle.module_loader.specs.Page.{Kept}
 use Rattle.cajita_simulation.specs.Guest.{Guest}
 use Rattle.cajita_simulation.proofs.Relation.{EsValue, Here, env_of, Temps, Rel, Keeps, keeps_refl, keeps_trans, keeps_before, rel_less}

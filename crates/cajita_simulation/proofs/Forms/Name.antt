@@ -6,9 +6,9 @@ use Rattle.es3_language.specs.Store.{Store}
 use Rattle.es3_language.specs.Meaning as Target
 use Rattle.es3_language.specs.Meaning.{is_arguments}
 use Rattle.cajita_tree.specs.Tree as c
-use Rattle.cajita_meaning.specs.World.{Value, World}
-use Rattle.cajita_meaning.specs.Direct as Source
-use Rattle.cajita_meaning.specs.Direct.{Item, lookup}
+use Rattle.first_meaning.specs.World.{Value, World}
+use Rattle.first_meaning.specs.Direct as Source
+use Rattle.first_meaning.specs.Direct.{Item, lookup}
 use Rattle.module_loader.specs.Page.{Kept}
 use Rattle.cajita_simulation.specs.Guest.{is_among, GuestName}
 use Rattle.cajita_simulation.proofs.Relation.{EsValue, Here, env_of, Temps, Found, Rel}

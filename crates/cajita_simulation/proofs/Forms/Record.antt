@@ -11,9 +11,9 @@ use Rattle.es3_language.specs.References.{member}
 use Rattle.es3_language.specs.Meaning as Target
 use Rattle.cajita_tree.specs.Tree as c
 use Rattle.cajita_rewrite.specs.Rewrite.{rewritten, single}
-use Rattle.cajita_meaning.specs.World.{Pairs, World}
-use Rattle.cajita_meaning.specs.Direct as Source
-use Rattle.cajita_meaning.specs.Direct.{Item}
+use Rattle.first_meaning.specs.World.{Pairs, World}
+use Rattle.first_meaning.specs.Direct as Source
+use Rattle.first_meaning.specs.Direct.{Item}
 use Rattle.module_loader.specs.Opened.{runtime_id}
 use Rattle.module_loader.specs.Page.{Kept}
 use Rattle.cajita_simulation.specs.Guest.{Guest}

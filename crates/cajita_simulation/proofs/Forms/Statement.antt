@@ -11,9 +11,9 @@ use Rattle.es3_language.specs.Expressions.{assign_to}
 use Rattle.es3_language.specs.Meaning as Target
 use Rattle.cajita_tree.specs.Tree as c
 use Rattle.cajita_rewrite.specs.Rewrite.{rewritten}
-use Rattle.cajita_meaning.specs.World.{Value, World}
-use Rattle.cajita_meaning.specs.Direct as Source
-use Rattle.cajita_meaning.specs.Direct.{Item}
+use Rattle.first_meaning.specs.World.{Value, World}
+use Rattle.first_meaning.specs.Direct as Source
+use Rattle.first_meaning.specs.Direct.{Item}
 use Rattle.module_loader.specs.Page.{Kept}
 use Rattle.cajita_simulation.specs.Guest.{is_among, GuestName, Guest}
 use Rattle.cajita_simulation.proofs.Relation.{EsValue, Val, Here, env_of, Temps, Rel, keeps_step, keeps_trans, rel_pay, rel_less}

@@ -9,10 +9,10 @@ use Rattle.es3_language.specs.Operators.{given}
 use Rattle.es3_language.specs.Expressions.{binary_right}
 use Rattle.es3_language.specs.Meaning as Target
 use Rattle.cajita_tree.specs.Tree as c
-use Rattle.cajita_meaning.specs.World.{Value, World}
-use Rattle.cajita_meaning.specs.Sums.{primitive, sum_of}
-use Rattle.cajita_meaning.specs.Direct as Source
-use Rattle.cajita_meaning.specs.Direct.{Item}
+use Rattle.first_meaning.specs.World.{Value, World}
+use Rattle.first_meaning.specs.Sums.{primitive, sum_of}
+use Rattle.first_meaning.specs.Direct as Source
+use Rattle.first_meaning.specs.Direct.{Item}
 use Rattle.module_loader.specs.Page.{Kept}
 use Rattle.cajita_simulation.proofs.Relation.{EsValue, Val, val_keep, Here, Temps, Rel}
 use Rattle.cajita_simulation.proofs.Laws.{ValueLaw, ValueBody, NextValue, Cont, Cont', M, give, value_since, with_part, steps_hold}

@@ -12,8 +12,8 @@ use Rattle.es3_language.specs.References.{member}
 use Rattle.es3_language.specs.Meaning as Target
 use Rattle.cajita_rewrite.specs.Rewrite.{runtime_name, imports_name, single, load_stmt}
 use Rattle.cajita_tree.specs.Tree as c
-use Rattle.cajita_meaning.specs.Direct as Source
-use Rattle.cajita_meaning.specs.Direct.{Item}
+use Rattle.first_meaning.specs.Direct as Source
+use Rattle.first_meaning.specs.Direct.{Item}
 use Rattle.module_loader.specs.Opened.{opened, runtime_id, globals_id}
 use Rattle.module_loader.specs.Page.{page_table, first_store, first_kept}
 use Rattle.cajita_simulation.specs.Guest.{Guest}

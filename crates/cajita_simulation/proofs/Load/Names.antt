@@ -10,7 +10,7 @@ use Rattle.es3_language.specs.Store.{Names, name_value, with_vars, with_params}
 use Rattle.es3_language.specs.Hoisting.{vars_in, vars_of, functions_of, own_vars}
 use Rattle.es3_language.specs.Arguments.{is_arguments}
 use Rattle.cajita_tree.specs.Tree as c
-use Rattle.cajita_meaning.specs.World.{undefined, value_at, undefined_names}
+use Rattle.first_meaning.specs.World.{undefined, value_at, undefined_names}
 use Rattle.cajita_rewrite.specs.Rewrite.{runtime_name, imports_name, result_name, rewritten, joined, result_stmts}
 use Rattle.module_loader.specs.Opened.{runtime_id, imports_id}
 use Rattle.cajita_simulation.specs.Guest.{is_among, Guest, item_names, declared_by, declared}

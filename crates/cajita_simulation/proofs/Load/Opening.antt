@@ -13,8 +13,8 @@ use Rattle.es3_language.specs.Store.{Store, Code, activation, name_value, with_v
 use Rattle.es3_language.specs.Hoisting.{functions_of, code_of}
 use Rattle.es3_language.specs.References.{slot, resolve}
 use Rattle.cajita_tree.specs.Tree as c
-use Rattle.cajita_meaning.specs.World.{Value, Pairs, World as State, undefined, empty_world, with_scope, undefined_names, value_at}
-use Rattle.cajita_meaning.specs.Direct.{module_env, lookup, scope_at}
+use Rattle.first_meaning.specs.World.{Value, Pairs, World as State, undefined, empty_world, with_scope, undefined_names, value_at}
+use Rattle.first_meaning.specs.Direct.{module_env, lookup, scope_at}
 use Rattle.cajita_rewrite.specs.Rewrite.{runtime_name, imports_name, result_name, rewritten, joined, result_stmts, declares}
 use Rattle.module_loader.specs.Opened.{opened, runtime_id, imports_id, globals_id}
 use Rattle.module_loader.specs.Page.{first_store, first_kept}

@@ -9,10 +9,10 @@ use Rattle.es3_heap.specs.Objects.{Objects}
 use Rattle.es3_language.specs.Meaning as Target
 use Rattle.cajita_tree.specs.Tree as c
 use Rattle.cajita_rewrite.specs.Rewrite.{rewritten, program_of, load_stmt, result_name, result_stmts}
-use Rattle.cajita_meaning.specs.World.{Value, World, empty_world}
-use Rattle.cajita_meaning.specs.Public.{value_or}
-use Rattle.cajita_meaning.specs.Direct as Source
-use Rattle.cajita_meaning.specs.Direct.{Item}
+use Rattle.first_meaning.specs.World.{Value, World, empty_world}
+use Rattle.first_meaning.specs.Public.{value_or}
+use Rattle.first_meaning.specs.Direct as Source
+use Rattle.first_meaning.specs.Direct.{Item}
 use Rattle.module_loader.specs.Page.{Kept, first_store, first_kept}
 use Rattle.cajita_simulation.specs.Guest.{is_among, Guest, declared}
 use Rattle.cajita_simulation.proofs.Relation.{holds, SlotIs}

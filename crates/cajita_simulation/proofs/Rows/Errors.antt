@@ -7,9 +7,9 @@ use Rattle.es3_heap.specs.declared.value.Value.TheVariants as es
 use Rattle.es3_heap.specs.Objects.{Objects}
 use Rattle.es3_language.specs.Store.{Store, with_heap}
 use Rattle.es3_language.specs.Meaning as Target
-use Rattle.cajita_meaning.specs.World.{object, World, an_error, next_name}
-use Rattle.cajita_meaning.specs.Direct as Source
-use Rattle.cajita_meaning.specs.Direct.{Item, made}
+use Rattle.first_meaning.specs.World.{object, World, an_error, next_name}
+use Rattle.first_meaning.specs.Direct as Source
+use Rattle.first_meaning.specs.Direct.{Item, made}
 use Rattle.module_loader.specs.Page.{Kept}
 use Rattle.cajita_simulation.proofs.Heaps.Made.{with_named}
 use Rattle.cajita_simulation.proofs.Heaps.Natives.{type_error}

@@ -13,10 +13,10 @@ use Rattle.es3_heap.specs.Making.{array_object}
 use Rattle.es3_language.specs.Store.{Store, with_heap}
 use Rattle.es3_language.specs.References.{member}
 use Rattle.es3_language.specs.Meaning as Target
-use Rattle.cajita_meaning.specs.World as World
-use Rattle.cajita_meaning.specs.World.{Value, Pairs, a_record, with_object, with_value, with_values, next_name, World as State}
-use Rattle.cajita_meaning.specs.Direct as Source
-use Rattle.cajita_meaning.specs.Direct.{Item, made}
+use Rattle.first_meaning.specs.World as World
+use Rattle.first_meaning.specs.World.{Value, Pairs, a_record, with_object, with_value, with_values, next_name, World as State}
+use Rattle.first_meaning.specs.Direct as Source
+use Rattle.first_meaning.specs.Direct.{Item, made}
 use Rattle.module_loader.specs.Opened.{runtime_id}
 use Rattle.module_loader.specs.Page.{Kept}
 use Rattle.cajita_simulation.specs.Guest.{GuestKey}

@@ -12,11 +12,11 @@ use Rattle.es3_heap.specs.Properties.{find, value_of}
 use Rattle.es3_language.specs.Store.{Store}
 use Rattle.es3_language.specs.Meaning as Target
 use Rattle.guard_runtime.specs.Guards.{public_read}
-use Rattle.cajita_meaning.specs.World as World
-use Rattle.cajita_meaning.specs.World.{Value, Pairs, Object, a_record, an_error, value_at, World as State}
-use Rattle.cajita_meaning.specs.Public.{value_or, object_value, property, public_value}
-use Rattle.cajita_meaning.specs.Direct as Source
-use Rattle.cajita_meaning.specs.Direct.{Item, touched, got}
+use Rattle.first_meaning.specs.World as World
+use Rattle.first_meaning.specs.World.{Value, Pairs, Object, a_record, an_error, value_at, World as State}
+use Rattle.first_meaning.specs.Public.{value_or, object_value, property, public_value}
+use Rattle.first_meaning.specs.Direct as Source
+use Rattle.first_meaning.specs.Direct.{Item, touched, got}
 use Rattle.module_loader.specs.Opened.{runtime_id}
 use Rattle.module_loader.specs.Page.{Kept, page_table}
 use Rattle.cajita_simulation.proofs.Heaps.Replies.{HasMembers, public_record, public_error}

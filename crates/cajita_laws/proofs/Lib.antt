@@ -1,0 +1,17 @@
+pub mod Had
+pub mod Made
+pub mod Scopes
+pub mod Invariant
+pub mod RowReach
+pub mod CallReach
+pub mod Reach
+pub mod Alike
+pub mod RowSame
+pub mod CallSame
+pub mod Same
+pub mod Told
+pub mod Turns
+pub mod Parts
+pub mod Others
+pub mod Everybody
+pub mod Makers

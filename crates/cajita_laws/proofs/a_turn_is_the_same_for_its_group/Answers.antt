@@ -1,0 +1,11 @@
+use Rattle.cajita_laws.proofs.Turns.{load_isolates, question_isolates, call_isolates}
+use Rattle.cajita_laws.proofs.a_turn_is_the_same_for_its_group.Goals as goal
+
+pub returns-clause-load : goal.returns-clause-load
+returns-clause-load c = load_isolates
+
+pub returns-clause-question : goal.returns-clause-question
+returns-clause-question c = question_isolates
+
+pub returns-clause-call : goal.returns-clause-call
+returns-clause-call c = call_isolates

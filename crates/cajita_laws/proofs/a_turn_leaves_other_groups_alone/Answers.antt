@@ -1,0 +1,11 @@
+use Rattle.cajita_laws.proofs.Others.{load_leaves_alone, question_leaves_alone, call_leaves_alone}
+use Rattle.cajita_laws.proofs.a_turn_leaves_other_groups_alone.Goals as goal
+
+pub returns-clause-load : goal.returns-clause-load
+returns-clause-load c = load_leaves_alone
+
+pub returns-clause-question : goal.returns-clause-question
+returns-clause-question c = question_leaves_alone
+
+pub returns-clause-call : goal.returns-clause-call
+returns-clause-call c = call_leaves_alone

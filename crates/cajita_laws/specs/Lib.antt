@@ -1,0 +1,4 @@
+pub mod Reach
+pub mod Parts
+pub mod Turns
+pub mod Makers

@@ -1,0 +1,4 @@
+pub mod World
+pub mod Public
+pub mod Sums
+pub mod Direct

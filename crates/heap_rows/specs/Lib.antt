@@ -1,0 +1,4 @@
+pub mod Marks
+pub mod Natives
+pub mod Doing
+pub mod Opening

@@ -1,0 +1,85 @@
+-- A store in which a page begins: the ten prototypes, the records `cajita` and `Math`, and the built-in functions.
+use Rattle.std.specs.Prelude.{ℕ, zero, suc, ◌+◌, true, List, [], ◌∷◌, None, Some, length, codes}
+use Rattle.es3_heap.specs.declared.value.Value.TheVariants.{Obj, Bool, Undefined}
+use Rattle.es3_heap.specs.declared.value.Class.TheVariants as class
+use Rattle.es3_heap.specs.declared.value.Tag.{Tag}
+use Rattle.es3_heap.specs.declared.value.Tag.TheVariants as tag
+use Rattle.es3_heap.specs.Objects.{Object, Objects, plain_attrs, hidden_attrs, with_object}
+use Rattle.es3_heap.specs.Properties.{define}
+use Rattle.es3_heap.specs.Making.{new_objects, made, made_function, tagged}
+use Rattle.rows.specs.Rows as r
+use Rattle.rows.specs.Names.{Tools, of_cajita, of_math, tools}
+use Rattle.heap_rows.specs.Marks.{freeze, frozen_mark}
+use Rattle.heap_rows.specs.Natives.{number_of, tag_of_native, tag_of_tools, kind_of}
+use Rattle.heap_rows.specs.Doing.{Page}
+
+-- the built-in functions in the order of their numbers, from 2 on
+abbrev pub common : List r.Native
+common =
+    r.freeze ∷ r.is_frozen ∷ r.copy ∷ r.snapshot ∷ r.is_array ∷ r.is_record ∷ r.keys ∷ r.abs ∷ r.floor ∷ r.ceil ∷ r.round ∷ r.max ∷ r.min
+    ∷ r.number_from ∷ r.text_from ∷ r.truth_from ∷ r.makes r.error ∷ r.makes r.type_error ∷ r.makes r.range_error ∷ r.call ∷ r.apply
+    ∷ r.char_at ∷ r.char_code_at ∷ r.index_of ∷ r.last_index_of ∷ r.slice_text ∷ r.substring ∷ r.split ∷ r.concat_text
+    ∷ r.concat ∷ r.join ∷ r.slice ∷ r.push ∷ r.unshift ∷ r.pop ∷ r.shift ∷ r.turn
+    ∷ r.get_tag_name ∷ r.get_parent_node ∷ r.get_child_nodes ∷ r.get_element_by_id ∷ r.get_attribute ∷ r.set_attribute ∷ r.get_text ∷ r.set_text ∷ r.create_element ∷ r.create_text_node ∷ r.append_child ∷ r.remove_child ∷ r.on ∷ []
+
+-- where each stands: behind the ten prototypes, by its number
+abbrev pub place_of : r.Native → ℕ
+place_of f = number_of f + 10
+
+-- a record of functions
+abbrev pub with_tools : List (List ℕ × r.Native) → ℕ → Objects → Objects
+with_tools [] o h = h
+with_tools ((k, f) ∷ rest) o h = with_tools rest o (define h o k (Obj (place_of f)) plain_attrs)
+
+abbrev pub with_record : Tools → Objects → Objects
+with_record t h = tagged (freeze (with_tools (tools t) (length h.list) (made class.Object (Some 0) h)) (length h.list)) (length h.list) (tag_of_tools t)
+
+-- a function of the page
+abbrev pub with_native : r.Native → Objects → Objects
+with_native f h = tagged (made_function (kind_of f) 0 h) (length h.list) (tag_of_native f)
+
+abbrev pub with_natives : List r.Native → Objects → Objects
+with_natives [] h = h
+with_natives (f ∷ fs) h = with_natives fs (with_native f h)
+
+unfoldable pub opened : Objects
+opened = with_natives common (with_record of_math (with_record of_cajita new_objects))
+
+-- nothing is in a cell or a queue yet
+abbrev pub empty_page : Page
+empty_page = record { cells = λ c. Undefined; queues = λ m. [] }
+
+-- with modules and cells
+
+-- a function that the page makes, with a name
+abbrev pub named_function : r.Native → Tag → Object
+named_function f t = record { class = class.Function; proto = Some 1; callable = Some (record { kind = kind_of f; maker = 0 }); tag = t; props = [] }
+
+-- a module's own `say` and `later`
+abbrev pub with_module : ℕ → Objects → Objects
+with_module m h = with_object (with_object h (named_function r.say (tag.Own m 0))) (named_function r.later (tag.Own m 1))
+
+-- the frozen record of a cell, whose functions stand at this place and at the next one
+abbrev pub cell_record : ℕ → ℕ → Object
+cell_record c at = record {
+  class = class.Object;
+  proto = Some 0;
+  callable = None;
+  tag = tag.Cell c 0;
+  props = record { key = codes "get"; value = Obj at; attrs = plain_attrs } ∷ record { key = codes "set"; value = Obj (at + 1); attrs = plain_attrs } ∷ record { key = frozen_mark; value = Bool true; attrs = hidden_attrs } ∷ [];
+}
+
+abbrev pub with_cell : ℕ → Objects → Objects
+with_cell c h = with_object (with_object (with_object h (named_function r.get (tag.Cell c 1))) (named_function r.set (tag.Cell c 2))) (cell_record c (length h.list))
+
+abbrev pub with_modules : ℕ → Objects → Objects
+with_modules zero h = h
+with_modules (suc n) h = with_module n (with_modules n h)
+
+abbrev pub with_cells : ℕ → Objects → Objects
+with_cells zero h = h
+with_cells (suc k) h = with_cell k (with_cells k h)
+
+-- with so many modules and so many cells
+abbrev pub begun : ℕ → ℕ → Objects
+begun n k = with_cells k (with_modules n opened)

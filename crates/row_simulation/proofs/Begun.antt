@@ -1,0 +1,221 @@
+-- A page that begins with modules and cells: each object with a name that is added leaves what corresponds.
+use Rattle.std.proofs.Common.{◌≡◌, ℕ, zero, suc, ◌+◌, ◌<◌, true, false, List, [], ◌∷◌, ◌++◌, length, Option, Some, None, refl, sym, ap, ◌∙◌, subst, arith}
+use Rattle.std.specs.Prelude.{codes}
+use Rattle.std.proofs.lemmas.Option.{none-some}
+use Rattle.std.proofs.lemmas.List.{length-append}
+use Rattle.es3_heap.specs.declared.value.Tag.{Tag}
+use Rattle.es3_heap.specs.declared.value.Tag.TheVariants as tag
+use Rattle.es3_heap.specs.Objects as heap
+use Rattle.es3_heap.specs.Objects.{Property, Objects, object_at, with_object, plain_attrs, hidden_attrs}
+use Rattle.es3_heap.specs.Properties.{find}
+use Rattle.es3_heap.specs.Making.{new_objects}
+use Rattle.rows.specs.Rows as r
+use Rattle.cajita_meaning.specs.World.{Name, cell_name, own_name, built_name, Object, empty_world}
+use Rattle.cajita_meaning.specs.Doing.{get_and_set}
+use Rattle.heap_rows.specs.Marks.{read_mark, set_mark}
+use Rattle.heap_rows.specs.Natives.{kind_of}
+use Rattle.heap_rows.specs.Doing.{sort_seen}
+use Rattle.heap_rows.specs.Opening.{place_of, opened, named_function, cell_record, with_module, with_cell, with_modules, begun, empty_page}
+use Rattle.row_simulation.specs.RowLaw.{PagesAre}
+use Rattle.row_simulation.proofs.Frozen.{frozen_props, all_guests, no_read, no_set, frozen_are}
+use Rattle.row_simulation.proofs.Names.{name_there, name_at, known_name, own_known, cell_known}
+use Rattle.row_simulation.proofs.Relation.{Named, tag_of_name, PropsAre, IsFunction, IsNamed, Stands, IsMarked, ObjectsAre, Keeps, named_keep}
+use Rattle.row_simulation.proofs.Changes.{cases_at, get-push, get-push-other}
+use Rattle.row_simulation.proofs.Added.{added_keeps}
+use Rattle.row_simulation.proofs.Opening.{opened_corresponds, no_own, no_cell}
+
+abbrev Fresh : Objects → Name → Type 0
+Fresh h n = (i : ℕ) → Named h n i → ⊥
+
+-- one more object, with a name that none has
+record IsFresh (first : Objects) (objects : ℕ → List Object) (h : Objects) (n : Name) (x : heap.Object) : Type 0 where
+  known : name_at (tag_of_name n) ≡ Some n
+  tagged : x.tag ≡ tag_of_name n
+  fresh : Fresh h n
+  is : IsNamed objects h n x
+  above : (p : ℕ) → x.proto ≡ Some p → p < length first.list
+  reads : (k : List ℕ) → find (read_mark k) x.props ≡ None
+  sets : (k : List ℕ) → find (set_mark k) x.props ≡ None
+
+named_added : {first : Objects} {places : r.Native → ℕ} {m : ℕ} {objects : ℕ → List Object} {h : Objects} → ObjectsAre first places objects h m → (n : Name) (x : heap.Object) → IsFresh first objects h n x → ObjectsAre first places objects (with_object h x) m
+named_added {first = first} {objects = objects} {h = h} old n x new = record {
+  each = λ k i t. cases_at h.list x i (λ q. heap.tag_of q ≡ tag_of_name k → Stands objects (with_object h x) k i) (λ lt f. still k i lt (old.each k i f)) (λ at f. newest k i at f) (λ f. absurd (name_there k f)) t;
+  once = λ k i j t u. one k i j t u;
+  natives = λ f common. keeps.named (built_name f) _ (old.natives f common);
+  reads = λ i k p e. cases_at h.list x i (λ q. find (read_mark k) (heap.props_of q) ≡ Some p → IsMarked (with_object h x) i) (λ lt f. marked_still i lt (old.reads i k p f)) (λ at f. absurd (none-some p (sym (new.reads k) ∙ f))) (λ f. absurd (none-some p f)) e;
+  sets = λ i k p e. cases_at h.list x i (λ q. find (set_mark k) (heap.props_of q) ≡ Some p → IsMarked (with_object h x) i) (λ lt f. marked_still i lt (old.sets i k p f)) (λ at f. absurd (none-some p (sym (new.sets k) ∙ f))) (λ f. absurd (none-some p f)) e;
+  above = λ i p e. cases_at h.list x i (λ q. heap.proto_of q ≡ Some p → p < length first.list) (λ lt f. old.above i p f) (λ at f. new.above p f) (λ f. absurd (none-some p f)) e;
+  count = old.count;
+  few = old.few;
+  opened = λ i lt. there i (omega (arith, lt, old.large)) ∙ old.opened i lt;
+  unnamed = λ i k lt t. old.unnamed i k lt (ap heap.tag_of (sym (there i (omega (arith, lt, old.large)))) ∙ t);
+  large = let l = length-append h.list (x ∷ []) in omega (arith, l, old.large);
+}
+  where
+    keeps : Keeps h (with_object h x)
+    keeps = added_keeps h x
+
+    there : (i : ℕ) → i < length h.list → object_at (with_object h x) i ≡ object_at h i
+    there i lt = get-push-other h.list i x lt
+
+    still : (k : Name) (i : ℕ) → i < length h.list → Stands objects h k i → Stands objects (with_object h x) k i
+    still k i lt s = record { stored = s.stored; there = there i lt ∙ s.there; is = named_keep objects (added_keeps h x) k s.stored s.is }
+
+    newest : (k : Name) (i : ℕ) → i ≡ length h.list → x.tag ≡ tag_of_name k → Stands objects (with_object h x) k i
+    newest k i at t =
+        let alike : k ≡ n = known_name n k new.known (sym t ∙ new.tagged) in
+        record { stored = x; there = rw at (get-push h.list x); is = subst (λ q. IsNamed objects (with_object h x) q x) (sym alike) (named_keep objects (added_keeps h x) n x new.is) }
+
+    marked_still : (i : ℕ) → i < length h.list → IsMarked h i → IsMarked (with_object h x) i
+    marked_still i lt q = record { name = q.name; named = ap heap.tag_of (there i lt) ∙ q.named; class = ap heap.class_of (there i lt) ∙ q.class }
+
+    taken : (k : Name) (i : ℕ) → Named h k i → x.tag ≡ tag_of_name k → ⊥
+    taken k i t u = new.fresh i (t ∙ sym u ∙ new.tagged)
+
+    one : (k : Name) (i j : ℕ) → Named (with_object h x) k i → Named (with_object h x) k j → i ≡ j
+    one k i j t u =
+        cases_at h.list x i (λ q. heap.tag_of q ≡ tag_of_name k → i ≡ j)
+        (λ lt f. cases_at h.list x j (λ q. heap.tag_of q ≡ tag_of_name k → i ≡ j) (λ lt2 f2. old.once k i j f f2) (λ at2 f2. absurd (taken k i f f2)) (λ f2. absurd (name_there k f2)) u)
+        (λ at f. cases_at h.list x j (λ q. heap.tag_of q ≡ tag_of_name k → i ≡ j) (λ lt2 f2. absurd (taken k j f2 f)) (λ at2 f2. at ∙ sym at2) (λ f2. absurd (name_there k f2)) u)
+        (λ f. absurd (name_there k f)) t
+
+-- a name stays fresh where another one comes
+fresh_still : (h : Objects) (x : heap.Object) (n : Name) → Fresh h n → (x.tag ≡ tag_of_name n → ⊥) → Fresh (with_object h x) n
+fresh_still h x n fresh other i t = cases_at h.list x i (λ q. heap.tag_of q ≡ tag_of_name n → ⊥) (λ lt f. fresh i f) (λ at f. other f) (λ f. name_there n f) t
+
+-- the new objects
+
+one_few : (p : ℕ) → (let q : Option ℕ = Some 1 in q) ≡ Some p → p < 10
+one_few p e = let f : 1 ≡ p = cc in omega (arith, f)
+
+zero_few : (p : ℕ) → (let q : Option ℕ = Some 0 in q) ≡ Some p → p < 10
+zero_few p e = let f : 0 ≡ p = cc in omega (arith, f)
+
+function_is : (f : r.Native) (t : Tag) → sort_seen false (Some (record { kind = kind_of f; maker = 0 })) ≡ r.a_function r.simple → IsFunction r.simple (named_function f t)
+function_is f t e = record { class = refl; kind = e; no_text = refl; no_value = refl }
+
+function_fresh : (objects : ℕ → List Object) (h : Objects) (n : Name) (f : r.Native) → name_at (tag_of_name n) ≡ Some n → Fresh h n → IsNamed objects h n (named_function f (tag_of_name n)) → IsFresh new_objects objects h n (named_function f (tag_of_name n))
+function_fresh objects h n f known fresh is = record { known = known; tagged = refl; fresh = fresh; is = is; above = one_few; reads = λ k. refl; sets = λ k. refl }
+
+-- a cell's record
+
+cell_props : ℕ → List (List ℕ × ℕ)
+cell_props at = (codes "get", at) ∷ (codes "set", at + 1) ∷ []
+
+cell_guests : (at : ℕ) → all_guests (cell_props at) ≡ true
+unfolding all_guests cell_props
+cell_guests at = refl
+
+props_are : (h : Objects) (c at : ℕ) → Named h (cell_name c 1) at → Named h (cell_name c 2) (at + 1) → PropsAre h true (get_and_set (cell_name c 1) (cell_name c 2)) (frozen_props (cell_props at))
+unfolding frozen_props cell_props
+props_are h c at a b = frozen_are h (get_and_set (cell_name c 1) (cell_name c 2)) (cell_props at) (cell_guests at) (refl, (refl, (refl, tt))) refl refl (refl, a, (refl, b, tt))
+
+record_fresh : (objects : ℕ → List Object) (h : Objects) (c at : ℕ) → Named h (cell_name c 1) at → Named h (cell_name c 2) (at + 1) → Fresh h (cell_name c 0) → IsFresh new_objects objects h (cell_name c 0) (cell_record c at)
+unfolding frozen_props cell_props
+record_fresh objects h c at a b fresh = record {
+  known = cell_known c 0;
+  tagged = refl;
+  fresh = fresh;
+  is = record { class = refl; proto = refl; props = props_are h c at a b };
+  above = zero_few;
+  reads = λ k. no_read (cell_props at) (cell_guests at) k;
+  sets = λ k. no_set (cell_props at) (cell_guests at) k;
+}
+
+-- the relation, and how far names go
+
+record Begins (n k : ℕ) (h : Objects) : Type 0 where
+  objects : ObjectsAre new_objects place_of empty_world.objects h 0
+  modules : (m i j : ℕ) → Named h (own_name m i) j → m < n
+  cells : (c i j : ℕ) → Named h (cell_name c i) j → c < k
+
+-- a name that was there, or that of the new object
+was_or_is : (h : Objects) (x : heap.Object) (n : Name) (P : Type 0) → ((j : ℕ) → Named h n j → P) → (x.tag ≡ tag_of_name n → P) → (j : ℕ) → Named (with_object h x) n j → P
+was_or_is h x n P was is j t = cases_at h.list x j (λ q. heap.tag_of q ≡ tag_of_name n → P) (λ lt f. was j f) (λ at f. is f) (λ f. absurd (name_there n f)) t
+
+own_apart : (m i d j : ℕ) → tag.Own m i ≡ tag.Own d j → (m ≡ d) × (i ≡ j)
+own_apart m i d j e = (cc, cc)
+
+cell_apart : (m i d j : ℕ) → tag.Cell m i ≡ tag.Cell d j → (m ≡ d) × (i ≡ j)
+cell_apart m i d j e = (cc, cc)
+
+own_no_cell : (m i d j : ℕ) → tag.Own m i ≡ tag.Cell d j → ⊥
+own_no_cell m i d j e = cc
+
+-- a module's `say` and `later`
+module_begins : {n k : ℕ} {h : Objects} → Begins n k h → Begins (suc n) k (with_module n h)
+module_begins {n = n} {k = k} {h = h} b = record {
+  objects = named_added first_added (own_name n 1) _ (function_fresh empty_world.objects h1 (own_name n 1) r.later (own_known n 1) (fresh_still h (named_function r.say (tag.Own n 0)) (own_name n 1) (fresh 1) (λ e. let q = (own_apart n 0 n 1 e).1 in omega (arith, q))) (function_is r.later (tag.Own n 1) refl));
+  modules = λ m i j t. was_or_is h1 (named_function r.later (tag.Own n 1)) (own_name m i) (m < suc n) (λ j t. was_or_is h (named_function r.say (tag.Own n 0)) (own_name m i) (m < suc n) (λ j t. let q = b.modules m i j t in omega (arith, q)) (λ e. let q = (own_apart n 0 m i e).0 in omega (arith, q)) j t) (λ e. let q = (own_apart n 1 m i e).0 in omega (arith, q)) j t;
+  cells = λ c i j t. was_or_is h1 (named_function r.later (tag.Own n 1)) (cell_name c i) (c < k) (λ j t. was_or_is h (named_function r.say (tag.Own n 0)) (cell_name c i) (c < k) (λ j t. b.cells c i j t) (λ e. absurd (own_no_cell n 0 c i e)) j t) (λ e. absurd (own_no_cell n 1 c i e)) j t;
+}
+  where
+    h1 : Objects
+    h1 = with_object h (named_function r.say (tag.Own n 0))
+
+    fresh : (i : ℕ) → Fresh h (own_name n i)
+    fresh i j t = let q = b.modules n i j t in omega (arith, q)
+
+    first_added : ObjectsAre new_objects place_of empty_world.objects (with_object h (named_function r.say (tag.Own n 0))) 0
+    first_added = named_added b.objects (own_name n 0) _ (function_fresh empty_world.objects h (own_name n 0) r.say (own_known n 0) (fresh 0) (function_is r.say (tag.Own n 0) refl))
+
+cell_no_own : (m i d j : ℕ) → tag.Cell m i ≡ tag.Own d j → ⊥
+cell_no_own m i d j e = cc
+
+-- a cell
+module _ {n k : ℕ} {h : Objects} (b : Begins n k h) where
+  fresh : (i : ℕ) → Fresh h (cell_name k i)
+  fresh i j t = let q = b.cells k i j t in omega (arith, q)
+
+  apart_at : (i j : ℕ) → (i ≡ j → ⊥) → tag.Cell k i ≡ tag.Cell k j → ⊥
+  apart_at i j ne e = ne (cell_apart k i k j e).1
+
+  one_more : length (with_object h (named_function r.get (tag.Cell k 1))).list ≡ length h.list + 1
+  one_more = length-append h.list (named_function r.get (tag.Cell k 1) ∷ [])
+
+  got_there : Named (with_object (with_object h (named_function r.get (tag.Cell k 1))) (named_function r.set (tag.Cell k 2))) (cell_name k 1) (length h.list)
+  got_there = ap heap.tag_of (get-push-other (h.list ++ named_function r.get (tag.Cell k 1) ∷ []) (length h.list) (named_function r.set (tag.Cell k 2)) (let l = one_more in omega (arith, l)) ∙ get-push h.list (named_function r.get (tag.Cell k 1)))
+
+  set_there : Named (with_object (with_object h (named_function r.get (tag.Cell k 1))) (named_function r.set (tag.Cell k 2))) (cell_name k 2) (length h.list + 1)
+  set_there = subst (Named (with_object (with_object h (named_function r.get (tag.Cell k 1))) (named_function r.set (tag.Cell k 2))) (cell_name k 2)) one_more (ap heap.tag_of (get-push (h.list ++ named_function r.get (tag.Cell k 1) ∷ []) (named_function r.set (tag.Cell k 2))))
+
+  with_get : ObjectsAre new_objects place_of empty_world.objects (with_object h (named_function r.get (tag.Cell k 1))) 0
+  with_get = named_added b.objects (cell_name k 1) _ (function_fresh empty_world.objects h (cell_name k 1) r.get (cell_known k 1) (fresh 1) (function_is r.get (tag.Cell k 1) refl))
+
+  fresh_one : (i : ℕ) → (1 ≡ i → ⊥) → Fresh (with_object h (named_function r.get (tag.Cell k 1))) (cell_name k i)
+  fresh_one i ne = fresh_still h (named_function r.get (tag.Cell k 1)) (cell_name k i) (fresh i) (apart_at 1 i ne)
+
+  with_set : ObjectsAre new_objects place_of empty_world.objects (with_object (with_object h (named_function r.get (tag.Cell k 1))) (named_function r.set (tag.Cell k 2))) 0
+  with_set = named_added with_get (cell_name k 2) _ (function_fresh empty_world.objects (with_object h (named_function r.get (tag.Cell k 1))) (cell_name k 2) r.set (cell_known k 2) (fresh_one 2 (λ e. omega (arith, e))) (function_is r.set (tag.Cell k 2) refl))
+
+  with_all : ObjectsAre new_objects place_of empty_world.objects (with_cell k h) 0
+  with_all = named_added with_set (cell_name k 0) _ (record_fresh empty_world.objects _ k (length h.list) got_there set_there
+      (fresh_still (with_object h (named_function r.get (tag.Cell k 1))) (named_function r.set (tag.Cell k 2)) (cell_name k 0) (fresh_one 0 (λ e. omega (arith, e))) (apart_at 2 0 (λ e. omega (arith, e)))))
+
+  -- what holds of the names that were there, and of the three new ones
+  of_cell : (q : Name) (P : Type 0) → ((j : ℕ) → Named h q j → P) → ((i : ℕ) → tag.Cell k i ≡ tag_of_name q → P) → (j : ℕ) → Named (with_cell k h) q j → P
+  of_cell q P was is j t =
+      was_or_is (with_object (with_object h (named_function r.get (tag.Cell k 1))) (named_function r.set (tag.Cell k 2))) (cell_record k (length h.list)) q P
+      (λ j t. was_or_is (with_object h (named_function r.get (tag.Cell k 1))) (named_function r.set (tag.Cell k 2)) q P
+      (λ j t. was_or_is h (named_function r.get (tag.Cell k 1)) q P was (is 1) j t) (is 2) j t) (is 0) j t
+
+  cell_begins : Begins n (suc k) (with_cell k h)
+  cell_begins = record {
+    objects = with_all;
+    modules = λ m i j t. of_cell (own_name m i) (m < n) (λ j t. b.modules m i j t) (λ a e. absurd (cell_no_own k a m i e)) j t;
+    cells = λ c i j t. of_cell (cell_name c i) (c < suc k) (λ j t. let q = b.cells c i j t in omega (arith, q)) (λ a e. let q = (cell_apart k a c i e).0 in omega (arith, q)) j t;
+  }
+
+modules_begin : (n : ℕ) → Begins n 0 (with_modules n opened)
+modules_begin zero = record { objects = opened_corresponds; modules = λ m i j t. absurd (no_own m i j t); cells = λ c i j t. absurd (no_cell c i j t) }
+modules_begin (suc n) = module_begins (modules_begin n)
+
+cells_begin : (n k : ℕ) → Begins n k (begun n k)
+cells_begin n zero = modules_begin n
+cells_begin n (suc k) = cell_begins (cells_begin n k)
+
+pub begun_corresponds : (n k : ℕ) → ObjectsAre new_objects place_of empty_world.objects (begun n k) 0
+begun_corresponds n k = (cells_begin n k).objects
+
+pub page_corresponds : (n k : ℕ) → PagesAre (begun n k) empty_world empty_page
+page_corresponds n k = record { cells = λ c. tt; queues = λ m. tt }

@@ -1,0 +1,311 @@
+-- What a row does in a world, it does among the objects of ES3: one law for all rows, over the laws of the ends.
+use Rattle.std.proofs.Common.{◌≡◌, ℕ, zero, suc, ◌≤◌, Bool, true, false, List, [], ◌∷◌, ◌++◌, length, Option, Some, None, Result, Ok, Err, cond, refl, sym, ap, ◌∙◌, subst, arith}
+use Rattle.std.specs.Prelude.{slice_get, map, ℤ, nat_eq, nat_lt}
+use Rattle.std.specs.Cmp.Lexicographic.{same_text}
+use Rattle.std.proofs.lemmas.List.{append-nil}
+use Rattle.std.proofs.lemmas.Bool.Decides.{nat_tests}
+use Rattle.plans.specs.Plans.{Fault}
+use Rattle.caja_units.specs.Units.{same_units}
+use Rattle.es3_heap.specs.declared.value.Value.TheVariants as es
+use Rattle.es3_heap.specs.declared.value.Tag.{Tag}
+use Rattle.es3_heap.specs.declared.value.Tag.TheVariants as tag
+use Rattle.es3_heap.specs.Objects as heap
+use Rattle.es3_heap.specs.Objects.{Objects}
+use Rattle.es3_heap.proofs.Keys.{same_key-refl}
+use Rattle.es3_convert.specs.Comparisons.{strictly_equal}
+use Rattle.rows.specs.Rows as r
+use Rattle.rows.specs.Rows.{Row, Ending, Handle, Native}
+use Rattle.rows.specs.Names.{is_of_text, code_of}
+use Rattle.cajita_meaning.specs.World.{Name, made_name, cell_name, own_name, built_name, tools_name, forward_name, name_code, Value, undefined, null, truth, number, text, object, Object, World}
+use Rattle.cajita_meaning.specs.Doing as direct
+use Rattle.heap_rows.specs.Natives.{is_common, tag_of_code}
+use Rattle.heap_rows.specs.Doing as es3
+use Rattle.heap_rows.specs.Doing.{Told}
+use Rattle.row_simulation.specs.Among.{IsHandleAmong, AreHandlesAmong, IsEndAmong, IsSettlingAmong, IsAmongObjects}
+use Rattle.row_simulation.proofs.Keys.{not_true}
+use Rattle.row_simulation.proofs.Names.{among, same_tag, same_code, name_there}
+use Rattle.row_simulation.proofs.Relation.{EsValue, tag_of_name, Named, Val, Vals, ObjectsAre, Keeps, val_keep, vals_keep}
+use Rattle.row_simulation.proofs.Sights.{seen_alike, seen_among}
+pub use Rattle.row_simulation.specs.RowLaw.{ReplyIs, shown, DoneIs, Conversions, EndLaw, PagesAre, CameIs}
+
+-- values that correspond, by their kinds
+pub by_value : (h : Objects) (P : Value → EsValue → Type 0) → P undefined es.Undefined → P null es.Null → ((a : Bool) → P (truth a) (es.Bool a)) → ((n : ℤ) → P (number n) (es.Num n)) → ((us : List ℕ) → P (text us) (es.Text us)) → ((n : Name) (i : ℕ) → Named h n i → P (object n) (es.Obj i)) → (v : Value) (e : EsValue) → Val h v e → P v e
+by_value h P a b c d f g undefined es.Undefined p = a
+by_value h P a b c d f g null es.Null p = b
+by_value h P a b c d f g (truth x) (es.Bool y) p = subst (λ z. P (truth x) (es.Bool z)) p (c x)
+by_value h P a b c d f g (number x) (es.Num y) p = subst (λ z. P (number x) (es.Num z)) p (d x)
+by_value h P a b c d f g (text x) (es.Text y) p = subst (λ z. P (text x) (es.Text z)) p (f x)
+by_value h P a b c d f g (object n) (es.Obj i) p = g n i p
+by_value h P a b c d f g _ _ p = absurd p
+
+-- the law of a row, where conversions are the same
+abbrev pub RowGoes : Objects → (Native → ℕ) → ℕ → Row → Type 0
+RowGoes first places by q =
+    (s : direct.Held) (es : List EsValue) (w : World) (h : Objects) (g : es3.Page) (z : List direct.Item) (y : List Told) (m : ℕ) → suc m ≤ 4294967295
+    → Vals h s.values es → ObjectsAre first places w.objects h m → PagesAre h w g → Conversions w h → shown z ≡ y
+    → CameIs first places h m (direct.does by q s w z) (es3.does places by q es h g y)
+
+pub shown-append : (a b : List direct.Item) → shown (a ++ b) ≡ shown a ++ shown b
+shown-append [] b = refl
+shown-append (direct.touched m t n k ∷ a) b = ap (λ l. es3.touched m t (tag_of_name n) k ∷ l) (shown-append a b)
+shown-append (direct.said m us ∷ a) b = ap (λ l. es3.said m us ∷ l) (shown-append a b)
+shown-append (i ∷ a) b = shown-append a b
+
+pub keeps_refl : {h : Objects} → Keeps h h
+keeps_refl = record { named = λ n i p. p }
+
+pub objects_step : {first : Objects} {places : Native → ℕ} {objects : ℕ → List Object} {h : Objects} {m : ℕ} → ObjectsAre first places objects h m → ObjectsAre first places objects h (suc m)
+objects_step o = record { each = o.each; once = o.once; natives = o.natives; reads = o.reads; sets = o.sets; above = o.above; count = o.count; few = λ n. let f = o.few n in omega (arith, f); opened = o.opened; unnamed = o.unnamed; large = o.large }
+
+-- values in hand
+
+or_is : (h : Objects) (n : ℕ) (vs : List Value) (es : List EsValue) → Vals h vs es → Val h (direct.or_nothing (slice_get vs n)) (es3.or_nothing (slice_get es n))
+or_is h n [] [] p = tt
+or_is h zero (v ∷ vs) (e ∷ es) p = p.0
+or_is h (suc n) (v ∷ vs) (e ∷ es) p = or_is h n vs es p.1
+or_is h n _ _ p = absurd p
+
+method_is : {first : Objects} {places : Native → ℕ} {objects : ℕ → List Object} {h : Objects} {m : ℕ} → ObjectsAre first places objects h m → (f : Native) → is_common f ≡ true → (v : Value) (e : EsValue) → Val h v e → Val h (direct.method_value v f) (es3.method_in places e f)
+method_is {places = places} {h = h} o f c = by_value h (λ v e. Val h (direct.method_value v f) (es3.method_in places e f)) tt tt (λ a. tt) (λ n. tt) (λ us. by_kind (is_of_text f)) (λ n i t. o.natives f c)
+  where
+    by_kind : (b : Bool) → Val h (cond b (object (built_name f)) undefined) (cond b (es.Obj (places f)) es.Undefined)
+    by_kind true = o.natives f c
+    by_kind false = tt
+
+pub handle_is : {first : Objects} {places : Native → ℕ} {objects : ℕ → List Object} {h : Objects} {m : ℕ} → ObjectsAre first places objects h m → (x : Handle) → IsHandleAmong x → (vs : List Value) (es : List EsValue) → Vals h vs es → Val h (direct.value_of vs x) (es3.value_in places es x)
+handle_is o r.undefined a vs es p = tt
+handle_is o r.null a vs es p = tt
+handle_is o (r.truth b) a vs es p = refl
+handle_is o (r.number n) a vs es p = refl
+handle_is o (r.text us) a vs es p = refl
+handle_is o (r.method_of x f) a vs es p = method_is o f a.1 _ _ (handle_is o x a.0 vs es p)
+handle_is {h = h} o (r.held n) a vs es p = or_is h n vs es p
+
+pub handles_are : {first : Objects} {places : Native → ℕ} {objects : ℕ → List Object} {h : Objects} {m : ℕ} → ObjectsAre first places objects h m → (xs : List Handle) → AreHandlesAmong xs → (vs : List Value) (es : List EsValue) → Vals h vs es → Vals h (map (direct.value_of vs) xs) (map (es3.value_in places es) xs)
+handles_are o [] a vs es p = tt
+handles_are o (x ∷ xs) a vs es p = (handle_is o x a.0 vs es p, handles_are o xs a.1 vs es p)
+
+vals_append : (h : Objects) (vs ws : List Value) (es fs : List EsValue) → Vals h vs es → Vals h ws fs → Vals h (vs ++ ws) (es ++ fs)
+vals_append h [] ws [] fs p q = q
+vals_append h (v ∷ vs) ws (e ∷ es) fs p q = (p.0, vals_append h vs ws es fs p.1 q)
+vals_append h _ ws _ fs p q = absurd p
+
+vals_length : (h : Objects) (vs : List Value) (es : List EsValue) → Vals h vs es → length vs ≡ length es
+vals_length h [] [] p = refl
+vals_length h (v ∷ vs) (e ∷ es) p = ap suc (vals_length h vs es p.1)
+vals_length h _ _ p = absurd p
+
+-- touches
+
+pub shown_way : (by : ℕ) (way : List Name) (o : Name) → shown (direct.got_along by way o) ≡ []
+shown_way by [] o = refl
+shown_way by (h ∷ []) o = refl
+shown_way by (h ∷ k ∷ way) o = shown_way by (k ∷ way) o
+
+told_there : (by : ℕ) (t : r.Touch) (k : List (List ℕ)) (g : Tag) → (tag.None ≡ g → ⊥) → es3.touched by t g k ∷ [] ≡ es3.told_of by t g k
+told_there by t k tag.None wrong = absurd (wrong refl)
+told_there by t k g wrong = refl
+
+pub touch_is : (h : Objects) (by : ℕ) (t : r.Touch) (way : List Name) (k : List (List ℕ)) (v : Value) (e : EsValue) → Val h v e → shown (direct.touching by t way v k) ≡ es3.touched_value by t e h k
+touch_is h by t way k = by_value h (λ v e. shown (direct.touching by t way v k) ≡ es3.touched_value by t e h k) refl refl (λ a. refl) (λ n. refl) (λ us. refl)
+    (λ n i p. shown-append (direct.got_along by way n) (direct.touched by t n k ∷ []) ∙ rw (shown_way by way n, p) (told_there by t k (tag_of_name n) (name_there n)))
+
+-- no other end changes what the page keeps
+
+abbrev SamePage : World → World → Type 0
+SamePage a b = (a.cells ≡ b.cells) × (a.queues ≡ b.queues)
+
+changed_page : (f : Object → Object) (v : Value) (w : World) → SamePage (direct.changed f v w) w
+changed_page f (object (made_name a b)) w = at (slice_get (w.objects a) b)
+  where
+    at : (o : Option Object) → SamePage (direct.changed_object f a b o w) w
+    at None = (refl, refl)
+    at (Some o) = (refl, refl)
+changed_page f v w = (refl, refl)
+
+long_page : (b : Bool) (d : direct.Done) (w : World) (z : List direct.Item) → SamePage d.world w → SamePage (cond b d (direct.too_long w z)).world w
+long_page true d w z p = p
+long_page false d w z p = (refl, refl)
+
+finish_page : (by : ℕ) (e : Ending) (s : direct.Held) (w : World) (z : List direct.Item) → SamePage (direct.finish by e s w z).world w
+finish_page by (r.lists ks) s w z = long_page (nat_lt (length ks) r.most_items) _ w z (refl, refl)
+finish_page by (r.makes_array frozen xs) s w z = long_page (nat_lt (length xs) r.most_items) _ w z (refl, refl)
+finish_page by (r.writes_key o k x) s w z = changed_page (direct.with_key k (direct.value_of s.values x)) (direct.value_of s.values o) w
+finish_page by (r.drops_key o k) s w z = changed_page (direct.without_key k) (direct.value_of s.values o) w
+finish_page by (r.sets_items o xs x) s w z = long_page (nat_lt (length xs) r.most_items) _ w z (changed_page (direct.with_items (map (direct.value_of s.values) xs)) (direct.value_of s.values o) w)
+finish_page by (r.freezes o) s w z = changed_page direct.as_frozen (direct.value_of s.values o) w
+finish_page by e s w z = (refl, refl)
+
+pages_keep : {h h' : Objects} (w w' : World) (g : es3.Page) → Keeps h h' → SamePage w' w → PagesAre h w g → PagesAre h' w' g
+pages_keep {h' = h'} w w' g k e p = record { cells = λ c. subst (λ f. Val h' (f c) (g.cells c)) (sym e.0) (val_keep k _ _ (p.cells c)); queues = λ m. subst (λ f. Vals h' (f m) (g.queues m)) (sym e.1) (vals_keep k _ _ (p.queues m)) }
+
+-- the ends that do
+
+module _ {first : Objects} {places : Native → ℕ} {m : ℕ} (h : Objects) (w : World) (g : es3.Page) (o : ObjectsAre first places w.objects h m) (p : PagesAre h w g) where
+  kept_is : (v : Value) (e : EsValue) → Val h v e → Val h (direct.kept_in v w) (es3.kept_by (es3.named h e) g)
+  kept_is = by_value h (λ v e. Val h (direct.kept_in v w) (es3.kept_by (es3.named h e) g)) tt tt (λ a. tt) (λ n. tt) (λ us. tt) (λ n i q. rw q (by_name n i q))
+    where
+      by_code : (c : List ℕ) → Val h undefined (es3.kept_by (tag_of_code c) g)
+      by_code [] = tt
+      by_code (n ∷ []) = tt
+      by_code (n ∷ k ∷ []) = tt
+      by_code (n ∷ k ∷ j ∷ c) = tt
+
+      by_name : (n : Name) (i : ℕ) → Named h n i → Val h (direct.kept_in (object n) w) (es3.kept_by (tag_of_name n) g)
+      by_name (cell_name a b) i q = p.cells a
+      by_name (built_name f) i q = by_code (code_of f)
+      by_name (forward_name a b c d) i q = absurd (o.each (forward_name a b c d) i q).is
+      by_name (tools_name Rattle.rows.specs.Names.of_cajita) i q = tt
+      by_name (tools_name Rattle.rows.specs.Names.of_math) i q = tt
+      by_name n i q = tt
+
+  module _ (u : Value) (f : EsValue) (t : Val h u f) where
+    val_if : (b : Bool) (v : Value) (e : EsValue) → Val h v e → Val h (cond b u v) (cond b f e)
+    val_if true v e q = t
+    val_if false v e q = q
+
+    keeping_is : (v : Value) (e : EsValue) → Val h v e → PagesAre h (direct.keeping v u w) (es3.keeping_by (es3.named h e) f g)
+    keeping_is = by_value h (λ v e. PagesAre h (direct.keeping v u w) (es3.keeping_by (es3.named h e) f g)) p p (λ a. p) (λ n. p) (λ us. p) (λ n i q. rw q (by_name n i q))
+      where
+        by_code : (c : List ℕ) → PagesAre h w (es3.keeping_by (tag_of_code c) f g)
+        by_code [] = p
+        by_code (n ∷ []) = p
+        by_code (n ∷ k ∷ []) = p
+        by_code (n ∷ k ∷ j ∷ c) = p
+
+        by_name : (n : Name) (i : ℕ) → Named h n i → PagesAre h (direct.keeping (object n) u w) (es3.keeping_by (tag_of_name n) f g)
+        by_name (cell_name a b) i q = record { cells = λ c. val_if (nat_eq c a) (w.cells c) (g.cells c) (p.cells c); queues = p.queues }
+        by_name (built_name k) i q = by_code (code_of k)
+        by_name (forward_name a b c d) i q = absurd (o.each (forward_name a b c d) i q).is
+        by_name (tools_name Rattle.rows.specs.Names.of_cajita) i q = p
+        by_name (tools_name Rattle.rows.specs.Names.of_math) i q = p
+        by_name n i q = p
+
+    vals_if : (b : Bool) (vs us : List Value) (es fs : List EsValue) → Vals h vs es → Vals h us fs → Vals h (cond b vs us) (cond b es fs)
+    vals_if true vs us es fs a b = a
+    vals_if false vs us es fs a b = b
+
+    queueing_is : (v : Value) (e : EsValue) → Val h v e → PagesAre h (direct.queueing v u w) (es3.queueing_by (es3.named h e) f g)
+    queueing_is = by_value h (λ v e. PagesAre h (direct.queueing v u w) (es3.queueing_by (es3.named h e) f g)) p p (λ a. p) (λ n. p) (λ us. p) (λ n i q. rw q (by_name n))
+      where
+        by_code : (c : List ℕ) → PagesAre h w (es3.queueing_by (tag_of_code c) f g)
+        by_code [] = p
+        by_code (n ∷ []) = p
+        by_code (n ∷ k ∷ []) = p
+        by_code (n ∷ k ∷ j ∷ c) = p
+
+        by_name : (n : Name) → PagesAre h (direct.queueing (object n) u w) (es3.queueing_by (tag_of_name n) f g)
+        by_name (own_name a b) = record { cells = p.cells; queues = λ m. vals_if (nat_eq m a) (w.queues a ++ u ∷ []) (w.queues m) (g.queues a ++ f ∷ []) (g.queues m) (vals_append h (w.queues a) (u ∷ []) (g.queues a) (f ∷ []) (p.queues a) (t, tt)) (p.queues m) }
+        by_name (built_name k) = by_code (code_of k)
+        by_name (tools_name Rattle.rows.specs.Names.of_cajita) = p
+        by_name (tools_name Rattle.rows.specs.Names.of_math) = p
+        by_name n = p
+
+saying_is : (h : Objects) (us : List ℕ) (v : Value) (e : EsValue) → Val h v e → shown (direct.saying v us) ≡ es3.saying_by (es3.named h e) us
+saying_is h us = by_value h (λ v e. shown (direct.saying v us) ≡ es3.saying_by (es3.named h e) us) refl refl (λ a. refl) (λ n. refl) (λ us. refl) (λ n i q. rw q (by_name n))
+  where
+    by_code : (c : List ℕ) → [] ≡ es3.saying_by (tag_of_code c) us
+    by_code [] = refl
+    by_code (n ∷ []) = refl
+    by_code (n ∷ k ∷ []) = refl
+    by_code (n ∷ k ∷ j ∷ c) = refl
+
+    by_name : (n : Name) → shown (direct.saying (object n) us) ≡ es3.saying_by (tag_of_name n) us
+    by_name (built_name f) = by_code (code_of f)
+    by_name (tools_name Rattle.rows.specs.Names.of_cajita) = refl
+    by_name (tools_name Rattle.rows.specs.Names.of_math) = refl
+    by_name n = refl
+
+-- what is told of what was got is not printed
+pub shown_gained : (by : ℕ) (way : List Name) (v : Value) → shown (direct.got_from by way v) ≡ []
+shown_gained by way (object o) = shown_way by way o
+shown_gained by way v = refl
+
+keeping_objects : (v u : Value) (w : World) → (direct.keeping v u w).objects ≡ w.objects
+keeping_objects (object (cell_name a b)) u w = refl
+keeping_objects v u w = refl
+
+queueing_objects : (v u : Value) (w : World) → (direct.queueing v u w).objects ≡ w.objects
+queueing_objects (object (own_name a b)) u w = refl
+queueing_objects v u w = refl
+
+settle_law : {first : Objects} {places : Native → ℕ} (by : ℕ) (e : r.Settling) → IsSettlingAmong e → RowGoes first places by (r.settles e)
+settle_law by (r.answers_kept x) a s es w h g z y m few p o k c is = record {
+  done = record { reply = kept_is h w g o k (direct.value_of s.values x) _ (handle_is o x a s.values es p); objects = objects_step o; items = shown-append z _ ∙ rw (is, shown_gained by (direct.way_into s x) (direct.kept_in (direct.value_of s.values x) w)) (append-nil y); keeps = keeps_refl };
+  page = k;
+}
+settle_law {first = first} {places = places} by (r.keeps x v) a s es w h g z y m few p o k c is = record {
+  done = record { reply = tt; objects = subst (λ q. ObjectsAre first places q h (suc m)) (sym (keeping_objects (direct.value_of s.values x) (direct.value_of s.values v) w)) (objects_step o); items = is; keeps = keeps_refl };
+  page = keeping_is h w g o k (direct.value_of s.values v) _ (handle_is o v a.1 s.values es p) (direct.value_of s.values x) _ (handle_is o x a.0 s.values es p);
+}
+settle_law by (r.says x us) a s es w h g z y m few p o k c is = record {
+  done = record { reply = tt; objects = objects_step o; items = shown-append z _ ∙ rw (is, saying_is h us (direct.value_of s.values x) _ (handle_is o x a s.values es p)) refl; keeps = keeps_refl };
+  page = k;
+}
+settle_law {first = first} {places = places} by (r.queues x f) a s es w h g z y m few p o k c is = record {
+  done = record { reply = tt; objects = subst (λ q. ObjectsAre first places q h (suc m)) (sym (queueing_objects (direct.value_of s.values x) (direct.value_of s.values f) w)) (objects_step o); items = is; keeps = keeps_refl };
+  page = queueing_is h w g o k (direct.value_of s.values f) _ (handle_is o f a.1 s.values es p) (direct.value_of s.values x) _ (handle_is o x a.0 s.values es p);
+}
+settle_law by (r.changes_node x c y) a s es w h g z u m few p o k d is = absurd a
+settle_law by (r.adds_node x n) a s es w h g z y m few p o k c is = absurd a
+settle_law by (r.listens x us f) a s es w h g z y m few p o k c is = absurd a
+
+-- the same value
+
+module _ {first : Objects} {places : Native → ℕ} {objects : ℕ → List Object} {h : Objects} {m : ℕ} (o : ObjectsAre first places objects h m) where
+  -- two names, and two places
+  object_same : (n k : Name) (i j : ℕ) → Named h n i → Named h k j → nat_eq i j ≡ same_units (name_code n) (name_code k)
+  object_same n k i j p q =
+      let a = o.each n i p in
+      let b = o.each k j q in
+      let c = among objects h n a.stored a.is in
+      let d = among objects h k b.stored b.is in
+      let cases = elim (nat_eq i j) as (λ e. nat_eq i j ≡ e → e ≡ same_units (name_code n) (name_code k)) [
+        | true ↦ λ e. let same : i ≡ j = grind (arith, nat_tests) in
+            let tags : tag_of_name n ≡ tag_of_name k = sym p ∙ ap (λ l. heap.tag_of (heap.object_at h l)) same ∙ q in
+            sym (ap (λ l. same_units l (name_code k)) (same_code n k c d tags) ∙ same_key-refl (name_code k))
+        | false ↦ λ e. sym (not_true _ (λ s. let tags : tag_of_name n ≡ tag_of_name k = same_tag n k c d (same_text (name_code n) (name_code k) (sym s)) in
+            let same : i ≡ j = o.once k i j (p ∙ tags) q in grind (arith, nat_tests)))
+      ] in cases refl
+
+  same_is : (v : Value) (e : EsValue) → Val h v e → (u : Value) (f : EsValue) → Val h u f → strictly_equal e f ≡ direct.strictly_equal v u
+  same_is v e p u f q = by_value h (λ v e. strictly_equal e f ≡ direct.strictly_equal v u)
+      (by_value h (λ u f. strictly_equal es.Undefined f ≡ direct.strictly_equal undefined u) refl refl (λ b. refl) (λ k. refl) (λ ws. refl) (λ k j t. refl) u f q)
+      (by_value h (λ u f. strictly_equal es.Null f ≡ direct.strictly_equal null u) refl refl (λ b. refl) (λ k. refl) (λ ws. refl) (λ k j t. refl) u f q)
+      (λ a. by_value h (λ u f. strictly_equal (es.Bool a) f ≡ direct.strictly_equal (truth a) u) refl refl (λ b. refl) (λ k. refl) (λ ws. refl) (λ k j t. refl) u f q)
+      (λ n. by_value h (λ u f. strictly_equal (es.Num n) f ≡ direct.strictly_equal (number n) u) refl refl (λ b. refl) (λ k. refl) (λ ws. refl) (λ k j t. refl) u f q)
+      (λ us. by_value h (λ u f. strictly_equal (es.Text us) f ≡ direct.strictly_equal (text us) u) refl refl (λ b. refl) (λ k. refl) (λ ws. refl) (λ k j t. refl) u f q)
+      (λ n i s. by_value h (λ u f. strictly_equal (es.Obj i) f ≡ direct.strictly_equal (object n) u) refl refl (λ b. refl) (λ k. refl) (λ ws. refl) (λ k j t. object_same n k i j s t) u f q)
+      v e p
+
+result_is : {A : Type 0} {first : Objects} {places : Native → ℕ} {h : Objects} {m : ℕ} (w : World) (g : es3.Page) (z : List direct.Item) {y : List Told} (a : Result A Fault) (go : A → direct.Done) (go' : A → es3.Came) → ObjectsAre first places w.objects h m → PagesAre h w g → shown z ≡ y → ((x : A) → CameIs first places h m (go x) (go' x)) → CameIs first places h m (direct.with_result a w z go) (es3.with_result a h g y go')
+result_is w g z (Ok x) go go' o k is f = f x
+result_is w g z (Err f) go go' o k is l = record { done = record { reply = refl; objects = objects_step o; items = is; keeps = keeps_refl }; page = k }
+
+-- every row has its law
+pub row_law : {first : Objects} {places : Native → ℕ} (by : ℕ) → ((e : Ending) → IsEndAmong e → EndLaw first places by e) → (q : Row) → IsAmongObjects q → RowGoes first places by q
+row_law by law (r.ends e) a s es w h g z y m few p o k c is = let d = law e a s es w h z y m few p o is in record { done = d; page = pages_keep w (direct.finish _ e s w z).world g d.keeps (finish_page _ e s w z) k }
+row_law by law (r.settles e) a s es w h g z y m few p o k c is = settle_law by e a s es w h g z y m few p o k c is
+row_law {first = first} {places = places} by law (r.as_text x go) a s es w h g z y m few p o k c is =
+    subst (λ t. CameIs first places h m (direct.does by (r.as_text x go) s w z) (es3.with_result t h g y (λ us. es3.does places by (go us) es h g y))) (sym (c.texts _ _ (handle_is o x a.0 s.values es p)))
+    (result_is w g z (direct.text_of w (direct.value_of s.values x)) (λ us. direct.does by (go us) s w z) (λ us. es3.does places by (go us) es h g y) o k is (λ us. row_law by law (go us) (a.1 us) s es w h g z y m few p o k c is))
+row_law {first = first} {places = places} by law (r.as_joined x sep go) a s es w h g z y m few p o k c is =
+    subst (λ t. CameIs first places h m (direct.does by (r.as_joined x sep go) s w z) (es3.with_result t h g y (λ us. es3.does places by (go us) es h g y))) (sym (c.joins _ _ sep (handle_is o x a.0 s.values es p)))
+    (result_is w g z (direct.joined_of w (direct.value_of s.values x) sep) (λ us. direct.does by (go us) s w z) (λ us. es3.does places by (go us) es h g y) o k is (λ us. row_law by law (go us) (a.1 us) s es w h g z y m few p o k c is))
+row_law {first = first} {places = places} by law (r.as_number x go) a s es w h g z y m few p o k c is =
+    subst (λ t. CameIs first places h m (direct.does by (r.as_number x go) s w z) (es3.with_result t h g y (λ n. es3.does places by (go n) es h g y))) (sym (c.numbers _ _ (handle_is o x a.0 s.values es p)))
+    (result_is w g z (direct.number_of w (direct.value_of s.values x)) (λ n. direct.does by (go n) s w z) (λ n. es3.does places by (go n) es h g y) o k is (λ n. row_law by law (go n) (a.1 n) s es w h g z y m few p o k c is))
+row_law {first = first} {places = places} by law (r.looks x go) a s es w h g z y m few p o k c is =
+    let v = direct.value_of s.values x in
+    let e = es3.value_in places es x in
+    let l = seen_alike w o (length s.values) v e (handle_is o x a.0 s.values es p) in
+    let b = direct.see w (length s.values) v in
+    let n : length s.values ≡ length es = vals_length h s.values es p in
+    subst (λ j. CameIs first places h m (direct.does by (go b.sight) (direct.and_seen s (direct.way_into s x) b.values) w z) (es3.does places by (go (es3.see h j e).sight) (es ++ (es3.see h j e).values) h g y)) n
+    (subst (λ q. CameIs first places h m (direct.does by (go b.sight) (direct.and_seen s (direct.way_into s x) b.values) w z) (es3.does places by (go q) (es ++ (es3.see h (length s.values) e).values) h g y)) l.sight
+    (row_law by law (go b.sight) (a.1 b.sight (seen_among w o (length s.values) v e (handle_is o x a.0 s.values es p))) (direct.and_seen s (direct.way_into s x) b.values) (es ++ (es3.see h (length s.values) e).values) w h g z y m few (vals_append h s.values b.values es _ p l.values) o k c is))
+row_law {first = first} {places = places} by law (r.as_same x v go) a s es w h g z y m few p o k c is =
+    subst (λ b. CameIs first places h m (direct.does by (r.as_same x v go) s w z) (es3.does places by (go b) es h g y)) (sym (same_is o _ _ (handle_is o x a.0 s.values es p) _ _ (handle_is o v a.1 s.values es p)))
+    (row_law by law (go _) (a.2 _) s es w h g z y m few p o k c is)
+row_law by law (r.touches t x ks next) a s es w h g z y m few p o k c is =
+    row_law by law next a.1 s es w h g (z ++ _) (y ++ _) m few p o k c (shown-append z _ ∙ rw is (ap (λ l. y ++ l) (touch_is h _ t _ ks _ _ (handle_is o x a.0 s.values es p))))

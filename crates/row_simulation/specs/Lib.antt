@@ -1,0 +1,4 @@
+pub mod Correspond
+pub mod Among
+pub mod RowLaw
+pub mod Inline

@@ -1,0 +1,81 @@
+-- What it is that a row does the same on both sides.
+use Rattle.std.specs.Prelude.{◌≡◌, ℕ, suc, ◌≤◌, true, List, [], ◌∷◌, length, map, None, Some, codes}
+use Rattle.es3_heap.specs.Objects as heap
+use Rattle.es3_heap.specs.Objects.{Objects, object_at}
+use Rattle.es3_heap.specs.Properties.{own, may_write}
+use Rattle.es3_heap.specs.Making.{array_object}
+use Rattle.es3_heap.specs.declared.value.Value.TheVariants as es
+use Rattle.es3_convert.specs.Conversions as convert
+use Rattle.es3_convert.specs.Numbers as convert_number
+use Rattle.es3_language.specs.Natives.{Reply, value_reply, throw_reply, invoke_reply, stop_reply}
+use Rattle.rows.specs.Rows.{Row, Ending, Native}
+use Rattle.cajita_meaning.specs.World.{Value, World}
+use Rattle.cajita_meaning.specs.Doing as direct
+use Rattle.heap_rows.specs.Doing as es3
+use Rattle.heap_rows.specs.Doing.{Told}
+use Rattle.row_simulation.specs.Correspond.{EsValue, tag_of_name, Val, Vals, ObjectsAre, Keeps}
+
+-- an array of these texts
+abbrev pub IsList : Objects → List (List ℕ) → EsValue → Type 0
+IsList h ks (es.Obj i) = object_at h i ≡ Some (array_object (map es.Text ks))
+IsList h ks e = ⊥
+
+abbrev pub ReplyIs : Objects → direct.Outcome → Reply → Type 0
+ReplyIs h (direct.gives v) (value_reply e) = Val h v e
+ReplyIs h (direct.throws v) (throw_reply e) = Val h v e
+ReplyIs h (direct.lists ks) (value_reply e) = IsList h ks e
+ReplyIs h (direct.stops f) (stop_reply g) = f ≡ g
+ReplyIs h (direct.calls a f t vs) (invoke_reply b f' t' es) = (a ≡ b) × Val h f f' × Val h t t' × Vals h vs es
+ReplyIs h _ _ = ⊥
+
+-- what the log prints of what a row tells: touches, and what is said
+abbrev pub shown : List direct.Item → List Told
+shown [] = []
+shown (direct.touched m t n k ∷ z) = es3.touched m t (tag_of_name n) k ∷ shown z
+shown (direct.said m us ∷ z) = es3.said m us ∷ shown z
+shown (i ∷ z) = shown z
+
+-- two rows have come to the same: the objects of both then correspond, and a step pays for a new name
+pub record DoneIs (first : Objects) (places : Native → ℕ) (h : Objects) (m : ℕ) (a : direct.Done) (b : es3.Done) : Type 0 where
+  pub reply : ReplyIs b.heap a.outcome b.reply
+  pub objects : ObjectsAre first places a.world.objects b.heap (suc m)
+  pub items : shown a.items ≡ b.items
+  pub keeps : Keeps h b.heap
+
+-- texts and numbers of values that correspond are the same
+pub record Conversions (w : World) (h : Objects) : Type 0 where
+  pub texts : (v : Value) (e : EsValue) → Val h v e → convert.text_of h e ≡ direct.text_of w v
+  pub joins : (v : Value) (e : EsValue) (sep : List ℕ) → Val h v e → es3.joined_of h e sep ≡ direct.joined_of w v sep
+  pub numbers : (v : Value) (e : EsValue) → Val h v e → convert_number.number_of h e ≡ direct.number_of w v
+
+-- the law of an end
+abbrev pub EndLaw : Objects → (Native → ℕ) → ℕ → Ending → Type 0
+EndLaw first places by e =
+    (s : direct.Held) (es : List EsValue) (w : World) (h : Objects) (z : List direct.Item) (y : List Told) (m : ℕ) → suc m ≤ 4294967295
+    → Vals h s.values es → ObjectsAre first places w.objects h m → shown z ≡ y
+    → DoneIs first places h m (direct.finish by e s w z) (es3.finish places by e es h y)
+
+-- what the page keeps beside its objects corresponds
+pub record PagesAre (h : Objects) (w : World) (g : es3.Page) : Type 0 where
+  pub cells : (c : ℕ) → Val h (w.cells c) (g.cells c)
+  pub queues : (m : ℕ) → Vals h (w.queues m) (g.queues m)
+
+pub record CameIs (first : Objects) (places : Native → ℕ) (h : Objects) (m : ℕ) (a : direct.Done) (b : es3.Came) : Type 0 where
+  pub done : DoneIs first places h m a b.done
+  pub page : PagesAre b.done.heap a.world b.page
+
+-- the law of a row
+abbrev pub RowLaw : Objects → (Native → ℕ) → ℕ → Row → Type 0
+RowLaw first places by q =
+    (s : direct.Held) (es : List EsValue) (w : World) (h : Objects) (g : es3.Page) (z : List direct.Item) (y : List Told) (m : ℕ) → suc m ≤ 4294967295
+    → Vals h s.values es → ObjectsAre first places w.objects h m → PagesAre h w g → shown z ≡ y
+    → CameIs first places h m (direct.does by q s w z) (es3.does places by q es h g y)
+
+-- the prototypes were there at the opening, and that of Object keeps no key from being written
+pub record IsFirst (first : Objects) : Type 0 where
+  pub some : 10 ≤ length first.list
+  pub top : heap.proto_of (object_at first 0) ≡ None
+  pub free : (k : List ℕ) → may_write (own first 0 k) ≡ true
+  -- no prototype has a conversion of its own making
+  pub no_text : (i : ℕ) → own first i (codes "toString") ≡ None
+  pub no_value : (i : ℕ) → own first i (codes "valueOf") ≡ None

@@ -1,0 +1,12 @@
+pub mod Document
+pub mod Rows
+pub mod Names
+pub mod Public
+pub mod Arguments
+pub mod Guards
+pub mod Arrays
+pub mod Texts
+pub mod Core
+pub mod Nodes
+pub mod Table
+pub mod Operators
