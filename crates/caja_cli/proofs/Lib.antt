@@ -1,3 +1,4 @@
 pub mod Written
 pub mod Words
 pub mod Runs
+pub mod Solos

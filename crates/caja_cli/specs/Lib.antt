@@ -3,3 +3,4 @@ pub mod Words
 pub mod Output
 pub mod Answered
 pub mod Run
+pub mod Solo

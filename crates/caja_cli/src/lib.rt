@@ -10,6 +10,7 @@ ghost use Rattle.page_cajole.specs.Formatted.{IsFormatted};
 ghost use Rattle.page_meaning.specs.Meant.{IsMeant};
 ghost use Rattle.caja_cli.specs.Answered.{IsAnswer, Wrote, WrotePart};
 ghost use Rattle.caja_cli.specs.Run.{IsRun};
+ghost use Rattle.caja_cli.specs.Solo.{IsSolo};
 
 mod command;
 mod ending;
@@ -31,7 +32,7 @@ use std::alloc::Global;
 /// text and the log of its load. With `format` the input is a source of ECMAScript 3, and the output its printed text and a line
 /// end. With `run` it is a text of ECMAScript 3 that runs as it stands, and the output its log. Where the words are no command, nothing is read, and the
 /// line `usage` is written.
-#[tactic(auto, using(page_meaning::proofs::Meant::meant, page_cajole::proofs::Formats::is_formatted, crate::proofs::Runs::is_run))]
+#[tactic(auto, using(page_meaning::proofs::Meant::is_meant, crate::proofs::Solos::is_solo, page_cajole::proofs::Formats::is_formatted, crate::proofs::Runs::is_run))]
 pub fn caja<S: Source, K: Sink>(
     words: &[String],
     source: &mut S,
@@ -42,13 +43,17 @@ pub fn caja<S: Source, K: Sink>(
     ensures answer { IsAnswer result
         → Wrote (map string_bytes words.now) result (S.left source.old) (S.left source.new) (K.written sink.old) (K.written sink.new) }
 
-    // The log of an input that is an accepted source is what that source means.
+    // What becomes of an input of `solo`: the one program that it spells is cajoled, and its log is what it means, just where it breaks no rule; each refusal
+    // comes just where it is so.
     ensures meant { (input : List ℕ) → IsMeant input }
 
-    // What is formatted is the one program that the input spells, and the text is read as it again.
+    // What is written for each of these.
+    ensures solo { (input : List ℕ) → IsSolo input }
+
+    // What is formatted is the one program that the input spells, and the text is read as it again; each refusal comes just where it is so.
     ensures formatted { (input : List ℕ) → IsFormatted input }
 
-    // What is written for a text that runs is what the one program that the input spells means.
+    // What is written for a text that runs is what the one program that the input spells means; each refusal comes just where it is so.
     ensures run { (input : List ℕ) → IsRun input }
 
     // Each of the other four, and its cause.

@@ -42,7 +42,7 @@ impl Infix {
 }
 
 /// Operands with operators between them (ES3 11.5 to 11.11), as they are read: an operand, and then in turn an operator and the operand
-/// behind it. Each operand is a whole part, whatever it is made of. Where memory is wanting, the list is of no more use.
+/// behind it. Each operand is a whole part, whatever it is made of. Where memory is wanting for one operator more, the list stays as it was.
 #[derive(Drop)]
 pub struct Ops {
     alloc: Global,
@@ -55,7 +55,7 @@ pub struct Ops {
 }
 
 impl Ops {
-    ghost use Rattle.std.specs.Prelude.{◌≡◌, ◌^◌, ◌<◌, ◌++◌, ◌∷◌, [], IfOk, IsNone, IsOkAnd, IsOk, IsSome, OnOk, Some, None};
+    ghost use Rattle.std.specs.Prelude.{◌≡◌, ◌^◌, ◌<◌, ◌++◌, ◌∷◌, [], IfOk, IsNone, IsOkAnd, IsOk, IsSome, OnErr, OnOk, Some, None};
     ghost use Rattle.es3_tree.specs.Tree as t;
     ghost use Rattle.es3_tree.specs.PlacedView.{expr};
     ghost use Rattle.es3_grammar.specs.Levels.{E};
@@ -77,17 +77,23 @@ impl Ops {
 
     /// One operator more, behind the last operand. What comes back is how deep the tree of `finish` would nest if an operand that is a
     /// single node ended the list: the number of expressions, statements and functions on the longest path into it.
+    ///
+    /// # Errors
+    ///
+    /// `Memory` where memory is wanting; the operands and operators are then as they were.
     pub fn add(&mut self, op: Infix) -> Result<u32, Memory>
         requires whole { IsSome (last_of self.old) }
         requires fits { (x y : E) → deep t.expr x ≡ 1 → Grouped 3 (front_with self.old op) x y → deep t.expr y < 2 ^ 32 }
         ensures reads { OnOk result ((front_of self.new ≡ front_with self.old op) × (last_of self.new ≡ None)) }
         ensures nests { IfOk result (λ n.
             (x y : E) → deep t.expr x ≡ 1 → Grouped 3 (front_with self.old op) x y → n ≡ deep t.expr y) }
+        ensures keeps { OnErr result ((front_of self.new ≡ front_of self.old) × (last_of self.new ≡ last_of self.old)) }
     {
         self.waiting.reserve(1)?;
+        self.front.reserve(1)?;
         let last = self.last.take().unwrap();
         let depth = measured(&last);
-        self.front.push((last, op))?;
+        self.front.push((last, op)).unwrap();
         Ok(wait_behind(&mut self.waiting, depth, op))
     }
 

@@ -1,7 +1,7 @@
 //! The longest expression of ECMAScript 3 at the front of tokens (ES3 11.14).
 #![tactic(auto)]
 
-ghost use Rattle.std.specs.Prelude.{◌≡◌, ◌<◌, ◌≤◌, ◌-◌, ◌^◌, if◌then◌else◌, IfOk, Some, length, map, drop};
+ghost use Rattle.std.specs.Prelude.{◌≡◌, ◌<◌, ◌-◌, ◌^◌, if◌then◌else◌, IfOk, Some, map, drop};
 ghost use Rattle.es3_tree.specs.PlacedView.{expr};
 ghost use Rattle.es3_grammar.specs.Longest.{is_phrase as is_phrase_spec};
 ghost use Rattle.es3_grammar.specs.Machine.{ending, filled as filled_spec, finished as finished_spec, read_phrase};
@@ -139,20 +139,31 @@ fn read_front(
     Ok((tree, count))
 }
 
+/// The tokens from the one at `at` on, of which there are none at their end and past it.
+fn tokens_from(tokens: &[Token], at: usize) -> &[Token]
+    ensures { result.now ≡ drop at tokens.now }
+{
+    if at < tokens.len() {
+        &tokens[at..]
+    } else {
+        &[]
+    }
+}
+
 /// The longest expression (ES3 11.14) that the tokens from the one at `at` on begin with, counted from 0, and the place of the token
 /// behind it, where no path into its tree passes more than `nest` expressions, statements and functions and at none of its tokens more
 /// than twice as many brackets are open. What stands behind it is of no matter: an error comes only where no front of those tokens is
-/// such an expression, and it is then that of the first token from which none goes on.
+/// such an expression, and it is then that of the first token from which none goes on. At the end of the tokens and past it no expression
+/// begins, which is told at the source's end.
 pub fn read_expr(
     alloc: Global,
     tokens: &Tokens,
     at: usize,
     nest: u32,
 ) -> Result<(Expr, usize), ReadError>
-    requires placed { at ≤ length tokens.now.list.items }
-    requires below { nest < 2 ^ 32 - 1 }
+    requires { nest < 2 ^ 32 - 1 }
     ensures { ReadsExpr nest tokens.now.end at (map spot_of (drop at tokens.now.list.items)) result }
 {
-    let (tree, count) = read_front(alloc, &tokens.list[at..], tokens.end, nest)?;
+    let (tree, count) = read_front(alloc, tokens_from(&tokens.list, at), tokens.end, nest)?;
     Ok((tree, at + count))
 }

@@ -1,3 +1,4 @@
 pub mod Awaited
 pub mod Readings
+pub mod Telling
 pub mod Unfinished

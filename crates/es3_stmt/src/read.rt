@@ -2,8 +2,10 @@
 
 ghost use Rattle.std.specs.Prelude.{◌≡◌, ◌-◌, ◌<◌, ◌^◌, map};
 ghost use Rattle.es3_grammar.specs.Answers.{answer};
+ghost use Rattle.es3_grammar.specs.Spots.{spots};
 ghost use Rattle.es3_lexer.specs.Views.{placed_of};
 ghost use Rattle.es3_stmt.specs.Reads.{Reads};
+ghost use Rattle.es3_stmt.specs.Told.{IsTold};
 
 use crate::ending::ending;
 use crate::step::step;
@@ -49,7 +51,8 @@ impl From<Memory> for ReadError {
 /// goes on.
 pub fn read_program(alloc: Global, tokens: &Tokens, nest: u32) -> Result<Program, ReadError>
     requires { nest < 2 ^ 32 - 1 }
-    ensures { Reads result (answer nest tokens.now.end (map placed_of tokens.now.list.items)) }
+    ensures answer { Reads result (answer nest tokens.now.end (map placed_of tokens.now.list.items)) }
+    ensures told { IsTold nest tokens.now.end (spots (map placed_of tokens.now.list.items)) result }
 {
     let mut stack = Stack::new(alloc);
     stack.push(Frame::List(Body::Program, Stmts::new(alloc)))?;

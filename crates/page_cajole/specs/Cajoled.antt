@@ -5,7 +5,7 @@ use Rattle.es3_tree.specs.Placed as p
 use Rattle.es3_tree.specs.Placed.{Placed}
 use Rattle.cajita_tree.specs.Tree as c
 use Rattle.scope_rules.specs.Language.{is_first}
-use Rattle.scope_rules.specs.Faults.{Fault, faults, first}
+use Rattle.cajita_rules.specs.Faults.{Fault, faults, first}
 use Rattle.scope_rules.specs.Resolve.{module_of}
 use Rattle.cajita_rewrite.specs.Rewrite.{program_of}
 use Rattle.page_cajole.specs.Source.{Source, source_of, source_limits}

@@ -1,5 +1,5 @@
 -- What a source is formatted to.
-use Rattle.std.specs.Prelude.{ℕ, ◌≡◌, List, IsTrue}
+use Rattle.std.specs.Prelude.{ℕ, ◌≡◌, ◌↔◌, List, IsTrue}
 use Rattle.es3_tree.specs.Tree as t
 use Rattle.es3_tree.specs.Placed.{Placed}
 use Rattle.es3_grammar.specs.Plain.{plain}
@@ -8,6 +8,7 @@ use Rattle.es3_printed.specs.Safe.{is_safe}
 use Rattle.es3_printed.specs.Back.{IsReadBack}
 use Rattle.page_cajole.specs.Source as s
 use Rattle.page_cajole.specs.Source.{Source, source_of, source_limits, Spells}
+use Rattle.page_cajole.specs.Refused.{IsUncut, IsUnread}
 use Rattle.page_cajole.specs.declared.formatting.FormatAnswer.{FormatAnswer}
 use Rattle.page_cajole.specs.declared.formatting.FormatAnswer.TheVariants as answer
 
@@ -32,10 +33,13 @@ told (answer.Text v) = text v.items
 told (answer.Uncut number at) = uncut number at
 told (answer.Unread number at) = unread number at
 
--- a source is formatted to the text of the one program that it spells; that text is read as the same program, apart from places, and may stand in a page
+-- a source is formatted to the text of the one program that it spells; that text is read as the same program, apart from places, and may stand in a page;
+-- and a source is refused just where it spells none, with the number and the byte of what refuses it
 pub record IsFormatted (source : List ℕ) : Type 0 where
   pub one : (p q : Placed t.program) → Spells source_limits source p → Spells source_limits source q → p ≡ q
   pub where_spelled : (p : Placed t.program) → Spells source_limits source p → formatted source ≡ text (printed (plain t.program p))
   pub spelled : (w : List ℕ) → formatted source ≡ text w → (p : Placed t.program) × Spells source_limits source p × (w ≡ printed (plain t.program p))
   pub back : (p : Placed t.program) → Spells source_limits source p → IsReadBack (plain t.program p)
   pub safe : (w : List ℕ) → formatted source ≡ text w → IsTrue (is_safe w)
+  pub where_uncut : (number at : ℕ) → (formatted source ≡ uncut number at) ↔ IsUncut source_limits source number at
+  pub where_unread : (number at : ℕ) → (formatted source ≡ unread number at) ↔ IsUnread source_limits source number at

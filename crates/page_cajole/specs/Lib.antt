@@ -1,4 +1,5 @@
 pub mod Source
+pub mod Refused
 pub mod Cajoled
 pub mod Answers
 pub mod Formatted

@@ -91,7 +91,7 @@ pub fn cajole(alloc: Global, source: &[u8]) -> Result<Answer, Memory>
 }
 
 /// What `format` promises of each source: its text is that of the one program that the source spells, that text is read as the same
-/// program again, apart from places, and it may stand in a page.
+/// program again, apart from places, and it may stand in a page; and a source is refused just where it spells no program within the limits.
 pub fn formatting_keeps_the_program()
     ensures { (source : List ℕ) → IsFormatted source }
 {}

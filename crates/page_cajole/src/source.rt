@@ -1,9 +1,11 @@
 //! From a source to the program that it spells.
 
-ghost use Rattle.std.specs.Prelude.{◌≡◌, ℕ, ◌-◌, ◌<◌, ◌^◌, IfOk, map};
+ghost use Rattle.std.specs.Prelude.{◌≡◌, ◌↔◌, ℕ, ◌-◌, ◌<◌, ◌^◌, Err, IfOk, IsErr, map};
+ghost use Rattle.es3_grammar.specs.Answers as tokens_answers;
 ghost use Rattle.es3_grammar.specs.Answers.{answer};
 ghost use Rattle.es3_lexer.specs.Answers.{Refuses, refusal_of};
 ghost use Rattle.es3_lexer.specs.Views.{placed_of};
+ghost use Rattle.es3_stmt.specs.Reads.{Reads};
 ghost use Rattle.es3_tokens.specs.Cut as cut;
 ghost use Rattle.page_cajole.specs.Source.{source_of, of_cut, of_tokens};
 ghost use Rattle.page_cajole.specs.Answers.{read_as};
@@ -43,8 +45,10 @@ pub enum SourceRead {
     Unread(u8, u32),
 }
 
+/// What refuses a source that isn't cut, and `Memory` only where that is wanting.
 fn lex_refusal(refusal: LexError) -> Result<SourceRead, Memory>
-    ensures { IfOk result (λ r. (a : cut.Answer) → Refuses (refusal_of refusal) a → (deepest end : ℕ) → read_as r ≡ of_cut deepest end a) }
+    ensures memory { IsErr result ↔ (refusal ≡ LexError.Memory) }
+    ensures refused { IfOk result (λ r. (a : cut.Answer) → Refuses (refusal_of refusal) a → (deepest end : ℕ) → read_as r ≡ of_cut deepest end a) }
 {
     Ok(match refusal {
         LexError::NotUtf8(at) => SourceRead::Uncut(1, at),
@@ -61,16 +65,26 @@ fn lex_refusal(refusal: LexError) -> Result<SourceRead, Memory>
     })
 }
 
+/// What refuses tokens that aren't read, and `Memory` only where that is wanting.
+fn read_refusal(refusal: ReadError) -> Result<SourceRead, Memory>
+    ensures memory { IsErr result ↔ (refusal ≡ ReadError.Memory) }
+    ensures refused { IfOk result (λ r. (a : tokens_answers.Answer) → Reads (Err refusal) a → read_as r ≡ of_tokens a) }
+{
+    match refusal {
+        ReadError::Syntax(at) => Ok(SourceRead::Unread(1, at)),
+        ReadError::TooDeep(at) => Ok(SourceRead::Unread(2, at)),
+        ReadError::Memory => Err(Memory),
+    }
+}
+
 fn read_tokens(alloc: Global, list: &Tokens, deepest: u32) -> Result<SourceRead, Memory>
     requires { deepest < 2 ^ 32 - 1 }
     ensures { IfOk result (λ r. read_as r ≡ of_tokens (answer deepest list.now.end (map placed_of list.now.list.items))) }
 {
-    Ok(match read_program(alloc, list, deepest) {
-        Ok(program) => SourceRead::Spelled(program),
-        Err(ReadError::Syntax(at)) => SourceRead::Unread(1, at),
-        Err(ReadError::TooDeep(at)) => SourceRead::Unread(2, at),
-        Err(ReadError::Memory) => return Err(Memory),
-    })
+    match read_program(alloc, list, deepest) {
+        Ok(program) => Ok(SourceRead::Spelled(program)),
+        Err(refusal) => read_refusal(refusal),
+    }
 }
 
 /// The program that a source spells within its limits, or what refuses it.

@@ -2,7 +2,8 @@
 
 ghost use Rattle.std.specs.Prelude.{◌≡◌, IfOk};
 ghost use Rattle.es3_tree.specs.PlacedView.{program as placed_program};
-ghost use Rattle.page_cajole.specs.Text.{text_outcome, judged, told};
+ghost use Rattle.page_cajole.specs.Answers.{read_as};
+ghost use Rattle.page_cajole.specs.Text.{text_outcome, text_of, judged, told};
 
 use crate::source::{SourceRead, TEXT_LIMITS, read_source};
 use caja_units::Memory;
@@ -35,6 +36,17 @@ fn judge(program: Program) -> TextAnswer
     }
 }
 
+/// The answer for what was read of a text.
+fn answer_of(read: SourceRead) -> TextAnswer
+    ensures { told result ≡ text_of (read_as read) }
+{
+    match read {
+        SourceRead::Spelled(program) => judge(program),
+        SourceRead::Uncut(number, at) => TextAnswer::Uncut(number, at),
+        SourceRead::Unread(number, at) => TextAnswer::Unread(number, at),
+    }
+}
+
 /// The program that a text spells, or what refuses it: cutting it into tokens, reading these, or a jump or a label (ES3 12.7 to 12.9, 12.12), in
 /// this order.
 ///
@@ -44,9 +56,5 @@ fn judge(program: Program) -> TextAnswer
 pub fn read_text(alloc: Global, text: &[u8]) -> Result<TextAnswer, Memory>
     ensures { IfOk result (λ a. told a ≡ text_outcome text.now) }
 {
-    match read_source(alloc, text, TEXT_LIMITS)? {
-        SourceRead::Spelled(program) => Ok(judge(program)),
-        SourceRead::Uncut(number, at) => Ok(TextAnswer::Uncut(number, at)),
-        SourceRead::Unread(number, at) => Ok(TextAnswer::Unread(number, at)),
-    }
+    Ok(answer_of(read_source(alloc, text, TEXT_LIMITS)?))
 }

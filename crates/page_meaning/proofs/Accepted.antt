@@ -10,11 +10,12 @@ use Rattle.es3_tree.specs.Placed.{Placed, Word}
 use Rattle.es3_labels.specs.Around.{in_program}
 use Rattle.es3_labels.specs.Misplaced.{misplaced}
 use Rattle.cajita_tree.specs.Tree as c
-use Rattle.scope_rules.specs.Rules.{fixed_names, own_words, is_free_name, is_record_key}
-use Rattle.scope_rules.specs.Declarations.{Declaration, variable, declared_as, declarations}
-use Rattle.scope_rules.specs.Scope.{Scope, in_module, imported, unbound, is_unbound, declares, own, is_arguments, lacks}
-use Rattle.scope_rules.specs.Faults.{Fault, hidden, undeclared, redeclared, faults_in, bad_label, module_scope, all_faults, ordered, inserted, faults, first, is_before}
-use Rattle.scope_rules.specs.Resolve.{names_of, is_variable, is_loop_variable, once_after, vars_of, module_of}
+use Rattle.cajita_names.specs.Rules.{fixed_names, own_words, is_free_name, is_record_key}
+use Rattle.cajita_names.specs.Declarations.{Declaration, variable, declared_as, declarations}
+use Rattle.cajita_names.specs.Scope.{Scope, in_module, imported, unbound, is_unbound, declares, own, is_arguments, lacks}
+use Rattle.cajita_rules.specs.Faults.{Fault, hidden, undeclared, redeclared, faults_in, bad_label, module_scope, all_faults, ordered, inserted, faults, first, is_before}
+use Rattle.cajita_names.specs.Once.{names_of, is_variable, is_loop_variable, once_after, vars_of}
+use Rattle.scope_rules.specs.Resolve.{module_of}
 use Rattle.scope_rules.specs.Language.{is_first}
 use Rattle.cajoled_text.proofs.First.{First, a_number, a_text, a_name, a_record, a_member, a_sum, no_fields, more_fields, no_expr, some_expr, no_items, more_items, variables, a_statement, no_stmts, more_stmts, and_left, and_right, first_module}
 use Rattle.cajita_simulation.specs.Guest as guest
@@ -232,7 +233,7 @@ ordered_none : (fs : List Fault) → ordered fs ≡ [] → fs ≡ []
 ordered_none [] e = refl
 ordered_none (f ∷ fs) e = absurd (inserted_some f (ordered fs) e)
 
-first_none : (fs : List Fault) → first fs ≡ None → fs ≡ []
+pub first_none : (fs : List Fault) → first fs ≡ None → fs ≡ []
 first_none [] e = refl
 first_none (f ∷ fs) e = absurd cc
 

@@ -1,22 +1,26 @@
 -- An accepted source is meant by its log.
-use Rattle.std.proofs.Common.{◌≡◌, ℕ, true, false, List, [], Option, Some, None, cond, refl, sym, subst}
+use Rattle.std.proofs.Common.{◌≡◌, ℕ, true, false, List, [], Option, Some, None, cond, refl, sym, ap, subst, ◌∙◌}
 use Rattle.es3_tree.specs.Tree as t
 use Rattle.es3_tree.specs.Placed.{Placed}
 use Rattle.cajita_tree.specs.Tree as c
 use Rattle.es3_tree.specs.Placed as placed
 use Rattle.scope_rules.specs.Language.{is_first}
-use Rattle.scope_rules.specs.Faults.{Fault, faults, first}
+use Rattle.cajita_rules.specs.Faults.{Fault, faults, first}
 use Rattle.scope_rules.specs.Resolve.{module_of}
 use Rattle.cajita_rewrite.specs.Rewrite.{program_of}
-use Rattle.page_cajole.specs.Source.{Source, uncut, unread, spelled, Spells, source_of, source_limits}
-use Rattle.page_cajole.specs.Cajoled.{outside, cajoled, judged, outcome_of}
+use Rattle.page_cajole.specs.Source as s
+use Rattle.page_cajole.specs.Source.{Source, Spells, source_of, source_limits}
+use Rattle.page_cajole.specs.Cajoled.{uncut, unread, broken, outside, cajoled, rewritten, judged, statements, outcome_of, outcome}
 use Rattle.es3_printed.specs.Back.{IsSpelled, IsReadBack}
 use Rattle.es3_printed.proofs.ReadBack.{read_back, spelled_where_read}
 use Rattle.cajoled_text.proofs.Rewritten.{rewritten_is_spelled}
+use Rattle.scope_rules.proofs.Checked.{has_module}
 use Rattle.page_cajole.proofs.Spelled as source
+use Rattle.page_cajole.proofs.Refusals.{uncut_where, uncut_there, unread_where, unread_there}
 use Rattle.page_meaning.proofs.Theorem.{guests_mean}
-use Rattle.page_meaning.proofs.Accepted.{guest_of}
-use Rattle.page_meaning.specs.Meant.{Meant, IsMeant}
+use Rattle.page_meaning.proofs.Accepted.{guest_of, first_none}
+use Rattle.page_meaning.specs.Meant as meant
+use Rattle.page_meaning.specs.Meant.{Meant, IsCajoled, accepted, IsBroken, faulty, IsMeant}
 
 -- what was judged to be a program: there is no fault, and a module of the first language
 record IsJudged (fault : Option Fault) (m : Option (c.Tree c.program)) (p : t.Tree t.program) : Type 0 where
@@ -36,20 +40,97 @@ judged_program None (Some x) p e =
     ] in cases refl e
 
 read_means : (input : List ℕ) (read : Source) (p : t.Tree t.program) → source_of source_limits input ≡ read → outcome_of read ≡ cajoled p → Meant input p
-read_means input (uncut number at) p is e = absurd cc
-read_means input (unread number at) p is e = absurd cc
-read_means input (spelled (placed.script body)) p is e =
+read_means input (s.uncut number at) p is e = absurd cc
+read_means input (s.unread number at) p is e = absurd cc
+read_means input (s.spelled (placed.script body)) p is e =
     let j = judged_program (first (faults [] body)) (module_of [] body) p e in
-    let s : Spells source_limits input (placed.script body) = source.spelled_where_read source_limits input (placed.script body) is in
+    let h : Spells source_limits input (placed.script body) = source.spelled_where_read source_limits input (placed.script body) is in
     let text : IsSpelled (program_of j.its_module) =
-    rewritten_is_spelled [] body j.its_module (spelled_where_read source_limits.longest input s.spelled_by (placed.script body) s.cut s.within.spelled) j.found j.one in
+    rewritten_is_spelled [] body j.its_module (spelled_where_read source_limits.longest input h.spelled_by (placed.script body) h.cut h.within.spelled) j.found j.one in
     record {
       its_module = j.its_module;
-      spelled = record { tree = placed.script body; spelled = s; resolved = j.found };
+      spelled = record { tree = placed.script body; spelled = h; resolved = j.found };
       program = j.program;
       back = subst IsReadBack (sym j.program) (read_back (program_of j.its_module) text);
       means = guests_mean j.its_module (guest_of body j.its_module j.clean j.found j.one);
     }
 
-pub meant : (input : List ℕ) → IsMeant input
-meant input = record { where_accepted = λ p e. read_means input (source_of source_limits input) p refl e }
+-- ---- each answer comes just where it is so
+
+-- what is judged where the input spells a program
+of_spelled : (input : List ℕ) (p : Placed t.program) → Spells source_limits input p → outcome input ≡ judged (first (faults [] (statements p))) (module_of [] (statements p))
+of_spelled input p h = ap outcome_of (source.read_where_spelled source_limits input p h)
+
+cajoled_where : (input : List ℕ) (p : t.Tree t.program) → IsCajoled input p → outcome input ≡ cajoled p
+cajoled_where input _ (accepted p m h clean is one) =
+    of_spelled input p h
+    ∙ ap (λ f. judged f (module_of [] (statements p))) clean
+    ∙ ap rewritten is
+    ∙ ap (λ b. cond b (cajoled (program_of m)) outside) one
+
+cajoled_so : (input : List ℕ) (read : Source) (p : t.Tree t.program) → source_of source_limits input ≡ read → outcome_of read ≡ cajoled p → IsCajoled input p
+cajoled_so input (s.uncut number at) p is e = absurd cc
+cajoled_so input (s.unread number at) p is e = absurd cc
+cajoled_so input (s.spelled q) p is e =
+    let j = judged_program (first (faults [] (statements q))) (module_of [] (statements q)) p e in
+    subst (IsCajoled input) (sym j.program) (accepted q j.its_module (source.spelled_where_read source_limits input q is) j.clean j.found j.one)
+
+broken_where : (input : List ℕ) (number at : ℕ) → IsBroken input number at → outcome input ≡ broken number at
+broken_where input _ _ (faulty p f h is) = of_spelled input p h ∙ ap (λ q. judged q (module_of [] (statements p))) is
+broken_where input _ _ (meant.outside p m h clean is one) =
+    of_spelled input p h
+    ∙ ap (λ f. judged f (module_of [] (statements p))) clean
+    ∙ ap rewritten is
+    ∙ ap (λ b. cond b (cajoled (program_of m)) outside) one
+
+same_fault : (input : List ℕ) (n i number at : ℕ) → broken n i ≡ broken number at → IsBroken input n i → IsBroken input number at
+same_fault input n i number at e h =
+    let of_number : n ≡ number = cc in
+    let of_place : i ≡ at = cc in
+    subst (λ m. IsBroken input m at) of_number (subst (IsBroken input n) of_place h)
+
+broken_judged : (input : List ℕ) (p : Placed t.program) (number at : ℕ) → Spells source_limits input p → (q : Option Fault) → first (faults [] (statements p)) ≡ q
+    → (m : Option (c.Tree c.program)) → module_of [] (statements p) ≡ m → judged q m ≡ broken number at → IsBroken input number at
+broken_judged input p number at h (Some f) is m found e = same_fault input f.rule f.at number at e (faulty p f h is)
+broken_judged input p number at h None is None found e = let m = has_module [] (statements p) (first_none (faults [] (statements p)) is) in let both : None ≡ Some m.0 = sym found ∙ m.1 in absurd cc
+broken_judged input p number at h None is (Some x) found e =
+    let cases = elim (is_first c.program x) as (λ b. is_first c.program x ≡ b → cond b (cajoled (program_of x)) outside ≡ broken number at → IsBroken input number at) [
+      | true ↦ λ one f. absurd cc
+      | false ↦ λ one f. same_fault input 0 0 number at f (meant.outside p x h is found one)
+    ] in cases refl e
+
+broken_so : (input : List ℕ) (read : Source) (number at : ℕ) → source_of source_limits input ≡ read → outcome_of read ≡ broken number at → IsBroken input number at
+broken_so input (s.uncut n i) number at is e = absurd cc
+broken_so input (s.unread n i) number at is e = absurd cc
+broken_so input (s.spelled q) number at is e =
+    broken_judged input q number at (source.spelled_where_read source_limits input q is) (first (faults [] (statements q))) refl (module_of [] (statements q)) refl e
+
+-- what a rule judges is no refusal of an earlier stage
+judged_refused : (f : Option Fault) (m : Option (c.Tree c.program)) (number at : ℕ) → (judged f m ≡ uncut number at → ⊥) × (judged f m ≡ unread number at → ⊥)
+judged_refused (Some f) m number at = (λ e. cc, λ e. cc)
+judged_refused None None number at = (λ e. cc, λ e. cc)
+judged_refused None (Some x) number at =
+    elim (is_first c.program x) as (λ b. (cond b (cajoled (program_of x)) outside ≡ uncut number at → ⊥) × (cond b (cajoled (program_of x)) outside ≡ unread number at → ⊥)) [
+      | true ↦ (λ e. cc, λ e. cc)
+      | false ↦ (λ e. cc, λ e. cc)
+    ]
+
+uncut_source : (r : Source) (number at : ℕ) → outcome_of r ≡ uncut number at → r ≡ s.uncut number at
+uncut_source (s.uncut n i) number at e = cc
+uncut_source (s.unread n i) number at e = absurd cc
+uncut_source (s.spelled q) number at e = absurd ((judged_refused (first (faults [] (statements q))) (module_of [] (statements q)) number at).0 e)
+
+unread_source : (r : Source) (number at : ℕ) → outcome_of r ≡ unread number at → r ≡ s.unread number at
+unread_source (s.uncut n i) number at e = absurd cc
+unread_source (s.unread n i) number at e = cc
+unread_source (s.spelled q) number at e = absurd ((judged_refused (first (faults [] (statements q))) (module_of [] (statements q)) number at).1 e)
+
+pub is_meant : (input : List ℕ) → IsMeant input
+is_meant input = record {
+  one = source.one_tree source_limits input;
+  where_cajoled = λ p. (λ e. cajoled_so input (source_of source_limits input) p refl e, λ h. cajoled_where input p h);
+  where_accepted = λ p e. read_means input (source_of source_limits input) p refl e;
+  where_broken = λ number at. (λ e. broken_so input (source_of source_limits input) number at refl e, λ h. broken_where input number at h);
+  where_uncut = λ number at. (λ e. uncut_there source_limits input number at (uncut_source (source_of source_limits input) number at e), λ h. ap outcome_of (uncut_where source_limits input number at h));
+  where_unread = λ number at. (λ e. unread_there source_limits input number at (unread_source (source_of source_limits input) number at e), λ h. ap outcome_of (unread_where source_limits input number at h));
+}

@@ -16,9 +16,9 @@ use Rattle.es3_heap.specs.Properties.{find, own, value_of}
 use Rattle.es3_language.specs.Store.{Store}
 use Rattle.es3_language.specs.Meaning as Target
 use Rattle.es3_machine.specs.Machine.{completed}
-use Rattle.cajita_meaning.specs.World as World
-use Rattle.cajita_meaning.specs.World.{Name, Value, Object, a_record, an_error, World as State}
-use Rattle.cajita_meaning.specs.Direct as Source
+use Rattle.first_meaning.specs.World as World
+use Rattle.first_meaning.specs.World.{Name, Value, Object, a_record, an_error, World as State}
+use Rattle.first_meaning.specs.Direct as Source
 use Rattle.module_loader.specs.Page.{Kept}
 use Rattle.page_runner.specs.declared.End.TheVariants.{Convert}
 use Rattle.page_runner.specs.Log.{main_name, line_end, text_units, error_text, class_text, object_name, after_name, value_text, load_line, completion_line, end_of, run_log, run_end}

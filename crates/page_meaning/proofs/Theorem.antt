@@ -5,8 +5,8 @@ use Rattle.plans.specs.Plans.{over, stopped, out}
 use Rattle.matching.specs.Sentences.{IsFinished}
 use Rattle.es3_language.specs.Meaning as Target
 use Rattle.cajita_tree.specs.Tree as c
-use Rattle.cajita_meaning.specs.Direct as Source
-use Rattle.cajita_meaning.specs.Direct.{direct_run}
+use Rattle.first_meaning.specs.Direct as Source
+use Rattle.first_meaning.specs.Direct.{direct_run}
 use Rattle.cajita_rewrite.specs.Rewrite.{program_of}
 use Rattle.module_loader.specs.Page.{Kept, module_run}
 use Rattle.page_runner.specs.declared.End.TheVariants.{Convert, Steps}

@@ -7,9 +7,9 @@ use Rattle.caja_units.specs.Number.{number_text}
 use Rattle.caja_units.specs.Literal.{literal}
 use Rattle.caja_units.specs.Utf8.{utf8_of}
 use Rattle.cajita_tree.specs.Tree as c
-use Rattle.cajita_meaning.specs.World.{Name, Value, undefined, null, truth, number, text, object, Object, a_record, an_error, World, object_at}
-use Rattle.cajita_meaning.specs.Public.{value_or}
-use Rattle.cajita_meaning.specs.Direct.{Completion, gave, normal, threw, Run, direct_run}
+use Rattle.first_meaning.specs.World.{Name, Value, undefined, null, truth, number, text, object, Object, a_record, an_error, World, object_at}
+use Rattle.first_meaning.specs.Public.{value_or}
+use Rattle.first_meaning.specs.Direct.{Completion, gave, normal, threw, Run, direct_run}
 use Rattle.page_runner.specs.declared.End.{End}
 use Rattle.page_runner.specs.declared.End.TheVariants.{Done, Steps}
 use Rattle.page_runner.specs.Log.{main_name, line_end, end_of}

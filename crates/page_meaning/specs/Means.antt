@@ -2,7 +2,7 @@
 use Rattle.std.specs.Prelude.{◌≡◌, ◌≢◌, ◌≤◌, ℕ, ◌+◌, ◌*◌, List, ◌++◌}
 use Rattle.plans.specs.Plans.{count_of}
 use Rattle.cajita_tree.specs.Tree as c
-use Rattle.cajita_meaning.specs.Direct.{direct_run}
+use Rattle.first_meaning.specs.Direct.{direct_run}
 use Rattle.cajita_rewrite.specs.Rewrite.{program_of}
 use Rattle.page_runner.specs.declared.End.TheVariants.{Convert, Steps}
 use Rattle.page_runner.specs.Log.{page_log, page_end}

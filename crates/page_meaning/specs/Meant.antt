@@ -1,13 +1,16 @@
 -- What the log of an accepted source means.
-use Rattle.std.specs.Prelude.{◌≡◌, ℕ, List, [], Some}
+use Rattle.std.specs.Prelude.{◌≡◌, ◌↔◌, ℕ, List, [], Some, None, true, false}
 use Rattle.es3_tree.specs.Tree as t
 use Rattle.es3_tree.specs.Placed.{Placed}
 use Rattle.cajita_tree.specs.Tree as c
+use Rattle.cajita_rules.specs.Faults.{Fault, faults, first}
+use Rattle.scope_rules.specs.Language.{is_first}
 use Rattle.scope_rules.specs.Resolve.{module_of}
 use Rattle.cajita_rewrite.specs.Rewrite.{program_of}
 use Rattle.es3_printed.specs.Back.{IsReadBack}
 use Rattle.page_cajole.specs.Source.{Spells, source_limits}
-use Rattle.page_cajole.specs.Cajoled.{statements, outcome, cajoled}
+use Rattle.page_cajole.specs.Refused.{IsUncut, IsUnread}
+use Rattle.page_cajole.specs.Cajoled.{statements, outcome, uncut, unread, broken, cajoled}
 use Rattle.page_meaning.specs.Means.{SourceMeans}
 
 -- the source spells a program, whose module is this one: it is granted no names
@@ -25,6 +28,25 @@ pub record Meant (input : List ℕ) (p : t.Tree t.program) : Type 0 where
   pub back : IsReadBack p
   pub means : SourceMeans its_module
 
--- so it is where the source is accepted
+-- the input spells a module that breaks no rule and is of the first language, and the program stands for it
+pub data IsCajoled (input : List ℕ) : t.Tree t.program → Type 0 where
+  accepted : (p : Placed t.program) (m : c.Tree c.program) → Spells source_limits input p → first (faults [] (statements p)) ≡ None
+      → module_of [] (statements p) ≡ Some m → is_first c.program m ≡ true → IsCajoled input (program_of m)
+
+-- a rule refuses the module that the input spells: its number, and the byte
+pub data IsBroken (input : List ℕ) : ℕ → ℕ → Type 0 where
+  -- the first fault
+  faulty : (p : Placed t.program) (f : Fault) → Spells source_limits input p → first (faults [] (statements p)) ≡ Some f → IsBroken input f.rule f.at
+  -- it breaks no rule, and is not of the first language: the rule 0, at the byte 0
+  outside : (p : Placed t.program) (m : c.Tree c.program) → Spells source_limits input p → first (faults [] (statements p)) ≡ None
+      → module_of [] (statements p) ≡ Some m → is_first c.program m ≡ false → IsBroken input 0 0
+
+-- an input spells one program at most; it is cajoled just where that is a module which breaks no rule and is of the first language, and what is written then
+-- means that module; and it is refused just where it spells no program, or one that a rule refuses, with the number and the byte of what refuses it
 pub record IsMeant (input : List ℕ) : Type 0 where
+  pub one : (p q : Placed t.program) → Spells source_limits input p → Spells source_limits input q → p ≡ q
+  pub where_cajoled : (p : t.Tree t.program) → (outcome input ≡ cajoled p) ↔ IsCajoled input p
   pub where_accepted : (p : t.Tree t.program) → outcome input ≡ cajoled p → Meant input p
+  pub where_broken : (number at : ℕ) → (outcome input ≡ broken number at) ↔ IsBroken input number at
+  pub where_uncut : (number at : ℕ) → (outcome input ≡ uncut number at) ↔ IsUncut source_limits input number at
+  pub where_unread : (number at : ℕ) → (outcome input ≡ unread number at) ↔ IsUnread source_limits input number at

@@ -9,7 +9,7 @@ ghost use Rattle.es3_tree.specs.Tree as t;
 ghost use Rattle.es3_tree.specs.Placed.{Placed};
 ghost use Rattle.cajita_tree.specs.Tree as c;
 ghost use Rattle.scope_rules.specs.Language.{is_first};
-ghost use Rattle.scope_rules.specs.Faults.{faults, first};
+ghost use Rattle.cajita_rules.specs.Faults.{faults, first};
 ghost use Rattle.scope_rules.specs.Resolve.{module_of};
 ghost use Rattle.cajita_simulation.specs.Guest.{GuestModule};
 ghost use Rattle.page_meaning.specs.Means.{SourceMeans};

@@ -1,4 +1,4 @@
-use Rattle.std.proofs.Common.{◌^◌, map, reverse, refl, sym, ◌∙◌, arith}
+use Rattle.std.proofs.Common.{◌^◌, [], ◌∷◌, ◌++◌, map, reverse, refl, sym, ap, ◌∙◌, arith}
 use Rattle.es3_tree.specs.Tree as t
 use Rattle.es3_tree.specs.PlacedView.{expr}
 use Rattle.es3_grammar.specs.Levels.{own}
@@ -27,7 +27,7 @@ invariant_of-self-2 c = record {
   kept =
       adds_keep c.args.self.now c.unwrap-last.result c.reserve.new.self.items c.wait_behind.new.waiting.items c.measured-depth.result c.args.op c.push.new.self.items
       (record { last_is = sym c.take.ensures.value ∙ c.unwrap-last.ensures; waiting_is = c.reserve.ensures.items; depth_is = c.measured-depth.ensures })
-      c.in_ok-push.ensures.items
+      (let pushed = rw c.unwrap.ensures at c.push.ensures.items in pushed ∙ ap (λ l. l ++ (c.unwrap-last.result, c.args.op) ∷ []) c.reserve-2.ensures.items)
       c.wait_behind.ensures.waits;
 }
 
