@@ -16,13 +16,9 @@ use Rattle.cajita_rules.specs.Faults.{faults, first}
 use Rattle.scope_rules.specs.Resolve.{module_of}
 use Rattle.rows.specs.Rows as r
 use Rattle.rows.specs.Names.{of_cajita, of_math}
-use Rattle.rows.specs.Nodes.{Rules}
+use Rattle.rows.specs.Nodes.{no_rules}
 use Rattle.cajita_meaning.specs.World.{tools_name, built_name, own_name, Value, undefined, object, Pairs, World, empty_world, value_at}
 use Rattle.cajita_meaning.specs.Direct.{Completion, gave, Item, Run, a_native, direct, load_run}
-
--- a page without a document and without a host
-abbrev pub no_rules : Rules
-no_rules = record { cleaned = λ tag name value. None; listed = λ tag. Rattle.std.specs.Prelude.false; no_content = λ tag. Rattle.std.specs.Prelude.false; services = λ k xs. r.undefined }
 
 -- the names that each module has anyway
 abbrev pub fixed_values : ℕ → Pairs

@@ -1,6 +1,7 @@
 pub mod Document
 pub mod Rows
 pub mod Names
+pub mod Paths
 pub mod Public
 pub mod Arguments
 pub mod Guards
