@@ -24,8 +24,8 @@ impl Model for ObjId {
 }
 
 impl ObjId {
-    /// The object of a number.
-    pub(crate) fn new(number: u32) -> ObjId
+    /// The object of a number; it need not be in the store.
+    pub fn new(number: u32) -> ObjId
         ensures { result ≡ number }
     {
         ObjId { number }

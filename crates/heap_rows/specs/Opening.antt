@@ -1,17 +1,63 @@
--- A store in which a page begins: the ten prototypes, the records `cajita` and `Math`, and the built-in functions.
-use Rattle.std.specs.Prelude.{ℕ, zero, suc, ◌+◌, true, List, [], ◌∷◌, None, Some, length, codes}
+-- A store in which a page begins: the ten prototypes, the object of the runtime with its guards, what a module may import, and the global object; then the records
+-- `cajita` and `Math`, and the built-in functions.
+use Rattle.std.specs.Prelude.{ℕ, zero, suc, ◌+◌, ◌≤◌, true, List, [], ◌∷◌, None, Some, length, codes}
 use Rattle.es3_heap.specs.declared.value.Value.TheVariants.{Obj, Bool, Undefined}
 use Rattle.es3_heap.specs.declared.value.Class.TheVariants as class
+use Rattle.es3_heap.specs.declared.value.FuncKind.TheVariants.{Simple}
+use Rattle.es3_heap.specs.declared.value.Proto.TheVariants as proto
 use Rattle.es3_heap.specs.declared.value.Tag.{Tag}
 use Rattle.es3_heap.specs.declared.value.Tag.TheVariants as tag
 use Rattle.es3_heap.specs.Objects.{Object, Objects, plain_attrs, hidden_attrs, with_object}
 use Rattle.es3_heap.specs.Properties.{define}
-use Rattle.es3_heap.specs.Making.{new_objects, made, made_function, tagged}
+use Rattle.es3_heap.specs.Making.{new_objects, made, made_function, tagged, proto_id}
 use Rattle.rows.specs.Rows as r
 use Rattle.rows.specs.Names.{Tools, of_cajita, of_math, tools}
 use Rattle.heap_rows.specs.Marks.{freeze, frozen_mark}
 use Rattle.heap_rows.specs.Natives.{number_of, tag_of_native, tag_of_tools, kind_of}
 use Rattle.heap_rows.specs.Doing.{Page}
+
+-- what has no name
+
+-- a guard by its number, as a property of the runtime's object that `for in` passes over
+abbrev pub with_guard : List ℕ → ℕ → ℕ → Objects → Objects
+with_guard name number runtime h = define (made_function (Simple number) 0 h) runtime name (Obj (length h.list)) hidden_attrs
+
+-- the object `___`, the imports object and the global object stand behind the ten prototypes
+abbrev pub runtime_id : ℕ
+runtime_id = 10
+
+abbrev pub imports_id : ℕ
+imports_id = 11
+
+abbrev pub globals_id : ℕ
+globals_id = 12
+
+-- the numbers of the guards that there are: those of the built-in functions are below 64
+abbrev pub load_module : ℕ
+load_module = 64
+
+abbrev pub initialize_map : ℕ
+initialize_map = 69
+
+abbrev pub read_public : ℕ
+read_public = 71
+
+abbrev pub with_objects : Objects → Objects
+with_objects h = made class.Object None (made class.Object (Some (proto_id proto.Object)) (made class.Object (Some (proto_id proto.Object)) h))
+
+abbrev pub with_guards : ℕ → Objects → Objects
+with_guards runtime h =
+    with_guard (codes "readPub") read_public runtime (with_guard (codes "initializeMap") initialize_map runtime (with_guard (codes "loadModule") load_module runtime h))
+
+-- the only global name is `___`
+unfoldable pub first : Objects
+first = define (with_guards runtime_id (with_objects new_objects)) globals_id (codes "___") (Obj runtime_id) hidden_attrs
+
+-- so many objects have no name
+abbrev pub first_count : ℕ
+first_count = 16
+
+-- the built-ins
 
 -- the built-in functions in the order of their numbers, from 2 on
 abbrev pub common : List r.Native
@@ -22,9 +68,13 @@ common =
     ∷ r.concat ∷ r.join ∷ r.slice ∷ r.push ∷ r.unshift ∷ r.pop ∷ r.shift ∷ r.turn
     ∷ r.get_tag_name ∷ r.get_parent_node ∷ r.get_child_nodes ∷ r.get_element_by_id ∷ r.get_attribute ∷ r.set_attribute ∷ r.get_text ∷ r.set_text ∷ r.create_element ∷ r.create_text_node ∷ r.append_child ∷ r.remove_child ∷ r.on ∷ []
 
--- where each stands: behind the ten prototypes, by its number
+-- where each stands: behind the objects without a name, by its number
 abbrev pub place_of : r.Native → ℕ
-place_of f = number_of f + 10
+place_of f = number_of f + 16
+
+-- the last of them has the number 51
+abbrev pub built_ins_there : Objects → Type 0
+built_ins_there h = first_count + 52 ≤ length h.list
 
 -- a record of functions
 abbrev pub with_tools : List (List ℕ × r.Native) → ℕ → Objects → Objects
@@ -43,7 +93,7 @@ with_natives [] h = h
 with_natives (f ∷ fs) h = with_natives fs (with_native f h)
 
 unfoldable pub opened : Objects
-opened = with_natives common (with_record of_math (with_record of_cajita new_objects))
+opened = with_natives common (with_record of_math (with_record of_cajita first))
 
 -- nothing is in a cell or a queue yet
 abbrev pub empty_page : Page

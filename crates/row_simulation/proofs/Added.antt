@@ -2,18 +2,31 @@
 use Rattle.std.proofs.Common.{◌≡◌, ℕ, suc, ◌<◌, List, [], ◌∷◌, length, Some, sym, ap, ◌∙◌, arith}
 use Rattle.std.proofs.lemmas.Option.{none-some}
 use Rattle.std.proofs.lemmas.List.{length-append}
+use Rattle.es3_heap.specs.declared.value.Tag.TheVariants as tag
 use Rattle.es3_heap.specs.Objects as heap
 use Rattle.es3_heap.specs.Objects.{Property, Objects, object_at, with_object}
 use Rattle.es3_heap.specs.Properties.{find}
 use Rattle.rows.specs.Rows as r
-use Rattle.cajita_meaning.specs.World.{Name, built_name, Object}
+use Rattle.cajita_meaning.specs.World.{Name, made_name, built_name, Object}
 use Rattle.heap_rows.specs.Marks.{read_mark, set_mark}
 use Rattle.row_simulation.proofs.Names.{name_there}
 use Rattle.row_simulation.proofs.Relation.{Named, tag_of_name, Stands, IsMarked, ObjectsAre, Keeps, named_keep}
 use Rattle.row_simulation.proofs.Changes.{IsNew, cases_at, get-push-other, named_within}
 
-pub added_keeps : (h : Objects) (x : heap.Object) → Keeps h (with_object h x)
-added_keeps h x = record { named = λ n i p. ap heap.tag_of (get-push-other h.list i x (named_within h n i p)) ∙ p }
+-- no module made it
+pub added_keeps : (h : Objects) (x : heap.Object) → ((m k : ℕ) → x.tag ≡ tag.Made m k → ⊥) → Keeps h (with_object h x)
+added_keeps h x unmade = record {
+  named = λ n i p. ap heap.tag_of (get-push-other h.list i x (named_within h n i p)) ∙ p;
+  bare = λ i lt e. get-push-other h.list i x lt;
+  functions = λ i lt e. get-push-other h.list i x lt;
+  long = let l = length-append h.list (x ∷ []) in omega (arith, l);
+  counted = λ m. omega arith;
+  older = λ m k i t lt. cases_at h.list x i (λ q. heap.tag_of q ≡ tag.Made m k → Named h (made_name m k) i) (λ less f. f) (λ at f. absurd (unmade m k f)) (λ f. absurd (name_there (made_name m k) f)) t;
+}
+
+-- one that awaits its name
+pub awaiting_keeps : (h : Objects) (x : heap.Object) → x.tag ≡ tag.None → Keeps h (with_object h x)
+awaiting_keeps h x bare = added_keeps h x (λ m k e. name_there (made_name m k) (sym bare ∙ e))
 
 module _ {first : Objects} {places : r.Native → ℕ} {m : ℕ} (objects : ℕ → List Object) (h : Objects) (x : heap.Object) (old : ObjectsAre first places objects h m) (new : IsNew first x) where
   there : (i : ℕ) → i < length h.list → object_at (with_object h x) i ≡ object_at h i
@@ -30,13 +43,13 @@ module _ {first : Objects} {places : r.Native → ℕ} {m : ℕ} (objects : ℕ 
   marked_still i lt q = record { name = q.name; named = ap heap.tag_of (there i lt) ∙ q.named; class = ap heap.class_of (there i lt) ∙ q.class }
 
   stands_still : (n : Name) (i : ℕ) → i < length h.list → Stands objects h n i → Stands objects (with_object h x) n i
-  stands_still n i lt s = record { stored = s.stored; there = there i lt ∙ s.there; is = named_keep objects (added_keeps h x) n s.stored s.is }
+  stands_still n i lt s = record { stored = s.stored; there = there i lt ∙ s.there; is = named_keep objects (awaiting_keeps h x new.bare) n s.stored s.is }
 
   pub objects_added : ObjectsAre first places objects (with_object h x) (suc m)
   objects_added = record {
     each = λ n i t. stands_still n i (was n i t) (old.each n i (had n i t));
     once = λ n i j t u. old.once n i j (had n i t) (had n j u);
-    natives = λ f common. (added_keeps h x).named (built_name f) _ (old.natives f common);
+    natives = λ f common. (awaiting_keeps h x new.bare).named (built_name f) _ (old.natives f common);
     reads = λ i k p e. cases_at h.list x i (λ q. find (read_mark k) (heap.props_of q) ≡ Some p → IsMarked (with_object h x) i) (λ lt f. marked_still i lt (old.reads i k p f)) (λ at f. absurd (none-some p (sym (new.reads k) ∙ f))) (λ f. absurd (none-some p f)) e;
     sets = λ i k p e. cases_at h.list x i (λ q. find (set_mark k) (heap.props_of q) ≡ Some p → IsMarked (with_object h x) i) (λ lt f. marked_still i lt (old.sets i k p f)) (λ at f. absurd (none-some p (sym (new.sets k) ∙ f))) (λ f. absurd (none-some p f)) e;
     above = λ i p e. cases_at h.list x i (λ q. heap.proto_of q ≡ Some p → p < length first.list) (λ lt f. old.above i p f) (λ at f. new.above p f) (λ f. absurd (none-some p f)) e;

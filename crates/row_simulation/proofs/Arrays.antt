@@ -136,12 +136,15 @@ set_props : (vs us : List EsValue) → length vs < 4294967296 → length_propert
 set_props vs us few =
     ap (λ l. length_property (length us) ∷ (item_properties 0 us ++ l)) (rw length_is_no_other (filter_past 0 vs [] (omega (arith, few))))
 
+array_no_function : {h : Objects} {frozen : Bool} {vs : List Value} {c : heap.Object} → IsArray h frozen vs c → c.class ≡ class.Function → ⊥
+array_no_function is e = let clash = sym is.class ∙ e in cc
+
 revised_array : {first : Objects} {places : Native → ℕ} {m : ℕ} {h : Objects} (w : World) → ObjectsAre first places w.objects h m → (a b i : ℕ) (c : heap.Object) (frozen frozen' : Bool) (vs ws : List Value) (us : List EsValue) → heap.tag_of (object_at h i) ≡ tag.Made a b → object_at h i ≡ Some c → slice_get (w.objects a) b ≡ Some (an_array frozen vs) → IsArray h frozen vs c → length us < 4294967296 → Vals h ws us → Changed first places m h (with_made a b (an_array frozen' ws) w).objects (revised h i c (array_props frozen' us))
 revised_array {h = h} w old a b i c frozen frozen' vs ws us name there known is few p = record {
-  left = objects_revised w.objects (with_made a b (an_array frozen' ws) w).objects old (made_name a b) i c (array_props frozen' us) name (made_known a b) there
+  left = objects_revised w.objects (with_made a b (an_array frozen' ws) w).objects old (made_name a b) i c (array_props frozen' us) name (made_known a b) there (array_no_function is)
       (record { object = an_array frozen' ws; known = made_there w a b (an_array frozen vs) (an_array frozen' ws) known; is = record { class = is.class; proto = is.proto; items = us; props = refl; few = few; are = p } })
       (λ k o ne x. made_still w h a b (an_array frozen' ws) k o ne x) (λ k. made_length w a b k (an_array frozen' ws)) (λ k q e. absurd (none-some q (sym (no_read frozen' us k few) ∙ e))) (λ k q e. absurd (none-some q (sym (no_set frozen' us k few) ∙ e)));
-  keeps = revised_keeps h i c (array_props frozen' us) there;
+  keeps = revised_keeps h (made_name a b) i c (array_props frozen' us) name there (array_no_function is);
 }
 
 array_closed : (h : Objects) (i : ℕ) (c : heap.Object) (frozen : Bool) (vs : List Value) → object_at h i ≡ Some c → IsArray h frozen vs c → is_frozen h i ≡ frozen

@@ -8,20 +8,20 @@ use Rattle.es3_heap.specs.declared.value.Tag.TheVariants as tag
 use Rattle.es3_heap.specs.Objects as heap
 use Rattle.es3_heap.specs.Objects.{Property, Objects, object_at, with_object, plain_attrs, hidden_attrs}
 use Rattle.es3_heap.specs.Properties.{find}
-use Rattle.es3_heap.specs.Making.{new_objects}
 use Rattle.rows.specs.Rows as r
 use Rattle.cajita_meaning.specs.World.{Name, cell_name, own_name, built_name, Object, empty_world}
 use Rattle.cajita_meaning.specs.Doing.{get_and_set}
 use Rattle.heap_rows.specs.Marks.{read_mark, set_mark}
 use Rattle.heap_rows.specs.Natives.{kind_of}
 use Rattle.heap_rows.specs.Doing.{sort_seen}
-use Rattle.heap_rows.specs.Opening.{place_of, opened, named_function, cell_record, with_module, with_cell, with_modules, begun, empty_page}
+use Rattle.heap_rows.specs.Opening.{first, first_count, place_of, opened, named_function, cell_record, with_module, with_cell, with_modules, begun, empty_page}
 use Rattle.row_simulation.specs.RowLaw.{PagesAre}
 use Rattle.row_simulation.proofs.Frozen.{frozen_props, all_guests, no_read, no_set, frozen_are}
 use Rattle.row_simulation.proofs.Names.{name_there, name_at, known_name, own_known, cell_known}
 use Rattle.row_simulation.proofs.Relation.{Named, tag_of_name, PropsAre, IsFunction, IsNamed, Stands, IsMarked, ObjectsAre, Keeps, named_keep}
 use Rattle.row_simulation.proofs.Changes.{cases_at, get-push, get-push-other}
 use Rattle.row_simulation.proofs.Added.{added_keeps}
+use Rattle.row_simulation.proofs.First.{first_many, up_few}
 use Rattle.row_simulation.proofs.Opening.{opened_corresponds, no_own, no_cell}
 
 abbrev Fresh : Objects → Name → Type 0
@@ -36,6 +36,7 @@ record IsFresh (first : Objects) (objects : ℕ → List Object) (h : Objects) (
   above : (p : ℕ) → x.proto ≡ Some p → p < length first.list
   reads : (k : List ℕ) → find (read_mark k) x.props ≡ None
   sets : (k : List ℕ) → find (set_mark k) x.props ≡ None
+  unmade : (m k : ℕ) → x.tag ≡ tag.Made m k → ⊥
 
 named_added : {first : Objects} {places : r.Native → ℕ} {m : ℕ} {objects : ℕ → List Object} {h : Objects} → ObjectsAre first places objects h m → (n : Name) (x : heap.Object) → IsFresh first objects h n x → ObjectsAre first places objects (with_object h x) m
 named_added {first = first} {objects = objects} {h = h} old n x new = record {
@@ -53,18 +54,18 @@ named_added {first = first} {objects = objects} {h = h} old n x new = record {
 }
   where
     keeps : Keeps h (with_object h x)
-    keeps = added_keeps h x
+    keeps = added_keeps h x new.unmade
 
     there : (i : ℕ) → i < length h.list → object_at (with_object h x) i ≡ object_at h i
     there i lt = get-push-other h.list i x lt
 
     still : (k : Name) (i : ℕ) → i < length h.list → Stands objects h k i → Stands objects (with_object h x) k i
-    still k i lt s = record { stored = s.stored; there = there i lt ∙ s.there; is = named_keep objects (added_keeps h x) k s.stored s.is }
+    still k i lt s = record { stored = s.stored; there = there i lt ∙ s.there; is = named_keep objects (added_keeps h x new.unmade) k s.stored s.is }
 
     newest : (k : Name) (i : ℕ) → i ≡ length h.list → x.tag ≡ tag_of_name k → Stands objects (with_object h x) k i
     newest k i at t =
         let alike : k ≡ n = known_name n k new.known (sym t ∙ new.tagged) in
-        record { stored = x; there = rw at (get-push h.list x); is = subst (λ q. IsNamed objects (with_object h x) q x) (sym alike) (named_keep objects (added_keeps h x) n x new.is) }
+        record { stored = x; there = rw at (get-push h.list x); is = subst (λ q. IsNamed objects (with_object h x) q x) (sym alike) (named_keep objects (added_keeps h x new.unmade) n x new.is) }
 
     marked_still : (i : ℕ) → i < length h.list → IsMarked h i → IsMarked (with_object h x) i
     marked_still i lt q = record { name = q.name; named = ap heap.tag_of (there i lt) ∙ q.named; class = ap heap.class_of (there i lt) ∙ q.class }
@@ -85,17 +86,20 @@ fresh_still h x n fresh other i t = cases_at h.list x i (λ q. heap.tag_of q ≡
 
 -- the new objects
 
-one_few : (p : ℕ) → (let q : Option ℕ = Some 1 in q) ≡ Some p → p < 10
-one_few p e = let f : 1 ≡ p = cc in omega (arith, f)
-
-zero_few : (p : ℕ) → (let q : Option ℕ = Some 0 in q) ≡ Some p → p < 10
-zero_few p e = let f : 0 ≡ p = cc in omega (arith, f)
+proto_few : (q p : ℕ) → q < first_count → (let x : Option ℕ = Some q in x) ≡ Some p → p < length first.list
+proto_few q p lt e = let f = up_few q p lt e in let many = first_many in omega (arith, f, many)
 
 function_is : (f : r.Native) (t : Tag) → sort_seen false (Some (record { kind = kind_of f; maker = 0 })) ≡ r.a_function r.simple → IsFunction r.simple (named_function f t)
 function_is f t e = record { class = refl; kind = e; no_text = refl; no_value = refl }
 
-function_fresh : (objects : ℕ → List Object) (h : Objects) (n : Name) (f : r.Native) → name_at (tag_of_name n) ≡ Some n → Fresh h n → IsNamed objects h n (named_function f (tag_of_name n)) → IsFresh new_objects objects h n (named_function f (tag_of_name n))
-function_fresh objects h n f known fresh is = record { known = known; tagged = refl; fresh = fresh; is = is; above = one_few; reads = λ k. refl; sets = λ k. refl }
+function_fresh : (objects : ℕ → List Object) (h : Objects) (n : Name) (f : r.Native) → name_at (tag_of_name n) ≡ Some n → Fresh h n → IsNamed objects h n (named_function f (tag_of_name n)) → ((m k : ℕ) → tag_of_name n ≡ tag.Made m k → ⊥) → IsFresh first objects h n (named_function f (tag_of_name n))
+function_fresh objects h n f known fresh is unmade = record { known = known; tagged = refl; fresh = fresh; is = is; above = λ p e. proto_few 1 p (omega arith) e; reads = λ k. refl; sets = λ k. refl; unmade = unmade }
+
+own_unmade : (n i m k : ℕ) → tag.Own n i ≡ tag.Made m k → ⊥
+own_unmade n i m k e = cc
+
+cell_unmade : (c i m k : ℕ) → tag.Cell c i ≡ tag.Made m k → ⊥
+cell_unmade c i m k e = cc
 
 -- a cell's record
 
@@ -110,22 +114,23 @@ props_are : (h : Objects) (c at : ℕ) → Named h (cell_name c 1) at → Named 
 unfolding frozen_props cell_props
 props_are h c at a b = frozen_are h (get_and_set (cell_name c 1) (cell_name c 2)) (cell_props at) (cell_guests at) (refl, (refl, (refl, tt))) refl refl (refl, a, (refl, b, tt))
 
-record_fresh : (objects : ℕ → List Object) (h : Objects) (c at : ℕ) → Named h (cell_name c 1) at → Named h (cell_name c 2) (at + 1) → Fresh h (cell_name c 0) → IsFresh new_objects objects h (cell_name c 0) (cell_record c at)
+record_fresh : (objects : ℕ → List Object) (h : Objects) (c at : ℕ) → Named h (cell_name c 1) at → Named h (cell_name c 2) (at + 1) → Fresh h (cell_name c 0) → IsFresh first objects h (cell_name c 0) (cell_record c at)
 unfolding frozen_props cell_props
 record_fresh objects h c at a b fresh = record {
   known = cell_known c 0;
   tagged = refl;
   fresh = fresh;
   is = record { class = refl; proto = refl; props = props_are h c at a b };
-  above = zero_few;
+  above = λ p e. proto_few 0 p (omega arith) e;
   reads = λ k. no_read (cell_props at) (cell_guests at) k;
   sets = λ k. no_set (cell_props at) (cell_guests at) k;
+  unmade = λ m k e. cell_unmade c 0 m k e;
 }
 
 -- the relation, and how far names go
 
 record Begins (n k : ℕ) (h : Objects) : Type 0 where
-  objects : ObjectsAre new_objects place_of empty_world.objects h 0
+  objects : ObjectsAre first place_of empty_world.objects h 0
   modules : (m i j : ℕ) → Named h (own_name m i) j → m < n
   cells : (c i j : ℕ) → Named h (cell_name c i) j → c < k
 
@@ -145,7 +150,7 @@ own_no_cell m i d j e = cc
 -- a module's `say` and `later`
 module_begins : {n k : ℕ} {h : Objects} → Begins n k h → Begins (suc n) k (with_module n h)
 module_begins {n = n} {k = k} {h = h} b = record {
-  objects = named_added first_added (own_name n 1) _ (function_fresh empty_world.objects h1 (own_name n 1) r.later (own_known n 1) (fresh_still h (named_function r.say (tag.Own n 0)) (own_name n 1) (fresh 1) (λ e. let q = (own_apart n 0 n 1 e).1 in omega (arith, q))) (function_is r.later (tag.Own n 1) refl));
+  objects = named_added first_added (own_name n 1) _ (function_fresh empty_world.objects h1 (own_name n 1) r.later (own_known n 1) (fresh_still h (named_function r.say (tag.Own n 0)) (own_name n 1) (fresh 1) (λ e. let q = (own_apart n 0 n 1 e).1 in omega (arith, q))) (function_is r.later (tag.Own n 1) refl) (own_unmade n 1));
   modules = λ m i j t. was_or_is h1 (named_function r.later (tag.Own n 1)) (own_name m i) (m < suc n) (λ j t. was_or_is h (named_function r.say (tag.Own n 0)) (own_name m i) (m < suc n) (λ j t. let q = b.modules m i j t in omega (arith, q)) (λ e. let q = (own_apart n 0 m i e).0 in omega (arith, q)) j t) (λ e. let q = (own_apart n 1 m i e).0 in omega (arith, q)) j t;
   cells = λ c i j t. was_or_is h1 (named_function r.later (tag.Own n 1)) (cell_name c i) (c < k) (λ j t. was_or_is h (named_function r.say (tag.Own n 0)) (cell_name c i) (c < k) (λ j t. b.cells c i j t) (λ e. absurd (own_no_cell n 0 c i e)) j t) (λ e. absurd (own_no_cell n 1 c i e)) j t;
 }
@@ -156,8 +161,8 @@ module_begins {n = n} {k = k} {h = h} b = record {
     fresh : (i : ℕ) → Fresh h (own_name n i)
     fresh i j t = let q = b.modules n i j t in omega (arith, q)
 
-    first_added : ObjectsAre new_objects place_of empty_world.objects (with_object h (named_function r.say (tag.Own n 0))) 0
-    first_added = named_added b.objects (own_name n 0) _ (function_fresh empty_world.objects h (own_name n 0) r.say (own_known n 0) (fresh 0) (function_is r.say (tag.Own n 0) refl))
+    first_added : ObjectsAre first place_of empty_world.objects (with_object h (named_function r.say (tag.Own n 0))) 0
+    first_added = named_added b.objects (own_name n 0) _ (function_fresh empty_world.objects h (own_name n 0) r.say (own_known n 0) (fresh 0) (function_is r.say (tag.Own n 0) refl) (own_unmade n 0))
 
 cell_no_own : (m i d j : ℕ) → tag.Cell m i ≡ tag.Own d j → ⊥
 cell_no_own m i d j e = cc
@@ -179,16 +184,16 @@ module _ {n k : ℕ} {h : Objects} (b : Begins n k h) where
   set_there : Named (with_object (with_object h (named_function r.get (tag.Cell k 1))) (named_function r.set (tag.Cell k 2))) (cell_name k 2) (length h.list + 1)
   set_there = subst (Named (with_object (with_object h (named_function r.get (tag.Cell k 1))) (named_function r.set (tag.Cell k 2))) (cell_name k 2)) one_more (ap heap.tag_of (get-push (h.list ++ named_function r.get (tag.Cell k 1) ∷ []) (named_function r.set (tag.Cell k 2))))
 
-  with_get : ObjectsAre new_objects place_of empty_world.objects (with_object h (named_function r.get (tag.Cell k 1))) 0
-  with_get = named_added b.objects (cell_name k 1) _ (function_fresh empty_world.objects h (cell_name k 1) r.get (cell_known k 1) (fresh 1) (function_is r.get (tag.Cell k 1) refl))
+  with_get : ObjectsAre first place_of empty_world.objects (with_object h (named_function r.get (tag.Cell k 1))) 0
+  with_get = named_added b.objects (cell_name k 1) _ (function_fresh empty_world.objects h (cell_name k 1) r.get (cell_known k 1) (fresh 1) (function_is r.get (tag.Cell k 1) refl) (cell_unmade k 1))
 
   fresh_one : (i : ℕ) → (1 ≡ i → ⊥) → Fresh (with_object h (named_function r.get (tag.Cell k 1))) (cell_name k i)
   fresh_one i ne = fresh_still h (named_function r.get (tag.Cell k 1)) (cell_name k i) (fresh i) (apart_at 1 i ne)
 
-  with_set : ObjectsAre new_objects place_of empty_world.objects (with_object (with_object h (named_function r.get (tag.Cell k 1))) (named_function r.set (tag.Cell k 2))) 0
-  with_set = named_added with_get (cell_name k 2) _ (function_fresh empty_world.objects (with_object h (named_function r.get (tag.Cell k 1))) (cell_name k 2) r.set (cell_known k 2) (fresh_one 2 (λ e. omega (arith, e))) (function_is r.set (tag.Cell k 2) refl))
+  with_set : ObjectsAre first place_of empty_world.objects (with_object (with_object h (named_function r.get (tag.Cell k 1))) (named_function r.set (tag.Cell k 2))) 0
+  with_set = named_added with_get (cell_name k 2) _ (function_fresh empty_world.objects (with_object h (named_function r.get (tag.Cell k 1))) (cell_name k 2) r.set (cell_known k 2) (fresh_one 2 (λ e. omega (arith, e))) (function_is r.set (tag.Cell k 2) refl) (cell_unmade k 2))
 
-  with_all : ObjectsAre new_objects place_of empty_world.objects (with_cell k h) 0
+  with_all : ObjectsAre first place_of empty_world.objects (with_cell k h) 0
   with_all = named_added with_set (cell_name k 0) _ (record_fresh empty_world.objects _ k (length h.list) got_there set_there
       (fresh_still (with_object h (named_function r.get (tag.Cell k 1))) (named_function r.set (tag.Cell k 2)) (cell_name k 0) (fresh_one 0 (λ e. omega (arith, e))) (apart_at 2 0 (λ e. omega (arith, e)))))
 
@@ -214,7 +219,7 @@ cells_begin : (n k : ℕ) → Begins n k (begun n k)
 cells_begin n zero = modules_begin n
 cells_begin n (suc k) = cell_begins (cells_begin n k)
 
-pub begun_corresponds : (n k : ℕ) → ObjectsAre new_objects place_of empty_world.objects (begun n k) 0
+pub begun_corresponds : (n k : ℕ) → ObjectsAre first place_of empty_world.objects (begun n k) 0
 begun_corresponds n k = (cells_begin n k).objects
 
 pub page_corresponds : (n k : ℕ) → PagesAre (begun n k) empty_world empty_page

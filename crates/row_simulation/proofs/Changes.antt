@@ -76,8 +76,16 @@ revised_part f blind h i j o ps there =
 pub revised_tag : (h : Objects) (i j : ℕ) (o : heap.Object) (ps : List Property) → object_at h i ≡ Some o → heap.tag_of (object_at (revised h i o ps) j) ≡ heap.tag_of (object_at h j)
 revised_tag h i j o ps there = revised_part heap.tag_of (λ o ps. refl) h i j o ps there
 
-pub revised_keeps : (h : Objects) (i : ℕ) (o : heap.Object) (ps : List Property) → object_at h i ≡ Some o → Keeps h (revised h i o ps)
-revised_keeps h i o ps there = record { named = λ n j p. revised_tag h i j o ps there ∙ p }
+-- the object that changes has a name and is no function
+pub revised_keeps : (h : Objects) (n : Name) (i : ℕ) (o : heap.Object) (ps : List Property) → Named h n i → object_at h i ≡ Some o → (o.class ≡ class.Function → ⊥) → Keeps h (revised h i o ps)
+revised_keeps h n i o ps name there no_function = record {
+  named = λ k j p. revised_tag h i j o ps there ∙ p;
+  bare = λ j lt e. revised_other h i j o ps (λ same. name_there n (sym e ∙ ap (λ l. heap.tag_of (object_at h l)) same ∙ name));
+  functions = λ j lt e. revised_other h i j o ps (λ same. no_function (sym (ap (λ l. heap.class_of (object_at h l)) same ∙ ap heap.class_of there) ∙ e));
+  long = let l = length-of-set h.list i (with_properties o ps) in omega (arith, l);
+  counted = λ m. omega arith;
+  older = λ m k j t lt. sym (revised_tag h i j o ps there) ∙ t;
+}
 
 -- the world's side
 
@@ -97,7 +105,7 @@ list_other m n xs lists ne =
 pub made_there : (w : World) (a b : ℕ) (o o' : Object) → slice_get (w.objects a) b ≡ Some o → slice_get ((with_made a b o' w).objects a) b ≡ Some o'
 made_there w a b o o' known = rw (list_there a (slice_set (w.objects a) b o') w.objects) (get-set (w.objects a) b o o' known)
 
-made_other : (w : World) (a b c d : ℕ) (o' : Object) → (a ≡ c → b ≡ d → ⊥) → slice_get ((with_made a b o' w).objects c) d ≡ slice_get (w.objects c) d
+pub made_other : (w : World) (a b c d : ℕ) (o' : Object) → (a ≡ c → b ≡ d → ⊥) → slice_get ((with_made a b o' w).objects c) d ≡ slice_get (w.objects c) d
 made_other w a b c d o' apart =
     by_number c a (slice_get ((with_made a b o' w).objects c) d ≡ slice_get (w.objects c) d)
     (λ same. subst (λ n. slice_get ((with_made a b o' w).objects n) d ≡ slice_get (w.objects n) d) (sym same) (rw (list_there a (slice_set (w.objects a) b o') w.objects) (get-set-other (w.objects a) b d o' (λ e. apart (sym same) (sym e)))))
@@ -114,14 +122,14 @@ pub made_still : (w : World) (h : Objects) (a b : ℕ) (o' : Object) (k : Name) 
 made_still w h a b o' (made_name d e) c ne is = record { object = is.object; known = made_other w a b d e o' (λ x y. ne (ap (λ n. made_name n e) (sym x) ∙ ap (made_name a) (sym y))) ∙ is.known; is = is.is }
 made_still w h a b o' k c ne is = is
 
--- an object with a name has other properties, and the world may have another object of this name
+-- an object with a name, no function, has other properties, and the world may have another object of this name
 pub objects_revised : {first : Objects} {places : r.Native → ℕ} {m : ℕ} {h : Objects} (objects objects' : ℕ → List Object) → ObjectsAre first places objects h m → (n : Name) (i : ℕ) (c : heap.Object) (ps : List Property)
-    → Named h n i → name_at (tag_of_name n) ≡ Some n → object_at h i ≡ Some c → IsNamed objects' h n (with_properties c ps)
+    → Named h n i → name_at (tag_of_name n) ≡ Some n → object_at h i ≡ Some c → (c.class ≡ class.Function → ⊥) → IsNamed objects' h n (with_properties c ps)
     → ((k : Name) (o : heap.Object) → (k ≡ n → ⊥) → IsNamed objects h k o → IsNamed objects' h k o) → ((k : ℕ) → length (objects' k) ≡ length (objects k))
     → ((k : List ℕ) (p : Property) → find (read_mark k) ps ≡ Some p → c.class ≡ class.Object)
     → ((k : List ℕ) (p : Property) → find (set_mark k) ps ≡ Some p → c.class ≡ class.Object)
     → ObjectsAre first places objects' (revised h i c ps) m
-objects_revised {first = first} {m = m} {h = h} objects objects' old n i c ps name known there is others counts marks_read marks_set = record {
+objects_revised {first = first} {m = m} {h = h} objects objects' old n i c ps name known there no_function is others counts marks_read marks_set = record {
   each = λ k j t. let u : Named h k j = sym (revised_tag h i j c ps there) ∙ t in by_number j i (Stands objects' g k j) (λ same. here k j same u) (λ ne. away k j ne u);
   once = λ k j l t u. old.once k j l (sym (revised_tag h i j c ps there) ∙ t) (sym (revised_tag h i l c ps there) ∙ u);
   natives = λ f common. keeps.named (built_name f) _ (old.natives f common);
@@ -139,7 +147,7 @@ objects_revised {first = first} {m = m} {h = h} objects objects' old n i c ps na
     g = revised h i c ps
 
     keeps : Keeps h (revised h i c ps)
-    keeps = revised_keeps h i c ps there
+    keeps = revised_keeps h n i c ps name there no_function
 
     marked : (j : ℕ) → j ≡ i → c.class ≡ class.Object → IsMarked (revised h i c ps) j
     marked j same object = record { name = n; named = revised_tag h i j c ps there ∙ ap (λ l. heap.tag_of (object_at h l)) same ∙ name; class = revised_part heap.class_of (λ o ps. refl) h i j c ps there ∙ ap (λ l. heap.class_of (object_at h l)) same ∙ ap heap.class_of there ∙ object }
@@ -153,7 +161,7 @@ objects_revised {first = first} {m = m} {h = h} objects objects' old n i c ps na
         record {
           stored = with_properties c ps;
           there = ap (object_at (revised h i c ps)) same ∙ revised_there h i c ps there;
-          is = subst (λ q. IsNamed objects' (revised h i c ps) q (with_properties c ps)) (sym alike) (named_keep objects' (revised_keeps h i c ps there) n (with_properties c ps) is);
+          is = subst (λ q. IsNamed objects' (revised h i c ps) q (with_properties c ps)) (sym alike) (named_keep objects' (revised_keeps h n i c ps name there no_function) n (with_properties c ps) is);
         }
 
     away : (k : Name) (j : ℕ) → j ≢ i → Named h k j → Stands objects' (revised h i c ps) k j
@@ -162,7 +170,7 @@ objects_revised {first = first} {m = m} {h = h} objects objects' old n i c ps na
         record {
           stored = s.stored;
           there = revised_other h i j c ps ne ∙ s.there;
-          is = named_keep objects' (revised_keeps h i c ps there) k s.stored (others k s.stored (λ e. ne (old.once n j i (t ∙ ap tag_of_name e) name)) s.is);
+          is = named_keep objects' (revised_keeps h n i c ps name there no_function) k s.stored (others k s.stored (λ e. ne (old.once n j i (t ∙ ap tag_of_name e) name)) s.is);
         }
 
 -- a new object with the next name of the running module
@@ -207,7 +215,7 @@ last_other m n x lists ne =
       | false ↦ λ e. refl
     ] in cases refl
 
-last_kept : {A : Type 0} (m n i : ℕ) (x y : A) (lists : ℕ → List A) → slice_get (lists n) i ≡ Some y → slice_get (with_last m x lists n) i ≡ Some y
+pub last_kept : {A : Type 0} (m n i : ℕ) (x y : A) (lists : ℕ → List A) → slice_get (lists n) i ≡ Some y → slice_get (with_last m x lists n) i ≡ Some y
 last_kept m n i x y lists there = elim (nat_eq n m) as (λ b. slice_get (cond b (lists n ++ x ∷ []) (lists n)) i ≡ Some y) [
   | true ↦ get-push-other (lists n) i x (slice_get_within (lists n) i y there) ∙ there
   | false ↦ there
@@ -221,8 +229,39 @@ named_within h n i e =
       | Some o ↦ λ is t. slice_get_within h.list i o is
     ] in cases refl e
 
-pub named_keeps : (h : Objects) (x : heap.Object) (by : ℕ) → Keeps h (with_named h x by)
-named_keeps h x by = record { named = λ n i p. ap heap.tag_of (get-push-other h.list i _ (named_within h n i p)) ∙ p }
+made_apart : (m n d k : ℕ) → tag.Made m n ≡ tag.Made d k → (m ≡ d) × (n ≡ k)
+made_apart m n d k e = (cc, cc)
+
+-- the next number of a module is none that it has given
+next_number : (h : Objects) (by m k : ℕ) → tag.Made by (count_at (slice_get h.counts by)) ≡ tag.Made m k → k < count_at (slice_get h.counts m) → ⊥
+next_number h by m k e lt =
+    let same = made_apart by (count_at (slice_get h.counts by)) m k e in
+    let number : count_at (slice_get h.counts m) ≡ k = ap (λ n. count_at (slice_get h.counts n)) (sym same.0) ∙ same.1 in
+    omega (arith, lt, number)
+
+-- a count that hasn't come to its end
+grown : (h : Objects) (by m : ℕ) → count_at (slice_get h.counts by) < 4294967295 → count_at (slice_get h.counts m) ≤ count_at (slice_get (slice_set h.counts by (raised (count_at (slice_get h.counts by)))) m)
+grown h by m few =
+    by_number m by (count_at (slice_get h.counts m) ≤ count_at (slice_get (slice_set h.counts by n) m))
+    (λ same. subst (λ j. count_at (slice_get h.counts j) ≤ count_at (slice_get (slice_set h.counts by (raised (count_at (slice_get h.counts by)))) j)) (sym same) (here (slice_get h.counts by) refl))
+    (λ other. let e = ap count_at (get-set-other h.counts by m n other) in omega (arith, e))
+  where
+    n : ℕ
+    n = raised (count_at (slice_get h.counts by))
+
+    here : (o : Option ℕ) → slice_get h.counts by ≡ o → count_at (slice_get h.counts by) ≤ count_at (slice_get (slice_set h.counts by (raised (count_at (slice_get h.counts by)))) by)
+    here None e = let z = ap count_at e in omega (arith, z)
+    here (Some k) e = let z = ap count_at (get-set h.counts by k (raised (count_at (slice_get h.counts by))) e) in omega (arith, z, few)
+
+pub named_keeps : (h : Objects) (x : heap.Object) (by : ℕ) → count_at (slice_get h.counts by) < 4294967295 → Keeps h (with_named h x by)
+named_keeps h x by few = record {
+  named = λ n i p. ap heap.tag_of (get-push-other h.list i _ (named_within h n i p)) ∙ p;
+  bare = λ i lt e. get-push-other h.list i _ lt;
+  functions = λ i lt e. get-push-other h.list i _ lt;
+  long = let l = length-append h.list (tagged x (tag.Made by (count_at (slice_get h.counts by))) ∷ []) in omega (arith, l);
+  counted = λ m. grown h by m few;
+  older = λ m k i t lt. cases_at h.list (tagged x (tag.Made by (count_at (slice_get h.counts by)))) i (λ q. heap.tag_of q ≡ tag.Made m k → Named h (made_name m k) i) (λ less f. f) (λ at f. absurd (next_number h by m k f lt)) (λ f. absurd (name_there (made_name m k) f)) t;
+}
 
 -- what stood there stands there
 pub before : (h : Objects) (x : heap.Object) (by i : ℕ) → i < length h.list → object_at (with_named h x by) i ≡ object_at h i
@@ -239,6 +278,10 @@ pub record IsNew (first : Objects) (x : heap.Object) : Type 0 where
 named_grown : (by : ℕ) (q : Object) (objects : ℕ → List Object) (h : Objects) (k : Name) (c : heap.Object) → IsNamed objects h k c → IsNamed (with_last by q objects) h k c
 named_grown by q objects h (made_name a b) c is = record { object = is.object; known = last_kept by a b q is.object objects is.known; is = is.is }
 named_grown by q objects h k c is = is
+
+-- where steps are left, a module's count can rise
+pub room : {first : Objects} {places : r.Native → ℕ} {m : ℕ} {objects : ℕ → List Object} {h : Objects} (by : ℕ) → by < 64 → suc m ≤ 4294967295 → ObjectsAre first places objects h m → count_at (slice_get h.counts by) < 4294967295
+room by below few old = let f = old.few by in let same = ap count_at (old.count by below) in omega (arith, f, same, few)
 
 pub objects_made : {first : Objects} {places : r.Native → ℕ} {m : ℕ} {h : Objects} (by : ℕ) (objects : ℕ → List Object) → by < 64 → ObjectsAre first places objects h m → (o : Object) (x : heap.Object) → suc m ≤ 4294967295 → IsNew first x → Is (with_named h x by) o (tagged x (tag.Made by (count_at (slice_get h.counts by)))) → ObjectsAre first places (with_last by o objects) (with_named h x by) (suc m)
 objects_made {first = first} {m = m} {h = h} by objects below old o x few new is = record {
@@ -265,7 +308,7 @@ objects_made {first = first} {m = m} {h = h} by objects below old o x few new is
     g = with_named h x by
 
     keeps : Keeps h (with_named h x by)
-    keeps = named_keeps h x by
+    keeps = named_keeps h x by (room by below few old)
 
     number : count_at (slice_get h.counts by) ≡ length (objects by)
     number = ap count_at (old.count by below)
@@ -277,7 +320,7 @@ objects_made {first = first} {m = m} {h = h} by objects below old o x few new is
     raise = let f = old.few by in omega (arith, f, few)
 
     older : (k : Name) (i : ℕ) → i < length h.list → Stands objects h k i → Stands (with_last by o objects) (with_named h x by) k i
-    older k i lt s = record { stored = s.stored; there = before h x by i lt ∙ s.there; is = named_keep (with_last by o objects) (named_keeps h x by) k s.stored (named_grown by o objects h k s.stored s.is) }
+    older k i lt s = record { stored = s.stored; there = before h x by i lt ∙ s.there; is = named_keep (with_last by o objects) (named_keeps h x by (room by below few old)) k s.stored (named_grown by o objects h k s.stored s.is) }
 
     -- the new object's name
     new_name : (k : Name) → tag.Made by (count_at (slice_get h.counts by)) ≡ tag_of_name k → k ≡ made_name by (count_at (slice_get h.counts by))

@@ -83,7 +83,7 @@ copy_props {h = h} {ps = ps} {props = props} r = record {
   no_value = none_copied (codes "valueOf") props refl r.no_value;
 }
 
-empty_props : (h : Objects) → PropsAre h false [] []
+pub empty_props : (h : Objects) → PropsAre h false [] []
 empty_props h = record { pairs = tt; closed = refl; reads = λ k p e. absurd (none-some p e); sets = λ k p e. absurd (none-some p e); plain = λ k p g e. absurd (none-some p e); marks = λ k p g e. absurd (none-some p e); once = tt; no_text = refl; no_value = refl }
 
 -- the public properties of what may be a record
@@ -129,7 +129,7 @@ unmarked l c k hidden =
       | Some p ↦ λ e. absurd (plain_apart (sym (all_plain l k p e) ∙ c.marks k p hidden e))
     ] in cases refl
 
-proto_zero : (p : ℕ) → (let q : Option ℕ = Some 0 in q) ≡ Some p → 0 ≡ p
+pub proto_zero : (p : ℕ) → (let q : Option ℕ = Some 0 in q) ≡ Some p → 0 ≡ p
 proto_zero p e = cc
 
 record_new : {first : Objects} {h : Objects} → IsFirst first → (frozen : Bool) (ps : Pairs) (l : List (List ℕ × EsValue)) → PropsAre h false ps (es3.copied l) → IsNew first (es3.frozen_if frozen (es3.record_object (es3.copied l)))

@@ -23,7 +23,7 @@ use Rattle.row_simulation.proofs.Relation.{EsValue, Named, Val, Is, ObjectsAre, 
 use Rattle.row_simulation.proofs.Row.{ReplyIs, shown, shown-append, shown_gained, DoneIs, keeps_refl, objects_step, handle_is, handles_are, EndLaw}
 use Rattle.row_simulation.specs.Among.{IsHandleAmong, AreHandlesAmong}
 use Rattle.row_simulation.specs.RowLaw.{IsFirst}
-use Rattle.row_simulation.proofs.Changes.{tagged, with_named, named_new, named_keeps, IsNew, objects_made}
+use Rattle.row_simulation.proofs.Changes.{tagged, with_named, named_new, named_keeps, IsNew, room, objects_made}
 
 -- what is told of what was got isn't printed
 
@@ -63,7 +63,7 @@ is_tagged g (an_error maker message) x t p = record { class = p.class; proto = p
 pub makes_law : {first : Objects} {places : Native → ℕ} (by : ℕ) → by < 64 → (give : Value → direct.Outcome) (give' : EsValue → Reply) → ((g : Objects) (v : Value) (e : EsValue) → Val g v e → ReplyIs g (give v) (give' e)) → (o : Object) (x : heap.Object) (w : World) (h : Objects) (z : List direct.Item) (y : List Told) (m : ℕ) → suc m ≤ 4294967295 → IsNew first x → Is h o x → ObjectsAre first places w.objects h m → shown z ≡ y → DoneIs first places h m (direct.makes give by o w z) (es3.makes give' by x h y)
 makes_law {first = first} {places = places} by below give give' reply o x w h z y m few new is old items =
     let g = with_named h x by in
-    let keeps = named_keeps h x by in
+    let keeps = named_keeps h x by (room by below few old) in
     subst (λ q. DoneIs first places h m (direct.makes give by o w z) (record { reply = give' (es.Obj (length h.list)); heap = q; items = y })) (sym (named_new h x by new.bare)) (record {
       reply = reply g (object (next_name by w)) (es.Obj (length h.list)) name;
       objects = objects_made by w.objects below old o x few new (is_tagged g o x (tag.Made by (count_at (slice_get h.counts by))) (is_keep keeps o x is));

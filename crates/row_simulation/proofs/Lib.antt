@@ -15,9 +15,13 @@ pub mod Lists
 pub mod Conversions
 pub mod Whole
 pub mod Frozen
+pub mod First
 pub mod Opening
 pub mod Begun
 pub mod Tables
 pub mod Marked
 pub mod InlineRead
 pub mod InlineWrite
+pub mod Leaves
+pub mod Operators
+pub mod Grows

@@ -2,6 +2,7 @@
 use Rattle.std.proofs.Common.{◌≡◌, ℕ, zero, suc, ◌+◌, ◌-◌, ◌<◌, Bool, true, false, List, [], ◌∷◌, ◌++◌, length, Option, Some, None, cond, refl, sym, ap, ◌∙◌, subst, arith}
 use Rattle.std.specs.Prelude.{slice_get, codes, nat_eq, replicate, get_or}
 use Rattle.std.proofs.lemmas.Option.{none-some}
+use Rattle.std.proofs.lemmas.List.{length-append}
 use Rattle.std.proofs.lemmas.Bool.Decides.{nat_tests}
 use Rattle.caja_units.specs.Units.{is_hidden}
 use Rattle.es3_heap.specs.declared.value.Class.TheVariants as class
@@ -9,8 +10,7 @@ use Rattle.es3_heap.specs.declared.value.Tag.{Tag}
 use Rattle.es3_heap.specs.declared.value.Tag.TheVariants as tag
 use Rattle.es3_heap.specs.Objects as heap
 use Rattle.es3_heap.specs.Objects.{Property, Objects, object_at, plain_attrs, hidden_attrs}
-use Rattle.es3_heap.specs.Properties.{find, own}
-use Rattle.es3_heap.specs.Making.{bare, first_objects, new_objects}
+use Rattle.es3_heap.specs.Properties.{find}
 use Rattle.rows.specs.Rows as r
 use Rattle.rows.specs.Names.{Tools, of_cajita, of_math, tools, sort_of, code_of}
 use Rattle.cajita_meaning.specs.World.{Name, made_name, cell_name, own_name, built_name, tools_name, facet_name, forward_name, empty_world}
@@ -18,20 +18,15 @@ use Rattle.cajita_meaning.specs.Doing.{tool_pairs}
 use Rattle.heap_rows.specs.Marks.{read_mark, set_mark}
 use Rattle.heap_rows.specs.Natives.{kind_of, tag_of_native, tag_of_tools, is_common}
 use Rattle.heap_rows.specs.Doing.{sort_seen, guests}
-use Rattle.heap_rows.specs.Opening.{common, place_of, opened}
-use Rattle.row_simulation.specs.RowLaw.{IsFirst}
+use Rattle.heap_rows.specs.Opening.{first, first_count, common, place_of, opened}
+use Rattle.heap_rows.proofs.Made as made
+use Rattle.heap_rows.proofs.Made.{native_object, native_objects, entries, frozen_entries, record_object}
+use Rattle.row_simulation.proofs.First.{AllFrom, each_at, both_from, first_list, first_list_is, first_list_count, first_many, IsUnnamed, up_few, all_unnamed, by_first}
 use Rattle.row_simulation.proofs.Frozen.{frozen_props, all_guests, first_guest, no_read, no_set, frozen_are}
 use Rattle.row_simulation.proofs.Names.{code_of_tag, native_back, name_there, known_name, tools_known}
 use Rattle.row_simulation.proofs.Relation.{Named, tag_of_name, PairsAre, Once, IsRecord, IsFunction, IsNamed, Stands, ObjectsAre}
 
 -- the objects of the opening, one by one
-
-native_object : r.Native → heap.Object
-native_object f = record { class = class.Function; proto = Some 1; callable = Some (record { kind = kind_of f; maker = 0 }); tag = tag_of_native f; props = [] }
-
-native_objects : List r.Native → List heap.Object
-native_objects [] = []
-native_objects (f ∷ fs) = native_object f ∷ native_objects fs
 
 places_of : List (List ℕ × r.Native) → List (List ℕ × ℕ)
 places_of [] = []
@@ -40,24 +35,17 @@ places_of ((k, f) ∷ rest) = (k, place_of f) ∷ places_of rest
 tools_object : Tools → heap.Object
 tools_object t = record { class = class.Object; proto = Some 0; callable = None; tag = tag_of_tools t; props = frozen_props (places_of (tools t)) }
 
-opened_is : opened ≡ record { list = first_objects ++ (tools_object of_cajita ∷ tools_object of_math ∷ native_objects common); counts = replicate 64 0 }
-unfolding opened native_object native_objects frozen_props places_of tools_object
-opened_is = refl
+tools_object_is : (t : Tools) → record_object t ≡ tools_object t
+unfolding entries frozen_entries record_object frozen_props places_of tools_object
+tools_object_is of_cajita = refl
+tools_object_is of_math = refl
 
--- a list, item by item with its place
-
-AllFrom : (ℕ → heap.Object → Type 0) → ℕ → List heap.Object → Type 0
-AllFrom P n [] = Unit {0}
-AllFrom P n (x ∷ xs) = P n x × AllFrom P (suc n) xs
-
-some_object : (a b : heap.Object) → (let q : Option heap.Object = Some a in q) ≡ Some b → a ≡ b
-some_object a b e = cc
-
-each_at : (P : ℕ → heap.Object → Type 0) (n : ℕ) (xs : List heap.Object) → AllFrom P n xs → (i : ℕ) (o : heap.Object) → slice_get xs i ≡ Some o → P (n + i) o
-unfolding AllFrom
-each_at P n [] a i o e = absurd (none-some o e)
-each_at P n (x ∷ xs) a zero o e = subst (λ q. P (n + 0) q) (some_object x o e) (subst (λ k. P k x) (omega arith) a.0)
-each_at P n (x ∷ xs) a (suc i) o e = subst (λ k. P k o) (omega arith) (each_at P (suc n) xs a.1 i o e)
+opened_is : opened ≡ record { list = first_list ++ (tools_object of_cajita ∷ tools_object of_math ∷ native_objects common); counts = replicate 64 0 }
+opened_is =
+    made.opened_is
+    ∙ ap (λ h. made.stored h.counts (h.list ++ record_object of_cajita ∷ record_object of_math ∷ native_objects common)) first_list_is
+    ∙ ap (λ o. made.stored (replicate 64 0) (first_list ++ o ∷ record_object of_math ∷ native_objects common)) (tools_object_is of_cajita)
+    ∙ ap (λ o. made.stored (replicate 64 0) (first_list ++ tools_object of_cajita ∷ o ∷ native_objects common)) (tools_object_is of_math)
 
 get_front : {X : Type 0} (xs ys : List X) (i : ℕ) → i < length xs → slice_get (xs ++ ys) i ≡ slice_get xs i
 get_front [] ys i lt = absurd (omega (arith, lt))
@@ -72,7 +60,7 @@ get_replicated (suc m) (suc n) lt = get_replicated m n (omega (arith, lt))
 -- where the functions are
 
 natives_there : (f : r.Native) → is_common f ≡ true → Named opened (built_name f) (place_of f)
-unfolding native_object native_objects frozen_props places_of tools_object
+unfolding first_list native_object native_objects frozen_props places_of tools_object
 natives_there r.say e = cc
 natives_there r.later e = cc
 natives_there r.get e = cc
@@ -170,7 +158,7 @@ tools_named t n e = subst (λ k. IsNamed empty_world.objects opened k (tools_obj
 -- what holds of each object at its place
 
 spot : Tag → ℕ
-spot (tag.Built n) = n + 10
+spot (tag.Built n) = n + 16
 spot t = 0
 
 record IsOpen (i : ℕ) (o : heap.Object) : Type 0 where
@@ -178,21 +166,23 @@ record IsOpen (i : ℕ) (o : heap.Object) : Type 0 where
   pub placed : (n : Name) → o.tag ≡ tag_of_name n → spot o.tag ≡ i
   pub reads : (k : List ℕ) → find (read_mark k) o.props ≡ None
   pub sets : (k : List ℕ) → find (set_mark k) o.props ≡ None
-  pub above : (p : ℕ) → o.proto ≡ Some p → p < 10
+  pub above : (p : ℕ) → o.proto ≡ Some p → p < first_count
 
-proto_few : (q p : ℕ) → q < 10 → (let x : Option ℕ = Some q in x) ≡ Some p → p < 10
-proto_few q p lt e = let same : q ≡ p = cc in omega (arith, same, lt)
+unnamed_open : (i : ℕ) (o : heap.Object) → IsUnnamed o → IsOpen i o
+unnamed_open i o is = record { named = λ n e. absurd (name_there n (sym is.untagged ∙ e)); placed = λ n e. absurd (name_there n (sym is.untagged ∙ e)); reads = is.reads; sets = is.sets; above = is.above }
 
-bare_open : (i : ℕ) (up : Option ℕ) → ((p : ℕ) → up ≡ Some p → p < 10) → IsOpen i (bare class.Object up None)
-bare_open i up few = record { named = λ n e. absurd (name_there n e); placed = λ n e. absurd (name_there n e); reads = λ k. refl; sets = λ k. refl; above = few }
+all_unnamed_open : (i : ℕ) (l : List heap.Object) → AllFrom (λ i o. IsUnnamed o) i l → AllFrom IsOpen i l
+unfolding AllFrom
+all_unnamed_open i [] a = tt
+all_unnamed_open i (o ∷ os) a = (unnamed_open i o a.0, all_unnamed_open (suc i) os a.1)
 
 native_open : (f : r.Native) (i : ℕ) → spot (tag_of_native f) ≡ i → IsOpen i (native_object f)
 unfolding native_object
-native_open f i at = record { named = λ n e. native_named f n e; placed = λ n e. at; reads = λ k. refl; sets = λ k. refl; above = λ p e. proto_few 1 p (omega arith) e }
+native_open f i at = record { named = λ n e. native_named f n e; placed = λ n e. at; reads = λ k. refl; sets = λ k. refl; above = λ p e. up_few 1 p (omega arith) e }
 
 tools_open : (t : Tools) (i : ℕ) → spot (tag_of_tools t) ≡ i → IsOpen i (tools_object t)
 unfolding tools_object
-tools_open t i at = record { named = λ n e. tools_named t n e; placed = λ n e. at; reads = λ k. no_read (places_of (tools t)) (tools_guests t) k; sets = λ k. no_set (places_of (tools t)) (tools_guests t) k; above = λ p e. proto_few 0 p (omega arith) e }
+tools_open t i at = record { named = λ n e. tools_named t n e; placed = λ n e. at; reads = λ k. no_read (places_of (tools t)) (tools_guests t) k; sets = λ k. no_set (places_of (tools t)) (tools_guests t) k; above = λ p e. up_few 0 p (omega arith) e }
 
 in_order : ℕ → List r.Native → Bool
 in_order i [] = true
@@ -206,46 +196,16 @@ natives_open i (f ∷ fs) e =
     let y = x.0 in
     (native_open f i (grind (arith, nat_tests)), natives_open (suc i) fs x.1)
 
-common_in_order : in_order 12 common ≡ true
+common_in_order : in_order 18 common ≡ true
 unfolding in_order spot
 common_in_order = refl
 
-all_open : AllFrom IsOpen 0 (first_objects ++ (tools_object of_cajita ∷ tools_object of_math ∷ native_objects common))
+later_open : AllFrom IsOpen 16 (tools_object of_cajita ∷ tools_object of_math ∷ native_objects common)
 unfolding AllFrom spot
-all_open =
-    let none : (p : ℕ) → (let x : Option ℕ = None in x) ≡ Some p → p < 10 = λ p e. absurd (none-some p e) in
-    let zeroth : (p : ℕ) → (let x : Option ℕ = Some 0 in x) ≡ Some p → p < 10 = λ p e. proto_few 0 p (omega arith) e in
-    let sixth : (p : ℕ) → (let x : Option ℕ = Some 6 in x) ≡ Some p → p < 10 = λ p e. proto_few 6 p (omega arith) e in (
-      bare_open 0 None none,
-      (
-        bare_open 1 (Some 0) zeroth,
-        (
-          bare_open 2 (Some 0) zeroth,
-          (
-            bare_open 3 (Some 0) zeroth,
-            (
-              bare_open 4 (Some 0) zeroth,
-              (
-                bare_open 5 (Some 0) zeroth,
-                (
-                  bare_open 6 (Some 0) zeroth,
-                  (
-                    bare_open 7 (Some 6) sixth,
-                    (
-                      bare_open 8 (Some 6) sixth,
-                      (
-                        bare_open 9 (Some 0) zeroth,
-                        (tools_open of_cajita 10 refl, (tools_open of_math 11 refl, natives_open 12 common common_in_order)),
-                      ),
-                    ),
-                  ),
-                ),
-              ),
-            ),
-          ),
-        ),
-      ),
-    )
+later_open = (tools_open of_cajita 16 refl, (tools_open of_math 17 refl, natives_open 18 common common_in_order))
+
+all_open : AllFrom IsOpen 0 (first_list ++ (tools_object of_cajita ∷ tools_object of_math ∷ native_objects common))
+all_open = both_from IsOpen 0 first_list _ (all_unnamed_open 0 first_list all_unnamed) (subst (λ n. AllFrom IsOpen n (tools_object of_cajita ∷ tools_object of_math ∷ native_objects common)) (let l = first_list_count in omega (arith, l)) later_open)
 
 open_at : (i : ℕ) (o : heap.Object) → object_at opened i ≡ Some o → IsOpen i o
 open_at i o e = subst (λ k. IsOpen k o) (omega arith) (each_at IsOpen 0 _ all_open i o (ap (λ h. object_at h i) (sym opened_is) ∙ e))
@@ -257,34 +217,19 @@ by_object i P none some = elim (object_at opened i) as (λ q. object_at opened i
   | Some o ↦ λ e. some o e (open_at i o e)
 ] refl
 
--- the prototypes
+-- the objects without names
 
-bare_at : (i : ℕ) (o : heap.Object) → slice_get first_objects i ≡ Some o → (o.tag ≡ tag.None) × (o.props ≡ [])
-unfolding AllFrom
-bare_at i o e = each_at (λ i o. (o.tag ≡ tag.None) × (o.props ≡ [])) 0 first_objects
-    ((refl, refl), ((refl, refl), ((refl, refl), ((refl, refl), ((refl, refl), ((refl, refl), ((refl, refl), ((refl, refl), ((refl, refl), ((refl, refl), tt)))))))))) i o e
-
-by_first : (i : ℕ) (P : Option heap.Object → Type 0) → P None → ((o : heap.Object) → o.tag ≡ tag.None → o.props ≡ [] → P (Some o)) → P (slice_get first_objects i)
-by_first i P none some = elim (slice_get first_objects i) as (λ q. slice_get first_objects i ≡ q → P q) [
-  | None ↦ λ e. none
-  | Some o ↦ λ e. let b = bare_at i o e in some o b.0 b.1
-] refl
-
-none_own : (k : List ℕ) (i : ℕ) → own new_objects i k ≡ None
-none_own k i = by_first i (λ q. find k (heap.props_of q) ≡ None) refl (λ o t p. ap (find k) p)
-
-pub first_is : IsFirst new_objects
-first_is = record { some = omega arith; top = refl; free = λ k. refl; no_text = none_own (codes "toString"); no_value = none_own (codes "valueOf") }
-
-same_first : (i : ℕ) → i < 10 → object_at opened i ≡ object_at new_objects i
-same_first i lt = ap (λ h. object_at h i) opened_is ∙ get_front first_objects (tools_object of_cajita ∷ tools_object of_math ∷ native_objects common) i (let l : length first_objects ≡ 10 = refl in omega (arith, l, lt))
+same_first : (i : ℕ) → i < first_count → object_at opened i ≡ object_at first i
+same_first i lt =
+    ap (λ h. object_at h i) opened_is ∙ get_front first_list (tools_object of_cajita ∷ tools_object of_math ∷ native_objects common) i (let l = first_list_count in omega (arith, l, lt))
+    ∙ sym (ap (λ h. object_at h i) first_list_is)
 
 -- the place of a name
 one_at : (n : Name) (i : ℕ) → Named opened n i → spot (tag_of_name n) ≡ i
 one_at n i e = by_object i (λ q. heap.tag_of q ≡ tag_of_name n → spot (tag_of_name n) ≡ i) (λ f. absurd (name_there n f)) (λ o known x f. ap spot (sym f) ∙ x.placed n f) e
 
-unnamed_first : (i : ℕ) (n : Name) → i < 10 → Named opened n i → ⊥
-unnamed_first i n lt e = by_first i (λ q. heap.tag_of q ≡ tag_of_name n → ⊥) (λ f. name_there n f) (λ o t p f. name_there n (sym t ∙ f)) (ap heap.tag_of (sym (same_first i lt)) ∙ e)
+unnamed_first : (i : ℕ) (n : Name) → i < first_count → Named opened n i → ⊥
+unnamed_first i n lt e = by_first i (λ q. heap.tag_of q ≡ tag_of_name n → ⊥) (λ f. name_there n f) (λ o is f. name_there n (sym is.untagged ∙ f)) (ap heap.tag_of (ap (λ h. object_at h i) (sym first_list_is) ∙ sym (same_first i lt)) ∙ e)
 
 -- no module and no cell has anything there
 pub no_own : (m i j : ℕ) → Named opened (own_name m i) j → ⊥
@@ -295,21 +240,27 @@ pub no_cell : (c i j : ℕ) → Named opened (cell_name c i) j → ⊥
 unfolding spot
 no_cell c i j e = let at : 0 ≡ j = one_at (cell_name c i) j e in unnamed_first j (cell_name c i) (omega (arith, at)) e
 
-pub opened_corresponds : ObjectsAre new_objects place_of empty_world.objects opened 0
+pub opened_corresponds : ObjectsAre first place_of empty_world.objects opened 0
 opened_corresponds = record {
   each = λ n i e. stands n i e;
   once = λ n i j e f. one n i j e f;
   natives = natives_there;
   reads = λ i k p e. absurd (by_object i (λ q. find (read_mark k) (heap.props_of q) ≡ Some p → ⊥) (λ f. none-some p f) (λ o there x f. none-some p (sym (x.reads k) ∙ f)) e);
   sets = λ i k p e. absurd (by_object i (λ q. find (set_mark k) (heap.props_of q) ≡ Some p → ⊥) (λ f. none-some p f) (λ o there x f. none-some p (sym (x.sets k) ∙ f)) e);
-  above = λ i p e. by_object i (λ q. heap.proto_of q ≡ Some p → p < 10) (λ f. absurd (none-some p f)) (λ o there x f. x.above p f) e;
+  above = λ i p e. by_object i (λ q. heap.proto_of q ≡ Some p → p < length first.list) (λ f. absurd (none-some p f)) (λ o there x f. few p (x.above p f)) e;
   count = λ n lt. ap (λ h. slice_get h.counts n) opened_is ∙ get_replicated 64 n lt;
   few = λ n. omega arith;
-  opened = same_first;
-  unnamed = unnamed_first;
-  large = let l = ap (λ h. length h.list) opened_is in let m : length (first_objects ++ (tools_object of_cajita ∷ tools_object of_math ∷ native_objects common)) ≡ 10 + length (tools_object of_cajita ∷ tools_object of_math ∷ native_objects common) = Rattle.std.proofs.lemmas.List.length-append first_objects (tools_object of_cajita ∷ tools_object of_math ∷ native_objects common) in omega (arith, l, m);
+  opened = λ i lt. same_first i (known i lt);
+  unnamed = λ i n lt e. unnamed_first i n (known i lt) e;
+  large = let many = first_many in let l = ap (λ h. length h.list) opened_is in let m = length-append first_list (tools_object of_cajita ∷ tools_object of_math ∷ native_objects common) in let k = first_list_count in omega (arith, many, l, m, k);
 }
   where
+    few : (p : ℕ) → p < first_count → p < length first.list
+    few p lt = let many = first_many in omega (arith, many, lt)
+
+    known : (i : ℕ) → i < length first.list → i < first_count
+    known i lt = let many = first_many in omega (arith, many, lt)
+
     stands : (n : Name) (i : ℕ) → Named opened n i → Stands empty_world.objects opened n i
     stands n i e = by_object i (λ q. object_at opened i ≡ q → heap.tag_of q ≡ tag_of_name n → Stands empty_world.objects opened n i) (λ there f. absurd (name_there n f)) (λ o known x there f. record { stored = o; there = there; is = x.named n f }) refl e
 

@@ -52,7 +52,17 @@ shown-append (direct.said m us ∷ a) b = ap (λ l. es3.said m us ∷ l) (shown-
 shown-append (i ∷ a) b = shown-append a b
 
 pub keeps_refl : {h : Objects} → Keeps h h
-keeps_refl = record { named = λ n i p. p }
+keeps_refl = record { named = λ n i p. p; bare = λ i lt e. refl; functions = λ i lt e. refl; long = omega arith; counted = λ m. omega arith; older = λ m k i t lt. t }
+
+pub keeps_trans : {a b c : Objects} → Keeps a b → Keeps b c → Keeps a c
+keeps_trans p q = record {
+  named = λ n i t. q.named n i (p.named n i t);
+  bare = λ i lt e. q.bare i (omega (arith, lt, p.long)) (ap heap.tag_of (p.bare i lt e) ∙ e) ∙ p.bare i lt e;
+  functions = λ i lt e. q.functions i (omega (arith, lt, p.long)) (ap heap.class_of (p.functions i lt e) ∙ e) ∙ p.functions i lt e;
+  long = omega (arith, p.long, q.long);
+  counted = λ m. let x = p.counted m in let y = q.counted m in omega (arith, x, y);
+  older = λ m k i t lt. p.older m k i (q.older m k i t (let x = p.counted m in omega (arith, lt, x))) lt;
+}
 
 pub objects_step : {first : Objects} {places : Native → ℕ} {objects : ℕ → List Object} {h : Objects} {m : ℕ} → ObjectsAre first places objects h m → ObjectsAre first places objects h (suc m)
 objects_step o = record { each = o.each; once = o.once; natives = o.natives; reads = o.reads; sets = o.sets; above = o.above; count = o.count; few = λ n. let f = o.few n in omega (arith, f); opened = o.opened; unnamed = o.unnamed; large = o.large }
@@ -85,12 +95,12 @@ pub handles_are : {first : Objects} {places : Native → ℕ} {objects : ℕ →
 handles_are o [] a vs es p = tt
 handles_are o (x ∷ xs) a vs es p = (handle_is o x a.0 vs es p, handles_are o xs a.1 vs es p)
 
-vals_append : (h : Objects) (vs ws : List Value) (es fs : List EsValue) → Vals h vs es → Vals h ws fs → Vals h (vs ++ ws) (es ++ fs)
+pub vals_append : (h : Objects) (vs ws : List Value) (es fs : List EsValue) → Vals h vs es → Vals h ws fs → Vals h (vs ++ ws) (es ++ fs)
 vals_append h [] ws [] fs p q = q
 vals_append h (v ∷ vs) ws (e ∷ es) fs p q = (p.0, vals_append h vs ws es fs p.1 q)
 vals_append h _ ws _ fs p q = absurd p
 
-vals_length : (h : Objects) (vs : List Value) (es : List EsValue) → Vals h vs es → length vs ≡ length es
+pub vals_length : (h : Objects) (vs : List Value) (es : List EsValue) → Vals h vs es → length vs ≡ length es
 vals_length h [] [] p = refl
 vals_length h (v ∷ vs) (e ∷ es) p = ap suc (vals_length h vs es p.1)
 vals_length h _ _ p = absurd p

@@ -11,7 +11,7 @@ use Rattle.es3_heap.specs.declared.value.Tag.TheVariants as tag
 use Rattle.es3_heap.specs.Objects as heap
 use Rattle.es3_heap.specs.Objects.{Property, Objects, plain_attrs, hidden_attrs}
 use Rattle.es3_heap.specs.Properties.{find, own}
-use Rattle.es3_heap.specs.Making.{proto_id, length_property, item_properties}
+use Rattle.es3_heap.specs.Making.{proto_id, length_property, item_properties, count_at}
 use Rattle.rows.specs.Rows as r
 use Rattle.rows.specs.Names.{sort_of, tools}
 use Rattle.rows.specs.Guards.{maker_name}
@@ -145,7 +145,7 @@ pub record IsMarked (h : Objects) (i : ℕ) : Type 0 where
   pub named : Named h name i
   pub class : heap.class_of (heap.object_at h i) ≡ class.Object
 
--- Named objects stand for those of the world, each of which has one place; `first` are those that are prototypes, which have no names and stay as they are;
+-- Named objects stand for those of the world, each of which has one place; `first` are those without names, the prototypes among them, which stay as they are;
 -- `places` says where the common built-ins are. A module has named no more objects than steps were taken.
 pub record ObjectsAre (first : Objects) (places : r.Native → ℕ) (objects : ℕ → List Object) (h : Objects) (m : ℕ) : Type 0 where
   pub each : (n : Name) (i : ℕ) → Named h n i → Stands objects h n i
@@ -161,6 +161,11 @@ pub record ObjectsAre (first : Objects) (places : r.Native → ℕ) (objects : �
   pub unnamed : (i : ℕ) (n : Name) → i < length first.list → Named h n i → ⊥
   pub large : length first.list ≤ length h.list
 
--- what persists: the names of objects
+-- what persists: the names of objects; an object without a name, and a function, stay as they are; none goes away, no count falls, and no older name of a module comes to another object
 pub record Keeps (a b : Objects) : Type 0 where
   pub named : (n : Name) (i : ℕ) → Named a n i → Named b n i
+  pub bare : (i : ℕ) → i < length a.list → heap.tag_of (heap.object_at a i) ≡ tag.None → heap.object_at b i ≡ heap.object_at a i
+  pub functions : (i : ℕ) → i < length a.list → heap.class_of (heap.object_at a i) ≡ class.Function → heap.object_at b i ≡ heap.object_at a i
+  pub long : length a.list ≤ length b.list
+  pub counted : (m : ℕ) → count_at (slice_get a.counts m) ≤ count_at (slice_get b.counts m)
+  pub older : (m k i : ℕ) → Named b (made_name m k) i → k < count_at (slice_get a.counts m) → Named a (made_name m k) i

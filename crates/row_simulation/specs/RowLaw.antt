@@ -71,11 +71,11 @@ RowLaw first places by q =
     → Vals h s.values es → ObjectsAre first places w.objects h m → PagesAre h w g → shown z ≡ y
     → CameIs first places h m (direct.does by q s w z) (es3.does places by q es h g y)
 
--- the prototypes were there at the opening, and that of Object keeps no key from being written
+-- the prototypes are among the first objects, and that of Object keeps no key from being written
 pub record IsFirst (first : Objects) : Type 0 where
   pub some : 10 ≤ length first.list
   pub top : heap.proto_of (object_at first 0) ≡ None
   pub free : (k : List ℕ) → may_write (own first 0 k) ≡ true
-  -- no prototype has a conversion of its own making
+  -- none of them has a conversion of its own making
   pub no_text : (i : ℕ) → own first i (codes "toString") ≡ None
   pub no_value : (i : ℕ) → own first i (codes "valueOf") ≡ None

@@ -13,10 +13,9 @@
 
 ghost use Rattle.std.specs.Prelude.{ℕ, ◌<◌};
 ghost use Rattle.es3_heap.specs.Objects.{Objects};
-ghost use Rattle.es3_heap.specs.Making.{new_objects};
 ghost use Rattle.rows.specs.Rows.{Native, Row};
 ghost use Rattle.cajita_meaning.specs.World.{World, empty_world};
-ghost use Rattle.heap_rows.specs.Opening.{place_of, begun, empty_page};
+ghost use Rattle.heap_rows.specs.Opening.{first, place_of, begun, empty_page};
 ghost use Rattle.row_simulation.specs.Correspond.{ObjectsAre};
 ghost use Rattle.row_simulation.specs.Among.{IsAmongObjects, AreTablesAmong};
 ghost use Rattle.row_simulation.specs.Inline.{InlineRead, InlineWrite};
@@ -33,12 +32,12 @@ pub fn the_tables_are_among_objects()
     ensures { AreTablesAmong }
 {}
 
-/// Where a page begins with so many modules and so many cells, its objects stand for the empty world: the ten prototypes, the records `cajita` and `Math`, the
-/// built-in functions, each module's own `say` and `later`, and each cell's record and functions.
-#[tactic(auto, using(crate::proofs::Opening::first_is, crate::proofs::Begun::page_corresponds))]
+/// Where a page begins with so many modules and so many cells, its objects stand for the empty world: the objects without names, of which the prototypes are ten, the
+/// records `cajita` and `Math`, the built-in functions, each module's own `say` and `later`, and each cell's record and functions.
+#[tactic(auto, using(crate::proofs::First::first_is, crate::proofs::Begun::page_corresponds))]
 pub fn a_page_begins_so()
-    ensures prototypes { IsFirst new_objects }
-    ensures objects { (modules cells : ℕ) → ObjectsAre new_objects place_of empty_world.objects (begun modules cells) 0 }
+    ensures prototypes { IsFirst first }
+    ensures objects { (modules cells : ℕ) → ObjectsAre first place_of empty_world.objects (begun modules cells) 0 }
     ensures page { (modules cells : ℕ) → PagesAre (begun modules cells) empty_world empty_page }
 {}
 
