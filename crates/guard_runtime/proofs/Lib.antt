@@ -1,2 +1,3 @@
 mod Keyed
+mod Reading
 pub mod Live

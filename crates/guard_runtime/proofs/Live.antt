@@ -1,17 +1,20 @@
 -- What guards answer names live objects alone, and they keep objects closed.
-use Rattle.std.proofs.Common.{ℕ, ◌≤◌, true, false, List, [], ◌∷◌, Some, Result, Ok, Err, All, length, cond, subst, arith}
-use Rattle.std.specs.Prelude.{nat_eq, codes, pos}
+use Rattle.std.proofs.Common.{◌≡◌, ℕ, ◌<◌, ◌≤◌, Bool, true, false, ◌||◌, ◌&&◌, not, List, [], ◌∷◌, Option, Some, None, Result, Ok, Err, All, length, cond, refl, subst, arith}
+use Rattle.std.specs.Prelude.{nat_eq, nat_lt, is_some, codes}
+use Rattle.std.proofs.lemmas.Bool.Decides.{nat_tests}
 use Rattle.std.proofs.lemmas.List.Elements.{All-nil, All-cons, All-head, All-tail, All-weaker}
 use Rattle.plans.specs.Plans.{Fault}
 use Rattle.caja_units.specs.Units.{same_units, is_hidden}
+use Rattle.caja_units.specs.Index.{array_index, number_units}
 use Rattle.es3_heap.specs.declared.value.Value.{Value}
 use Rattle.es3_heap.specs.declared.value.Value.TheVariants as v
 use Rattle.es3_heap.specs.declared.value.Class.{Class}
 use Rattle.es3_heap.specs.declared.value.Class.TheVariants as class
 use Rattle.es3_heap.specs.declared.value.Proto.TheVariants as proto
 use Rattle.es3_heap.specs.declared.value.Stop.TheVariants as stop
-use Rattle.es3_heap.specs.Objects.{Objects, plain_attrs, object_at, class_of, with_object}
-use Rattle.es3_heap.specs.Properties.{own, value_of, length_key, define}
+use Rattle.es3_heap.specs.Objects.{Objects, plain_attrs, hidden_attrs, object_at, class_of, callable_of, with_object}
+use Rattle.es3_heap.specs.Properties.{own, length_key, define}
+use Rattle.es3_heap.specs.Reading.{kind_of}
 use Rattle.es3_heap.specs.Making.{proto_id, plain_object, made, error_object}
 use Rattle.es3_convert.specs.Conversions.{and_then, text_of, array_items}
 use Rattle.es3_live.specs.Live.{IsLive, AreClosed}
@@ -19,11 +22,17 @@ use Rattle.es3_live.proofs.Growth.{live_more, later_refl}
 use Rattle.es3_live.proofs.Reading.{own_live, array_items_live}
 use Rattle.es3_live.proofs.Writing.{Grown, same_objects, grown_trans, define_grown, named_grown}
 use Rattle.es3_live.proofs.Making.{made_grown, error_grown, new_within, proto_there}
+use Rattle.rows.specs.Rows.{Native}
+use Rattle.rows.specs.Names.{text_methods, array_methods, function_methods}
+use Rattle.heap_rows.specs.Marks.{read_mark, grant_read, simple_mark}
+use Rattle.heap_rows.specs.Opening.{place_of, built_ins_there, initialize_map as initialize_map_number, read_public as read_public_number}
 use Rattle.guard_runtime.specs.declared.reply.Guarded.{Guarded}
 use Rattle.guard_runtime.specs.declared.reply.Guarded.TheVariants as g
-use Rattle.guard_runtime.specs.Guards.{Row, argument, answered, thrown, is_public, public_value, public_read, read_pub, keyed, with_pairs, new_record, record_of, initialize_map, guard}
+use Rattle.guard_runtime.specs.Guards.{Row, argument, thrown, read_pub, keyed, with_pairs, new_record, record_of, initialize_map, guard}
+use Rattle.guard_runtime.specs.Reading.{method_value, item_count, item_or_method, is_for_modules, object_value, public_value, public_read, record_read, after_read}
 use Rattle.guard_runtime.specs.Answers.{GuardAnswers}
 use Rattle.guard_runtime.specs.Live.{LiveRow, LeavesLive}
+use Rattle.guard_runtime.proofs.Reading.{read_by_text, read_row, read_pub-is}
 
 -- an answer that is a guard's row is live
 pub leaves_live : (h : Objects) (row : Row) (answer : Guarded) (heap : Objects) → LiveRow h row → GuardAnswers row answer heap → LeavesLive answer heap
@@ -48,35 +57,78 @@ thrown_live message by h closed =
     let more = second.later.more in
     record { later = (grown_trans first second).later; closed = second.closed; answer = omega arith }
 
--- a value of what was read, or a fault
-read_live : (h : Objects) (t : Result (List ℕ) Fault) (f : List ℕ → Value) → AreClosed h → ((us : List ℕ) → IsLive (length h.list) (f us)) → LiveRow h (answered h (and_then t (λ us. Ok (f us))))
-read_live h (Ok us) f closed live = record { later = later_refl h; closed = closed; answer = live us }
-read_live h (Err e) f closed live = record { later = later_refl h; closed = closed; answer = tt }
+-- what readPub answers
 
-public_value_live : (h : Objects) (x : Value) (k : List ℕ) → AreClosed h → IsLive (length h.list) (public_value h x k)
-public_value_live h (v.Text us) k closed =
-    elim (same_units k length_key) as (λ b. IsLive (length h.list) (cond b (v.Num (pos (length us))) v.Undefined)) [
-      | true ↦ tt
-      | false ↦ tt
-    ]
-public_value_live h (v.Obj o) k closed =
-    elim (is_public (class_of (object_at h o)) h o k) as (λ b. IsLive (length h.list) (cond b (value_of (own h o k)) v.Undefined)) [
-      | true ↦ own_live h o k closed
-      | false ↦ tt
-    ]
-public_value_live h x k closed = tt
+-- a method is one of the built-in functions
+abbrev AreBuilt : List (List ℕ × Native) → Type 0
+AreBuilt [] = Unit {0}
+AreBuilt (m ∷ table) = (nat_lt (place_of m.1) 68 ≡ true) × AreBuilt table
 
-public_read_live : (h : Objects) (x : Value) (k : List ℕ) → AreClosed h → IsLive (length h.list) (public_read h x k)
-public_read_live h x k closed =
-    elim (is_hidden k) as (λ b. IsLive (length h.list) (cond b v.Undefined (public_value h x k))) [
-      | true ↦ tt
-      | false ↦ public_value_live h x k closed
+below : (a n : ℕ) → nat_lt a 68 ≡ true → 68 ≤ n → a < n
+below a n less many = grind (arith, nat_tests)
+
+method_live : (n : ℕ) (table : List (List ℕ × Native)) (k : List ℕ) → AreBuilt table → 68 ≤ n → IsLive n (method_value table k)
+method_live n [] k are many = tt
+method_live n (m ∷ table) k are many =
+    elim (same_units k m.0) as (λ b. IsLive n (cond b (v.Obj (place_of m.1)) (method_value table k))) [
+      | true ↦ below (place_of m.1) n are.0 many
+      | false ↦ method_live n table k are.1 many
     ]
 
-pub read_pub_live : (by : ℕ) (x k : Value) (h : Objects) → AreClosed h → LiveRow h (read_pub by x k h)
-read_pub_live by v.Undefined k h closed = thrown_live (codes "no object") by h closed
-read_pub_live by v.Null k h closed = thrown_live (codes "no object") by h closed
-read_pub_live by x k h closed = read_live h (text_of h k) (public_read h x) closed (λ us. public_read_live h x us closed)
+function_method_live : (n : ℕ) (k : List ℕ) → 68 ≤ n → IsLive n (method_value function_methods k)
+function_method_live n k many = method_live n function_methods k (refl, (refl, tt)) many
+
+text_method_live : (n : ℕ) (k : List ℕ) → 68 ≤ n → IsLive n (method_value text_methods k)
+text_method_live n k many = method_live n text_methods k (refl, (refl, (refl, (refl, (refl, (refl, (refl, (refl, tt)))))))) many
+
+array_method_live : (n : ℕ) (k : List ℕ) → 68 ≤ n → IsLive n (method_value array_methods k)
+array_method_live n k many = method_live n array_methods k (refl, (refl, (refl, (refl, (refl, (refl, (refl, (refl, tt)))))))) many
+
+live_if : (n : ℕ) (b : Bool) (x y : Value) → IsLive n x → IsLive n y → IsLive n (cond b x y)
+live_if n true x y first second = first
+live_if n false x y first second = second
+
+item_live : (i : Option ℕ) (h : Objects) (o : ℕ) (k : List ℕ) → built_ins_there h → AreClosed h → IsLive (length h.list) (item_or_method i h o k)
+item_live None h o k there closed = array_method_live (length h.list) k there
+item_live (Some i) h o k there closed = live_if (length h.list) (nat_lt i (item_count h o)) _ _ (own_live h o (number_units i) closed) (array_method_live (length h.list) k there)
+
+object_value_live : (c : Class) (h : Objects) (o : ℕ) (k : List ℕ) → built_ins_there h → AreClosed h → IsLive (length h.list) (object_value c h o k)
+object_value_live class.Object h o k there closed = own_live h o k closed
+object_value_live class.Array h o k there closed = live_if (length h.list) (same_units k length_key) _ _ tt (item_live (array_index k) h o k there closed)
+object_value_live class.Function h o k there closed = live_if (length h.list) (is_for_modules (is_some (own h o simple_mark)) (kind_of (callable_of (object_at h o)))) _ _ (function_method_live (length h.list) k there) tt
+object_value_live class.Error h o k there closed = live_if (length h.list) (same_units k (codes "name") || same_units k (codes "message")) _ _ tt tt
+object_value_live class.Node h o k there closed = tt
+
+public_value_live : (h : Objects) (x : Value) (k : List ℕ) → built_ins_there h → AreClosed h → IsLive (length h.list) (public_value h x k)
+public_value_live h (v.Text us) k there closed = live_if (length h.list) (same_units k length_key) _ _ tt (text_method_live (length h.list) k there)
+public_value_live h (v.Obj o) k there closed = object_value_live (class_of (object_at h o)) h o k there closed
+public_value_live h x k there closed = tt
+
+record_read_grown : (c : Class) (h : Objects) (o : ℕ) (k : List ℕ) → AreClosed h → Grown h (record_read c h o k)
+record_read_grown class.Object h o k closed =
+    elim (is_some (own h o k) && not (is_hidden k)) as (λ b. Grown h (cond b (grant_read h o k) h)) [
+      | true ↦ define_grown h o (read_mark k) (v.Bool true) hidden_attrs closed tt
+      | false ↦ same_objects h closed
+    ]
+record_read_grown c h o k closed = same_objects h closed
+
+after_read_grown : (h : Objects) (x : Value) (k : List ℕ) → AreClosed h → Grown h (after_read h x k)
+after_read_grown h (v.Obj o) k closed = record_read_grown (class_of (object_at h o)) h o k closed
+after_read_grown h x k closed = same_objects h closed
+
+read_live : (t : Result (List ℕ) Fault) (x : Value) (h : Objects) → built_ins_there h → AreClosed h → LiveRow h (read_by_text t x h)
+read_live (Ok us) x h there closed =
+    let grown = after_read_grown h x us closed in
+    record { later = grown.later; closed = grown.closed; answer = live_more (public_read h x us) grown.later.more (live_if (length h.list) (is_hidden us) _ _ tt (public_value_live h x us there closed)) }
+read_live (Err f) x h there closed = record { later = later_refl h; closed = closed; answer = tt }
+
+read_row_live : (by : ℕ) (x k : Value) (h : Objects) → built_ins_there h → AreClosed h → LiveRow h (read_row by x k h)
+read_row_live by v.Undefined k h there closed = thrown_live (codes "no object") by h closed
+read_row_live by v.Null k h there closed = thrown_live (codes "no object") by h closed
+read_row_live by x k h there closed = read_live (text_of h k) x h there closed
+
+pub read_pub_live : (by : ℕ) (x k : Value) (h : Objects) → built_ins_there h → AreClosed h → LiveRow h (read_pub by x k h)
+read_pub_live by x k h there closed = rw (read_pub-is by x k h) (read_row_live by x k h there closed)
 
 -- keys and values
 
@@ -138,12 +190,14 @@ pub initialize_map_live : (by : ℕ) (x : Value) (h : Objects) → AreClosed h �
 initialize_map_live by (v.Obj o) h closed = record_of_live (class_of (object_at h o)) o by h closed
 initialize_map_live by x h closed = thrown_live (codes "bad argument") by h closed
 
-pub guard_live : (row by : ℕ) (args : List Value) (h : Objects) → AreClosed h → LiveRow h (guard row by args h)
-guard_live row by args h closed =
-    elim (nat_eq row 5) as (λ b. LiveRow h (cond b (initialize_map by (argument 0 args) h) (cond (nat_eq row 7) (read_pub by (argument 0 args) (argument 1 args) h) (thrown (codes "not a function") by h)))) [
+pub guard_live : (row by : ℕ) (args : List Value) (h : Objects) → built_ins_there h → AreClosed h → LiveRow h (guard row by args h)
+guard_live row by args h there closed =
+    let other = thrown (codes "not a function") by h in
+    let read = read_pub by (argument 0 args) (argument 1 args) h in
+    elim (nat_eq row initialize_map_number) as (λ b. LiveRow h (cond b (initialize_map by (argument 0 args) h) (cond (nat_eq row read_public_number) read other))) [
       | true ↦ initialize_map_live by (argument 0 args) h closed
-      | false ↦ elim (nat_eq row 7) as (λ b. LiveRow h (cond b (read_pub by (argument 0 args) (argument 1 args) h) (thrown (codes "not a function") by h))) [
-        | true ↦ read_pub_live by (argument 0 args) (argument 1 args) h closed
+      | false ↦ elim (nat_eq row read_public_number) as (λ b. LiveRow h (cond b read other)) [
+        | true ↦ read_pub_live by (argument 0 args) (argument 1 args) h there closed
         | false ↦ thrown_live (codes "not a function") by h closed
       ]
     ]

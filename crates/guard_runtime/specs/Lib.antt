@@ -1,3 +1,4 @@
 pub mod Guards
 pub mod Answers
 pub mod Live
+pub mod Reading

@@ -2,12 +2,14 @@
 #![tactic(auto)]
 
 ghost use Rattle.std.specs.Prelude.{◌≤◌, length};
+ghost use Rattle.heap_rows.specs.Opening.{built_ins_there};
 ghost use Rattle.guard_runtime.specs.Guards.{guard, initialize_map, read_pub};
 ghost use Rattle.es3_live.specs.Live.{AreClosed};
 ghost use Rattle.guard_runtime.specs.Answers.{GuardAnswers, ComesTo};
 ghost use Rattle.guard_runtime.specs.Live.{LeavesLive};
 
 mod map;
+mod methods;
 mod read;
 mod reply;
 
@@ -17,10 +19,10 @@ use reply::{Outcome, answer_of, argument_or, thrown};
 use std::alloc::Global;
 
 /// The number of the guard `initializeMap`.
-const INITIALIZE_MAP: u32 = 5;
+const INITIALIZE_MAP: u32 = 69;
 
 /// The number of the guard `readPub`.
-const READ_PUB: u32 = 7;
+const READ_PUB: u32 = 71;
 
 /// What the guard of a number comes to.
 fn outcome(alloc: Global, h: &mut Heap, row: u32, by: u32, args: &[Value]) -> Result<Outcome, Stop>
@@ -37,12 +39,12 @@ fn outcome(alloc: Global, h: &mut Heap, row: u32, by: u32, args: &[Value]) -> Re
     }
 }
 
-/// A call of the guard of a number, while the module `by` runs: 5 is `initializeMap`, 7 is `readPub`, and another throws
+/// A call of the guard of a number, while the module `by` runs: 69 is `initializeMap`, 71 is `readPub`, and another throws
 /// a TypeError `not a function`. An absent argument is undefined, and a new error or record takes the module's next name.
 pub fn guard_row(alloc: Global, h: &mut Heap, row: u32, by: u32, args: &[Value]) -> Guarded
     ensures answer { GuardAnswers (guard row by args.now h.old) result h.new }
     ensures live { length h.old.list ≤ length h.new.list }
-    ensures ids { AreClosed h.old → LeavesLive result h.new }
+    ensures ids { built_ins_there h.old → AreClosed h.old → LeavesLive result h.new }
 {
     answer_of(outcome(alloc, h, row, by, args))
 }
@@ -57,12 +59,13 @@ pub fn initialize_map(alloc: Global, h: &mut Heap, by: u32, l: &Value) -> Guarde
     answer_of(map::initialize_map(alloc, h, by, l))
 }
 
-/// `readPub(o, k)`: the value of a public property, undefined where there is none. It throws a TypeError `no object` where
-/// `o` is undefined or null, and the run stops where the key has no text.
+/// `readPub(o, k)`: the value of a public property, undefined where there is none, or a method of the value. A key that was
+/// read of a record is marked. It throws a TypeError `no object` where `o` is undefined or null, and the run stops where the
+/// key has no text.
 pub fn read_public(alloc: Global, h: &mut Heap, by: u32, o: &Value, k: &Value) -> Guarded
     ensures answer { GuardAnswers (read_pub by o.now k.now h.old) result h.new }
     ensures live { length h.old.list ≤ length h.new.list }
-    ensures ids { AreClosed h.old → LeavesLive result h.new }
+    ensures ids { built_ins_there h.old → AreClosed h.old → LeavesLive result h.new }
 {
     answer_of(read::read_public(alloc, h, by, o, k))
 }
