@@ -108,7 +108,7 @@ fn lacks(alloc: Global, heap: &mut Heap, record: &Value, name: &str) -> Result<b
 fn what_is_absent_or_hidden_reads_as_undefined(rt: HostRuntime) -> Result<(), Fail> {
     let mut heap = Heap::new(rt.alloc())?;
     let items = pairs(rt.alloc(), &mut heap, &[("x", 1), ("x__", 2)])?;
-    let record = value_of(guard_row(rt.alloc(), &mut heap, 5, 2, &[items]));
+    let record = value_of(guard_row(rt.alloc(), &mut heap, 69, 2, &[items]));
     assert!(rt; lacks(rt.alloc(), &mut heap, &record, "y")?);
     assert!(rt; lacks(rt.alloc(), &mut heap, &record, "x__")?);
     Ok(())
@@ -116,9 +116,9 @@ fn what_is_absent_or_hidden_reads_as_undefined(rt: HostRuntime) -> Result<(), Fa
 
 /// The number of a guard's row, that of the error that it throws, and the message.
 static ERRORS: [(u32, u32, &str); 3] = [
-    (7, 0, "no object"),
-    (5, 1, "bad argument"),
-    (4, 2, "not a function"),
+    (71, 0, "no object"),
+    (69, 1, "bad argument"),
+    (64, 2, "not a function"),
 ];
 
 /// Whether a guard throws this error.

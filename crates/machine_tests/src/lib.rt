@@ -11,13 +11,15 @@ mod convert_rows;
 #[cfg(test)]
 mod guard_rows;
 #[cfg(test)]
-mod heap_rows;
-#[cfg(test)]
 mod lists;
 #[cfg(test)]
 mod loader_rows;
 #[cfg(test)]
 mod machine_rows;
+#[cfg(test)]
+mod object_rows;
+#[cfg(test)]
+mod read_rows;
 #[cfg(test)]
 mod runner_rows;
 #[cfg(test)]

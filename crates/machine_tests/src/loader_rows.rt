@@ -1,12 +1,15 @@
 //! What the natives of an opened page answer.
 
 use crate::lists::alone;
-use caja_units::Memory;
-use es3_heap::{FuncKind, Value};
+use caja_units::{Memory, Units};
+use es3_heap::{Class, FuncKind, ObjId, Tag, Value};
 use es3_moves::natives::{Answer, Natives};
 use module_loader::{Opened, PageNatives, open};
 use std::alloc::Global;
 use std::test::Fail;
+
+/// The number of `loadModule` among the natives of a page.
+const LOAD_MODULE: u32 = 64;
 
 /// Whether `loadModule` asks for a call of what it is given.
 fn calls(alloc: Global, is_function: bool) -> Result<bool, Memory> {
@@ -20,7 +23,7 @@ fn calls(alloc: Global, is_function: bool) -> Result<bool, Memory> {
     let callee = if is_function { function } else { imports };
     let args = alone(alloc, Value::Obj(callee))?;
     let mut natives = PageNatives { runtime, imports };
-    match natives.call(alloc, &mut heap, 0, 0, &Value::Undefined, &args) {
+    match natives.call(alloc, &mut heap, LOAD_MODULE, 0, &Value::Undefined, &args) {
         Answer::Invoke(_, _, _, _) => Ok(true),
         _other => Ok(false),
     }
@@ -30,5 +33,24 @@ fn calls(alloc: Global, is_function: bool) -> Result<bool, Memory> {
 fn load_module_calls_a_function_and_no_record(rt: HostRuntime) -> Result<(), Fail> {
     assert!(rt; calls(rt.alloc(), true)?);
     assert!(rt; !calls(rt.alloc(), false)?);
+    Ok(())
+}
+
+#[test]
+fn char_at_is_the_function_of_number_23(rt: HostRuntime) -> Result<(), Fail> {
+    let opened = open(rt.alloc())?;
+    let char_at = ObjId::new(39);
+    assert_eq!(rt; opened.heap.class(char_at), Class::Function);
+    assert_eq!(rt; opened.heap.tag(char_at), Tag::Built(23));
+    Ok(())
+}
+
+#[test]
+fn the_record_cajita_is_frozen(rt: HostRuntime) -> Result<(), Fail> {
+    let opened = open(rt.alloc())?;
+    let cajita = ObjId::new(16);
+    let frozen = Units::from_ascii(rt.alloc(), b"FROZEN___")?;
+    assert_eq!(rt; opened.heap.tag(cajita), Tag::Built(0));
+    assert!(rt; opened.heap.own(cajita, &frozen).is_some());
     Ok(())
 }

@@ -14,7 +14,7 @@ pub fn between(sample: &str, first: char, last: char) -> Option<&str> {
 }
 
 /// The value of a text, which is short.
-fn text_value(alloc: Global, text: &str) -> Result<Value, Stop> {
+pub fn text_value(alloc: Global, text: &str) -> Result<Value, Stop> {
     let bytes = text.as_bytes();
     if bytes.len() > 100 {
         return Err(Stop::Memory);

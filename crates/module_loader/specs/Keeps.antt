@@ -1,5 +1,6 @@
 -- The natives of a page name live objects alone.
 use Rattle.std.proofs.Common.{ℕ, ◌<◌, true, false, List, [], ◌∷◌, All, length, cond, lt_of_lt_of_le}
+use Rattle.std.proofs.Math.Nat.{le_trans}
 use Rattle.std.specs.Prelude.{codes, nat_eq}
 use Rattle.std.proofs.lemmas.List.Elements.{All-nil, All-cons, All-head}
 use Rattle.es3_heap.specs.declared.value.Value.{Value}
@@ -13,11 +14,11 @@ use Rattle.es3_live.proofs.Growth.{later_refl}
 use Rattle.guard_runtime.specs.Guards.{Row, thrown, guard}
 use Rattle.guard_runtime.specs.Live.{LiveRow}
 use Rattle.guard_runtime.proofs.Live.{thrown_live, guard_live}
-use Rattle.module_loader.specs.Opened.{load_module}
+use Rattle.heap_rows.specs.Opening.{load_module}
 use Rattle.module_loader.specs.Page.{Kept, kept_fits, turn_of, first_of, module_turn, loads, load_answer, page_table}
 
 fits_later : (z : Kept) (h g : Objects) → kept_fits z h → Later h g → kept_fits z g
-fits_later z h g fits later = (lt_of_lt_of_le fits.0 later.more, lt_of_lt_of_le fits.1 later.more)
+fits_later z h g fits later = (lt_of_lt_of_le fits.0 later.more, lt_of_lt_of_le fits.1 later.more, le_trans fits.2 later.more)
 
 row_kept : (z : Kept) (h : Objects) (row : Row) → kept_fits z h → LiveRow h row → AfterCall kept_fits h (turn_of row z)
 row_kept z h row fits live = record { later = live.later; closed = live.closed; answer = live.answer; kept = fits_later z h row.heap fits live.later }
@@ -50,7 +51,7 @@ page_keeps_live = record {
   called = λ which by this vs h z fits closed receiver live.
       elim (nat_eq which load_module) as (λ b. AfterCall kept_fits h (cond b (load_answer (first_of vs) by h z) (turn_of (guard which by vs h) z))) [
         | true ↦ load_value_kept z (first_of vs) by h fits closed (first_live (length h.list) vs live)
-        | false ↦ row_kept z h (guard which by vs h) fits (guard_live which by vs h closed)
+        | false ↦ row_kept z h (guard which by vs h) fits (guard_live which by vs h fits.2 closed)
       ];
   touched = λ i h z fits. fits;
   later = λ h g z fits later. fits_later z h g fits later;

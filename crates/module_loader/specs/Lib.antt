@@ -1,3 +1,3 @@
-pub mod Opened
+pub mod BuiltIns
 pub mod Page
 pub mod Keeps

@@ -15,7 +15,7 @@ use Rattle.guard_runtime.specs.declared.reply.Guarded.{Guarded}
 use Rattle.guard_runtime.specs.declared.reply.Guarded.TheVariants as guarded
 use Rattle.guard_runtime.specs.Guards.{Row, guard, thrown}
 use Rattle.module_loader.specs.declared.natives.PageNatives.{PageNatives}
-use Rattle.module_loader.specs.Opened.{load_module, opened, runtime_id, imports_id, globals_id}
+use Rattle.heap_rows.specs.Opening.{built_ins_there, load_module, opened, runtime_id, imports_id, globals_id}
 
 -- what the natives of a page keep: the object of the runtime and that of the imports
 pub record Kept : Type 0 where
@@ -25,9 +25,9 @@ pub record Kept : Type 0 where
 abbrev pub kept_of : PageNatives → Kept
 kept_of n = record { runtime = n.runtime; imports = n.imports }
 
--- what is kept fits a store's objects: both are there
+-- what is kept fits a store's objects: both are there, and so are the built-in functions and their two records
 abbrev pub kept_fits : Kept → Objects → Type 0
-kept_fits z h = (z.runtime < length h.list) × (z.imports < length h.list)
+kept_fits z h = (z.runtime < length h.list) × (z.imports < length h.list) × built_ins_there h
 
 -- a guard's answer, as that of a native
 abbrev pub answered : Guarded → Answer

@@ -1,6 +1,7 @@
 //! Opens the store of a page, and is the natives that its modules may call.
 #![tactic(auto)]
 
+mod built_ins;
 mod natives;
 mod opening;
 

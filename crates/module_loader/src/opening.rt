@@ -2,20 +2,21 @@
 
 ghost use Rattle.std.specs.Prelude.{◌≡◌, ◌≤◌, IfOk, OnOk, length};
 ghost use Rattle.es3_heap.specs.Properties.{define};
-ghost use Rattle.module_loader.specs.Opened.{opened, with_guard, with_guards, runtime_id, imports_id, globals_id};
+ghost use Rattle.heap_rows.specs.Opening.{first, opened, with_guard, with_guards, runtime_id, imports_id, globals_id};
 
+use crate::built_ins::add_built_ins;
 use caja_units::{Memory, Units};
 use es3_heap::{Attrs, Class, FuncKind, Heap, ObjId, Proto, Value};
 use std::alloc::Global;
 
 /// The number of `loadModule` among the natives of a page.
-pub const LOAD_MODULE: u32 = 0;
+pub const LOAD_MODULE: u32 = 64;
 
 /// The number of the guard `initializeMap`.
-const INITIALIZE_MAP: u32 = 5;
+const INITIALIZE_MAP: u32 = 69;
 
 /// The number of the guard `readPub`.
-const READ_PUB: u32 = 7;
+const READ_PUB: u32 = 71;
 
 /// A store that was opened, and the objects in it that a page goes on from.
 #[derive(Drop)]
@@ -63,14 +64,10 @@ fn add_guards(alloc: Global, heap: &mut Heap, runtime: ObjId) -> Result<(), Memo
     add_guard(alloc, heap, b"readPub", READ_PUB, runtime)
 }
 
-/// The store that a module of a page begins in.
-///
-/// # Errors
-///
-/// `Memory` where memory is wanting.
-#[tactic(auto, unfolding(crate::specs::Opened::opened))]
-pub fn open(alloc: Global) -> Result<Opened, Memory>
-    ensures heap { IfOk result (λ o. o.heap ≡ opened) }
+/// A store with the prototypes, the object of the runtime, that of the imports, and the global object.
+#[tactic(auto, unfolding(heap_rows::specs::Opening::first))]
+fn open_first(alloc: Global) -> Result<Opened, Memory>
+    ensures heap { IfOk result (λ o. o.heap ≡ first) }
     ensures runtime { IfOk result (λ o. o.runtime ≡ runtime_id) }
     ensures imports { IfOk result (λ o. o.imports ≡ imports_id) }
     ensures globals { IfOk result (λ o. o.globals ≡ globals_id) }
@@ -88,4 +85,21 @@ pub fn open(alloc: Global) -> Result<Opened, Memory>
         imports,
         globals,
     })
+}
+
+/// The store that a module of a page begins in.
+///
+/// # Errors
+///
+/// `Memory` where memory is wanting.
+#[tactic(auto, using(crate::proofs::BuiltIns::opened_is))]
+pub fn open(alloc: Global) -> Result<Opened, Memory>
+    ensures heap { IfOk result (λ o. o.heap ≡ opened) }
+    ensures runtime { IfOk result (λ o. o.runtime ≡ runtime_id) }
+    ensures imports { IfOk result (λ o. o.imports ≡ imports_id) }
+    ensures globals { IfOk result (λ o. o.globals ≡ globals_id) }
+{
+    let mut page = open_first(alloc)?;
+    add_built_ins(alloc, &mut page.heap)?;
+    Ok(page)
 }

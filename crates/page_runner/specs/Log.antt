@@ -1,11 +1,13 @@
 -- The log of a page: how values are shown, a line for the load of a module, and how the page ended.
-use Rattle.std.specs.Prelude.{ℕ, List, [], ◌∷◌, ◌++◌, codes, if◌then◌else◌}
+use Rattle.std.specs.Prelude.{ℕ, List, [], ◌∷◌, ◌++◌, map, get_or, codes, if◌then◌else◌}
 use Rattle.plans.specs.Plans.{Fault, number_fault, depth_fault, convert_fault, over, stopped, out}
 use Rattle.caja_units.specs.Index.{number_units}
 use Rattle.caja_units.specs.Number.{number_text}
 use Rattle.caja_units.specs.Literal.{literal}
 use Rattle.caja_units.specs.Utf8.{utf8_of}
 use Rattle.es3_tree.specs.Tree as t
+use Rattle.rows.specs.Names.{of_cajita, of_math}
+use Rattle.rows.specs.Paths.{tools_path, path_of}
 use Rattle.es3_heap.specs.declared.value.Value.{Value}
 use Rattle.es3_heap.specs.declared.value.Value.TheVariants as v
 use Rattle.es3_heap.specs.declared.value.Class.{Class}
@@ -18,6 +20,7 @@ use Rattle.es3_language.specs.Meaning.{Run}
 use Rattle.es3_moves.specs.declared.natives.Completion.{Completion}
 use Rattle.es3_moves.specs.declared.natives.Completion.TheVariants.{Normal, Thrown}
 use Rattle.es3_machine.specs.Machine.{completed}
+use Rattle.heap_rows.specs.Opening.{common}
 use Rattle.module_loader.specs.Page.{module_run}
 use Rattle.page_runner.specs.declared.End.{End}
 use Rattle.page_runner.specs.declared.End.TheVariants.{Done, Number, Depth, Convert, Steps}
@@ -26,9 +29,19 @@ use Rattle.page_runner.specs.declared.End.TheVariants.{Done, Number, Depth, Conv
 abbrev pub main_name : List ℕ
 main_name = codes "main"
 
--- the name of an object: its maker and its number there; `?` where no guard has named it
+-- the name of a built-in: `!` and its path; `?` where it has none
+abbrev pub path_shown : List ℕ → List ℕ
+path_shown [] = codes "?"
+path_shown path = codes "!" ++ path
+
+-- the names of the built-ins in the order of their numbers: the two records of functions, then the functions
+abbrev pub built_names : List (List ℕ)
+built_names = map path_shown (tools_path of_cajita ∷ tools_path of_math ∷ map path_of common)
+
+-- the name of an object: its maker and its number there, or that of a built-in; `?` where it has none
 abbrev pub object_name : Tag → List ℕ
 object_name (tag.Made m n) = main_name ++ codes "#" ++ number_units n
+object_name (tag.Built n) = get_or built_names n (codes "?")
 object_name g = codes "?"
 
 abbrev pub text_units : Value → List ℕ

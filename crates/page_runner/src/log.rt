@@ -1,17 +1,73 @@
 //! How values and the end of a load are shown in the log.
 
-ghost use Rattle.std.specs.Prelude.{◌≡◌, ◌++◌, IfOk, OnOk};
+ghost use Rattle.std.specs.Prelude.{◌≡◌, ◌++◌, map, get_or, codes, IfOk, OnOk};
 ghost use Rattle.caja_units.specs.Number.{number_text};
 ghost use Rattle.caja_units.specs.Literal.{literal};
 ghost use Rattle.es3_heap.specs.Objects.{object_at, class_of, tag_of};
 ghost use Rattle.es3_heap.specs.Properties.{own, value_of};
-ghost use Rattle.page_runner.specs.Log.{object_name, text_units, error_text, class_text, after_name, value_text, load_line, completion_line};
+ghost use Rattle.page_runner.specs.Log.{built_names, object_name, text_units, error_text, class_text, after_name, value_text, load_line, completion_line};
 
 use caja_num::Whole;
 use caja_units::{Memory, Units};
 use es3_heap::{Class, Heap, ObjId, Tag, Value};
 use es3_moves::natives::Completion;
 use std::alloc::Global;
+
+/// The names of the built-ins in the order of their numbers.
+const BUILT_NAMES: [&str; 52] = [
+    "!cajita",
+    "!Math",
+    "!cajita.freeze",
+    "!cajita.isFrozen",
+    "!cajita.copy",
+    "!cajita.snapshot",
+    "!cajita.isArray",
+    "!cajita.isRecord",
+    "!cajita.keys",
+    "!Math.abs",
+    "!Math.floor",
+    "!Math.ceil",
+    "!Math.round",
+    "!Math.max",
+    "!Math.min",
+    "!Number",
+    "!String",
+    "!Boolean",
+    "!Error",
+    "!TypeError",
+    "!RangeError",
+    "!function.call",
+    "!function.apply",
+    "!text.charAt",
+    "!text.charCodeAt",
+    "!text.indexOf",
+    "!text.lastIndexOf",
+    "!text.slice",
+    "!text.substring",
+    "!text.split",
+    "!text.concat",
+    "!array.concat",
+    "!array.join",
+    "!array.slice",
+    "!array.push",
+    "!array.unshift",
+    "!array.pop",
+    "!array.shift",
+    "!array.reverse",
+    "!node.getTagName",
+    "!node.getParentNode",
+    "!node.getChildNodes",
+    "!node.getElementById",
+    "!node.getAttribute",
+    "!node.setAttribute",
+    "!node.getText",
+    "!node.setText",
+    "!node.createElement",
+    "!node.createTextNode",
+    "!node.appendChild",
+    "!node.removeChild",
+    "!node.on",
+];
 
 /// Appends bytes.
 fn push(out: &mut Vec<u8>, bytes: &[u8]) -> Result<(), Memory>
@@ -38,6 +94,24 @@ fn push_literal(alloc: Global, out: &mut Vec<u8>, text: &Units) -> Result<(), Me
     push(out, &literal)
 }
 
+/// The name at this place; `?` behind the last one.
+#[tactic(auto, using(crate::proofs::Places::there, crate::proofs::Places::past))]
+fn name_at(names: &[&'static str], place: usize) -> &'static str
+    ensures { result.now ≡ get_or (map (λ name. name.now) names.now) place (codes "?") }
+{
+    match names.get(place) {
+        Some(name) => name,
+        None => "?",
+    }
+}
+
+/// The name of the built-in with this number; `?` where there is none.
+fn built_name(number: u32) -> &'static str
+    ensures { result.now ≡ get_or built_names number (codes "?") }
+{
+    name_at(&BUILT_NAMES, number as usize)
+}
+
 /// Appends the name of an object.
 fn push_name(alloc: Global, out: &mut Vec<u8>, tag: Tag) -> Result<(), Memory>
     ensures { OnOk result (out.new.items ≡ out.old.items ++ object_name tag) }
@@ -48,6 +122,7 @@ fn push_name(alloc: Global, out: &mut Vec<u8>, tag: Tag) -> Result<(), Memory>
             push(out, b"main#")?;
             push(out, digits.as_bytes())
         }
+        Tag::Built(number) => push(out, built_name(number).as_bytes()),
         _other => push(out, b"?"),
     }
 }
