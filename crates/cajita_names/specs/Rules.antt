@@ -11,11 +11,6 @@ fixed_names =
     codes "undefined" ∷ codes "cajita" ∷ codes "Math" ∷ codes "Error" ∷ codes "TypeError" ∷ codes "RangeError" ∷ codes "Number" ∷ codes "String" ∷ codes "Boolean"
     ∷ codes "say" ∷ codes "later" ∷ []
 
--- the methods that texts have (ES3 15.5.4), and their length
-abbrev pub text_keys : List (List ℕ)
-text_keys =
-    codes "charAt" ∷ codes "charCodeAt" ∷ codes "indexOf" ∷ codes "lastIndexOf" ∷ codes "slice" ∷ codes "substring" ∷ codes "split" ∷ codes "concat" ∷ codes "length" ∷ []
-
 abbrev pub is_among : List (List ℕ) → List ℕ → Bool
 is_among names x = list_any (same_units x) names
 
@@ -29,7 +24,7 @@ is_free_name x = not (is_among fixed_names x) && not (is_among own_words x)
 
 -- a key behind a point
 abbrev pub is_free_key : List ℕ → Bool
-is_free_key k = not (is_among text_keys k) && not (is_among own_words k)
+is_free_key k = not (is_among own_words k)
 
 -- a key of a record: a name (ES3 7.6) that is no reserved word (7.5.1)
 abbrev pub is_record_key : List ℕ → Bool

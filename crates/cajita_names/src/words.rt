@@ -33,19 +33,6 @@ const FIXED_NAMES: [&str; 11] = [
     "later",
 ];
 
-/// The methods that texts have, and their length (ES3 15.5.4, 15.5.5.1).
-const TEXT_KEYS: [&str; 9] = [
-    "charAt",
-    "charCodeAt",
-    "indexOf",
-    "lastIndexOf",
-    "slice",
-    "substring",
-    "split",
-    "concat",
-    "length",
-];
-
 /// The words that mean something of their own wherever they stand.
 const OWN_WORDS: [&str; 4] = ["eval", "arguments", "toString", "valueOf"];
 
@@ -184,11 +171,11 @@ pub fn is_free_name(name: &Units) -> bool
     !is_fixed_name(name) && !is_own_word(name)
 }
 
-/// Whether the text may be a key behind a point: texts have some as methods, and `length`.
+/// Whether the text may be a key behind a point.
 pub fn is_free_key(key: &Units) -> bool
     ensures { result ≡ free_key key.now }
 {
-    !is_word_of(&TEXT_KEYS, key) && !is_own_word(key)
+    !is_own_word(key)
 }
 
 // What begins a name (ES3 7.6).

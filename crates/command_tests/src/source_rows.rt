@@ -36,6 +36,14 @@ var a; 'a' + a; ⇒ var a;moduleResult___=\"a\"+a; ⇒ load main return \"aundef
 var aaaaaaaaaaaaaaaaaaaaaaaaaaaaaaaaaaaaaaaaaaaaaaaaaaaaaaaaaaaaaaaaaaaaaaaaaaaaaaaaaaaaaaaaaaaaaaaaaaaaaaaaaaaaaaaaaaaaaaaaaaaaaaaaaaaaaaaaaaaaaaaaaaaaaaaaaaaaaaaaaaaaaaaaaaaaaaaaaaaaaaaaaaaaaaaaaaaaaaaa; aaaaaaaaaaaaaaaaaaaaaaaaaaaaaaaaaaaaaaaaaaaaaaaaaaaaaaaaaaaaaaaaaaaaaaaaaaaaaaaaaaaaaaaaaaaaaaaaaaaaaaaaaaaaaaaaaaaaaaaaaaaaaaaaaaaaaaaaaaaaaaaaaaaaaaaaaaaaaaaaaaaaaaaaaaaaaaaaaaaaaaaaaaaaaaaaaaaaaaaa; ⇒ var aaaaaaaaaaaaaaaaaaaaaaaaaaaaaaaaaaaaaaaaaaaaaaaaaaaaaaaaaaaaaaaaaaaaaaaaaaaaaaaaaaaaaaaaaaaaaaaaaaaaaaaaaaaaaaaaaaaaaaaaaaaaaaaaaaaaaaaaaaaaaaaaaaaaaaaaaaaaaaaaaaaaaaaaaaaaaaaaaaaaaaaaaaaaaaaaaaaaaaaa;moduleResult___=aaaaaaaaaaaaaaaaaaaaaaaaaaaaaaaaaaaaaaaaaaaaaaaaaaaaaaaaaaaaaaaaaaaaaaaaaaaaaaaaaaaaaaaaaaaaaaaaaaaaaaaaaaaaaaaaaaaaaaaaaaaaaaaaaaaaaaaaaaaaaaaaaaaaaaaaaaaaaaaaaaaaaaaaaaaaaaaaaaaaaaaaaaaaaaaaaaaaaaaa; ⇒ load main return undefined
 var length; length; ⇒ var length;moduleResult___=length; ⇒ load main return undefined
 a; var a; var a; ⇒ moduleResult___=a;var a;var a; ⇒ load main return undefined
+'abc'.charAt; ⇒ moduleResult___=___.readPub(\"abc\",\"charAt\"); ⇒ load main return function !text.charAt
+''.charAt.call; ⇒ moduleResult___=___.readPub(___.readPub(\"\",\"charAt\"),\"call\"); ⇒ load main return function !function.call
+'abc'.length; ⇒ moduleResult___=___.readPub(\"abc\",\"length\"); ⇒ load main return 3
+var r = {x: 'a'.split}; r.x; ⇒ var r=___.initializeMap([\"x\",___.readPub(\"a\",\"split\")]);moduleResult___=___.readPub(r,\"x\"); ⇒ load main return function !text.split
+var r = {x: 'a'.split}; r.x + ''; ⇒ var r=___.initializeMap([\"x\",___.readPub(\"a\",\"split\")]);moduleResult___=___.readPub(r,\"x\")+\"\"; ⇒ load main return \"[object Function]\"
+'a'.nothing; ⇒ moduleResult___=___.readPub(\"a\",\"nothing\"); ⇒ load main return undefined
+var a; a.length; ⇒ var a;moduleResult___=___.readPub(a,\"length\"); ⇒ load main throw error main#0 TypeError \"no object\"
+({}).charAt; ⇒ moduleResult___=___.readPub(___.initializeMap([]),\"charAt\"); ⇒ load main return undefined
 ({length: 1, say: 2}).say; ⇒ moduleResult___=___.readPub(___.initializeMap([\"length\",1,\"say\",2]),\"say\"); ⇒ load main return 2
 ({_: {}}); ⇒ moduleResult___=___.initializeMap([\"_\",___.initializeMap([])]); ⇒ load main return record main#1
 var a; a.say; ⇒ var a;moduleResult___=___.readPub(a,\"say\"); ⇒ load main throw error main#0 TypeError \"no object\"
@@ -53,8 +61,6 @@ static REFUSALS: &str = "
 1.x; ⇒ refused main lex 6 0
 (((((((((((((((((((((((((((((((((((((((((((((((((((((((((((((((((((((((((((((((((((((((((((((((((((((((((((((((((((((((((((((((((((((((((((((((((((((((((((((((((((((((((((((((((((((((((((((((((((((((((((((((((((((((((((((((((((((((((((((((((((((((((((((((((1))))))))))))))))))))))))))))))))))))))))))))))))))))))))))))))))))))))))))))))))))))))))))))))))))))))))))))))))))))))))))))))))))))))))))))))))))))))))))))))))))))))))))))))))))))))))))))))))))))))))))))))))))))))))))))))))))))))))))))))))))))))))))))))))); ⇒ refused main read 2 0
 1+1+1+1+1+1+1+1+1+1+1+1+1+1+1+1+1+1+1+1+1+1+1+1+1+1+1+1+1+1+1+1+1+1+1+1+1+1+1+1+1+1+1+1+1+1+1+1+1+1+1+1+1+1+1+1+1+1+1+1+1+1+1+1+1+1+1+1+1+1+1+1+1+1+1+1+1+1+1+1+1+1+1+1+1+1+1+1+1+1+1+1+1+1+1+1+1+1+1+1+1+1+1+1+1+1+1+1+1+1+1+1+1+1+1+1+1+1+1+1+1+1+1+1+1+1+1+1; ⇒ refused main read 2 0
-var a; a.length; ⇒ refused main rule 0 0
-({}).charAt; ⇒ refused main rule 0 0
 var undefined; ⇒ refused main rule 0 0
 say; ⇒ refused main rule 0 0
 ({x: Math}); ⇒ refused main rule 0 0
@@ -92,6 +98,7 @@ var f = function () {}; ⇒ refused main rule 0 0
 ({'x__': 1}); ⇒ refused main rule 1 2
 ({1: 2}); ⇒ refused main rule 0 0
 foo__; ⇒ refused main rule 1 0
+'a'.x__; ⇒ refused main rule 1 4
 __; ⇒ refused main rule 1 0
 var foo__; ⇒ refused main rule 1 4
 var a; a.b__; ⇒ refused main rule 1 9

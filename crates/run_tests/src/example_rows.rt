@@ -1,6 +1,6 @@
 //! The examples of texts that run as they stand, as the files of examples/ have them, with what the README says that they write.
 
-use command_runs::rows::gives;
+use command_runs::tables::gives;
 use std::test::Fail;
 
 /// examples/loops.js

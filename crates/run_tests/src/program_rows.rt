@@ -4,7 +4,7 @@ use crate::{
     program_end_tables as ends, program_statement_tables as statements, program_tables as programs,
 };
 use caja_cli::Status;
-use command_runs::rows::{check_ends, check_gives};
+use command_runs::tables::{check_ends, check_gives};
 use std::test::Fail;
 
 #[test]

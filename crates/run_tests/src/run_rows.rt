@@ -1,7 +1,7 @@
 //! Texts that run as they stand, and the words of `run`.
 
 use caja_cli::Status;
-use command_runs::rows::{check_ends, check_gives};
+use command_runs::tables::{check_ends, check_gives};
 use std::test::Fail;
 
 /// Words, a text, and what the text gives. The statement and the number in `1;` take a step each.

@@ -1,6 +1,6 @@
 -- What the first language asks of a module: it imports nothing and declares no function, its forms are numbers, texts, names, records, members with
--- a settled key and sums, in expression statements and in a `var` of one variable each; no name is one that modules have anyway, no key behind a point
--- is one of a text's, and no name and no key means something of its own (ES3 11.1.5, 11.2.1, 12.2).
+-- a settled key and sums, in expression statements and in a `var` of one variable each; no name is one that modules have anyway,
+-- and no name and no key means something of its own (ES3 11.1.5, 11.2.1, 12.2).
 use Rattle.std.specs.Prelude.{◌&&◌, Bool, true, false, []}
 use Rattle.es3_tree.specs.declared.BinOp.TheVariants.{Add}
 use Rattle.cajita_tree.specs.Tree as c
