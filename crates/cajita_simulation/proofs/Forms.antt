@@ -1,7 +1,8 @@
+pub mod List
+pub mod Values
 pub mod Literal
 pub mod Name
-pub mod Sum
-pub mod List
-pub mod Read
-pub mod Record
 pub mod Statement
+pub mod Read
+pub mod Sum
+pub mod Record

@@ -1,12 +1,10 @@
 pub mod Lists
 pub mod Made
 pub mod Grown
-pub mod Arrays
 pub mod Names
-pub mod Pairs
 pub mod Opened
-pub mod Guards
-pub mod Texts
-pub mod Replies
 pub mod Functions
-pub mod Natives
+pub mod Guards
+pub mod Arrays
+pub mod Pairs
+pub mod Records

@@ -1,23 +1,17 @@
--- Variables on both sides: where a name is found, and what an assignment leaves.
-use Rattle.std.proofs.Common.{◌≡◌, ◌≢◌, ℕ, zero, suc, true, false, List, [], ◌∷◌, Option, Some, None, cond, refl, sym, ap, ◌∙◌, subst, arith}
-use Rattle.std.specs.Prelude.{slice_get, slice_set, is_some, nat_eq, codes}
-use Rattle.std.specs.Cmp.Lexicographic.{same_text}
-use Rattle.std.proofs.lemmas.Option.{none-some}
-use Rattle.std.proofs.lemmas.Bool.Decides.{nat_tests}
-use Rattle.caja_units.specs.Units.{same_units, is_hidden}
-use Rattle.es3_heap.proofs.Keys.{same_key-refl}
+-- Variables on both sides: where a name is found, and that it stays found there.
+use Rattle.std.proofs.Common.{◌≡◌, ℕ, ◌<◌, ◌≤◌, true, false, List, [], ◌∷◌, length, Option, Some, None, cond, refl, sym, ◌∙◌, subst, arith}
+use Rattle.std.specs.Prelude.{slice_get, slice_set, is_some}
+use Rattle.caja_units.specs.Units.{is_hidden}
 use Rattle.es3_language.specs.Store as store
-use Rattle.es3_language.specs.Store.{Store, name_value, with_name, with_heap, with_slot}
-use Rattle.es3_language.specs.Arguments.{is_fixed, put_shared, write_slot}
+use Rattle.es3_language.specs.Store.{Store, name_value}
 use Rattle.es3_language.specs.References.{Ref, slot, unresolved, named, resolve, global_name, in_owner, in_with}
-use Rattle.first_meaning.specs.World.{Value, Pairs, value_at, with_value}
-use Rattle.first_meaning.specs.Direct.{lookup, first_of, scope_at, assigned}
-use Rattle.cajita_simulation.proofs.Heaps.Lists.{slice_get-set, slice_get-set-other}
-use Rattle.cajita_simulation.proofs.Heaps.Names.{name_value-with_name, name_value-with_name-other}
-use Rattle.cajita_simulation.proofs.Relation.{EsValue, Val, OptVal, Here, Found, ScopeIs, names_at, OwnNames, IsScope, AreScopes, OwnersAre}
+use Rattle.cajita_rewrite.specs.Rewrite.{runtime_name}
+use Rattle.cajita_meaning.specs.World.{Value, Pairs, value_at, with_value, scope_at}
+use Rattle.cajita_simulation.proofs.Doing.{lookup, assigned}
+use Rattle.cajita_simulation.proofs.Relation.{EsValue, Val, Names, OptVal, tag_of_scope, Tags, Chained, ScopeIs, names_at, OwnNames, IsScope, AreScopes, Here, Within, Captured, In, Shaped}
 
 -- a name is at no place where it belongs to the global object, or to nothing
-global_is_no_slot : (s : Store) (x : List ℕ) (c : ℕ) → global_name s x ≡ slot c x → ⊥
+pub global_is_no_slot : (s : Store) (x : List ℕ) (c : ℕ) → global_name s x ≡ slot c x → ⊥
 global_is_no_slot s x c e =
     let cases = elim (is_some (Rattle.es3_heap.specs.Properties.lookup s.heap s.globals x)) as (λ b. cond b (named s.globals x) (unresolved x) ≡ slot c x → ⊥) [
       | true ↦ λ h. cc
@@ -33,189 +27,80 @@ pub passes : (scope : Option store.Scope) (s : Store) (x : List ℕ) (r : Ref) �
 passes None s x r own = refl
 passes (Some scope) s x r own = owner_passes scope.owner s x r own
 
--- a name that no scope lost or won is found where it was
-pub resolve_same : (chain : List ℕ) (s s' : Store) (x : List ℕ) (c : ℕ) → AreScopes s → AreScopes s' → ((n : ℕ) → is_some (name_value x (names_at s' n)) ≡ is_some (name_value x (names_at s n))) → resolve chain s x ≡ slot c x → resolve chain s' x ≡ slot c x
-resolve_same [] s s' x c are are' same e = absurd (global_is_no_slot s x c e)
-resolve_same (n ∷ chain) s s' x c are are' same e =
+-- a name that no scope of the chain lost or won is found where it was
+pub resolve_stays : (chain : List ℕ) (s s' : Store) (x : List ℕ) (c : ℕ) → Within chain (length s.scopes) → AreScopes s → AreScopes s' → ((n : ℕ) → n < length s.scopes → is_some (name_value x (names_at s' n)) ≡ is_some (name_value x (names_at s n))) → resolve chain s x ≡ slot c x → resolve chain s' x ≡ slot c x
+resolve_stays [] s s' x c within are are' same e = absurd (global_is_no_slot s x c e)
+resolve_stays (n ∷ chain) s s' x c within are are' same e =
     let before = passes (slice_get s.scopes n) s x (resolve chain s x) (are n) in
     let after = passes (slice_get s'.scopes n) s' x (resolve chain s' x) (are' n) in
     let cases = elim (is_some (name_value x (names_at s n))) as (λ b. cond b (slot n x) (in_with (slice_get s.scopes n) s x (resolve chain s x)) ≡ slot c x → cond b (slot n x) (in_with (slice_get s'.scopes n) s' x (resolve chain s' x)) ≡ slot c x) [
       | true ↦ λ h. h
-      | false ↦ λ h. after ∙ resolve_same chain s s' x c are are' same (sym before ∙ h)
-    ] in rw (same n) (cases e)
+      | false ↦ λ h. after ∙ resolve_stays chain s s' x c within.1 are are' same (sym before ∙ h)
+    ] in rw (same n within.0) (cases e)
 
--- and has the value that it had, where no scope changed it
-abbrev pub found_kept : {chain : List ℕ} {s s' : Store} {x : List ℕ} {e : EsValue} → AreScopes s → AreScopes s' → ((n : ℕ) → name_value x (names_at s' n) ≡ name_value x (names_at s n)) → Found chain s x e → Found chain s' x e
-found_kept {chain = chain} {s = s} {s' = s'} {x = x} are are' same f = record { place = f.place; at = resolve_same chain s s' x f.place are are' (λ n. ap is_some (same n)) f.at; value = same f.place ∙ f.value }
+pub within_more : (chain : List ℕ) (n m : ℕ) → n ≤ m → Within chain n → Within chain m
+within_more [] n m le w = tt
+within_more (c ∷ chain) n m le w = (omega (arith, le, w.0), within_more chain n m le w.1)
 
--- a variable that the direct meaning finds is found at the same place, with a value that corresponds
-pub record BothFind (chain : List ℕ) (scopes : List Pairs) (s : Store) (x : List ℕ) (v : Value) : Type 0 where
-  pub value : EsValue
-  pub found : Found chain s x value
-  pub same : Val s.heap v value
-  pub here : value_at x (scope_at (slice_get scopes found.place)) ≡ Some v
-  pub assigns : (u : Value) → assigned chain x u scopes ≡ slice_set scopes found.place (with_value x u (scope_at (slice_get scopes found.place)))
+chained_stays : {g g' : Tags} {s s' : Store} (m : ℕ) (direct chain : List ℕ) → Shaped g s g' s' → Chained g m direct chain → Chained g' m direct chain
+chained_stays m [] [] k p = tt
+chained_stays m (n ∷ direct) (c ∷ chain) k p = (k.tags c (tag_of_scope m n) p.0, chained_stays m direct chain k p.1)
+chained_stays m [] (c ∷ chain) k p = absurd p
+chained_stays m (n ∷ direct) [] k p = absurd p
 
-found_here : (n : ℕ) (chain : List ℕ) (scopes : List Pairs) (s : Store) (x : List ℕ) (v : Value) (o : Option Value) (o' : Option EsValue) → IsScope (slice_get s.scopes n) → value_at x (scope_at (slice_get scopes n)) ≡ o → name_value x (names_at s n) ≡ o' → OptVal s.heap o o' → first_of o (lookup chain scopes x) ≡ Some v → (lookup chain scopes x ≡ Some v → BothFind chain scopes s x v) → BothFind (n ∷ chain) scopes s x v
-found_here n chain scopes s x v (Some u) (Some u') own is is' same e further =
-    let value : u ≡ v = cc in
-    record { value = u'; found = record { place = n; at = rw is' refl; value = is' }; same = subst (λ q. Val s.heap q u') value same; here = is ∙ e; assigns = λ q. rw is refl }
-found_here n chain scopes s x v None None own is is' same e further =
-    let rest = further e in
-    record { value = rest.value; found = record { place = rest.found.place; at = rw is' (passes (slice_get s.scopes n) s x (resolve chain s x) own ∙ rest.found.at); value = rest.found.value }; same = rest.same; here = rest.here; assigns = λ q. rw is (rest.assigns q) }
-found_here n chain scopes s x v None (Some u') own is is' same e further = absurd same
-found_here n chain scopes s x v (Some u) None own is is' same e further = absurd same
-
-pub both_find : (chain : List ℕ) (scopes : List Pairs) (s : Store) (x : List ℕ) (v : Value) → AreScopes s → ((n : ℕ) → ScopeIs s.heap (scope_at (slice_get scopes n)) (names_at s n)) → is_hidden x ≡ false → lookup chain scopes x ≡ Some v → BothFind chain scopes s x v
-both_find [] scopes s x v are same guest e = cc
-both_find (n ∷ chain) scopes s x v are same guest e = found_here n chain scopes s x v _ _ (are n) refl refl (same n x guest) e (both_find chain scopes s x v are same guest)
-
--- the same laws of the direct meaning's pairs
-
-pub value_at-with_value : (x : List ℕ) (v : Value) (ps : Pairs) → value_at x (with_value x v ps) ≡ Some v
-value_at-with_value x v [] = rw (same_key-refl x) refl
-value_at-with_value x v ((y, w) ∷ rest) =
-    let cases = elim (same_units x y) as (λ b. same_units x y ≡ b → value_at x (cond b ((y, v) ∷ rest) ((y, w) ∷ with_value x v rest)) ≡ Some v) [
-      | true ↦ λ is. rw is refl
-      | false ↦ λ is. rw is (value_at-with_value x v rest)
-    ] in cases refl
-
-pub value_at-with_value-other : (x y : List ℕ) (v : Value) (ps : Pairs) → same_units y x ≡ false → value_at y (with_value x v ps) ≡ value_at y ps
-value_at-with_value-other x y v [] ne = rw ne refl
-value_at-with_value-other x y v ((z, w) ∷ rest) ne =
-    let cases = elim (same_units x z) as (λ b. same_units x z ≡ b → value_at y (cond b ((z, v) ∷ rest) ((z, w) ∷ with_value x v rest)) ≡ value_at y ((z, w) ∷ rest)) [
-      | true ↦ λ is. let other : same_units y z ≡ false = ap (same_units y) (sym (same_text x z (sym is))) ∙ ne in rw other refl
-      | false ↦ λ is. ap (λ found. cond (same_units y z) (Some w) found) (value_at-with_value-other x y v rest ne)
-    ] in cases refl
-
--- the scopes after an assignment, at each place
-
-pub same_place : (a b : ℕ) → nat_eq a b ≡ true → a ≡ b
-same_place a b h = grind (arith, nat_tests)
-
-pub other_place : (a b : ℕ) → nat_eq a b ≡ false → a ≢ b
-other_place a b h = λ e. grind (arith, nat_tests)
-
-slot_there : (names : Option store.Scope) (x : List ℕ) (e : EsValue) → name_value x (store.scope_at names) ≡ Some e → (scope : store.Scope) × (names ≡ Some scope)
-slot_there None x e h = cc
-slot_there (Some scope) x e h = (scope, refl)
-
-scope_there : (names : Option Pairs) (x : List ℕ) (v : Value) → value_at x (scope_at names) ≡ Some v → (scope : Pairs) × (names ≡ Some scope)
-scope_there None x v h = cc
-scope_there (Some scope) x v h = (scope, refl)
-
-renamed_names : (scope : Option store.Scope) (names : store.Names) → (store.renamed scope names).names ≡ names
-renamed_names None names = refl
-renamed_names (Some scope) names = refl
-
--- the names of a scope, after a name of it was written
-pub names_at-written : (s : Store) (c : ℕ) (x : List ℕ) (e v : EsValue) → name_value x (names_at s c) ≡ Some e → names_at (with_slot c x v s) c ≡ with_name x v (names_at s c)
-names_at-written s c x e v here =
-    let there = slot_there (slice_get s.scopes c) x e here in
-    ap store.scope_at (slice_get-set s.scopes c there.0 (store.renamed (slice_get s.scopes c) (with_name x v (names_at s c))) there.1) ∙ renamed_names (slice_get s.scopes c) (with_name x v (names_at s c))
-
-pub names_at-other : (s : Store) (c n : ℕ) (x : List ℕ) (v : EsValue) → n ≢ c → names_at (with_slot c x v s) n ≡ names_at s n
-names_at-other s c n x v ne = ap store.scope_at (slice_get-set-other s.scopes c n (store.renamed (slice_get s.scopes c) (with_name x v (names_at s c))) ne)
-
-pub scope_at-written : (scopes : List Pairs) (c : ℕ) (x : List ℕ) (e v : Value) → value_at x (scope_at (slice_get scopes c)) ≡ Some e → scope_at (slice_get (slice_set scopes c (with_value x v (scope_at (slice_get scopes c)))) c) ≡ with_value x v (scope_at (slice_get scopes c))
-scope_at-written scopes c x e v here =
-    let there = scope_there (slice_get scopes c) x e here in
-    ap scope_at (slice_get-set scopes c there.0 (with_value x v (scope_at (slice_get scopes c))) there.1)
-
-pub scope_at-other : (scopes : List Pairs) (c n : ℕ) (names : Pairs) → n ≢ c → scope_at (slice_get (slice_set scopes c names) n) ≡ scope_at (slice_get scopes n)
-scope_at-other scopes c n names ne = ap scope_at (slice_get-set-other scopes c n names ne)
-
--- another name is what it was, in each scope
-pub slot_kept : (s : Store) (c n : ℕ) (x y : List ℕ) (e v : EsValue) → name_value x (names_at s c) ≡ Some e → same_units y x ≡ false → name_value y (names_at (with_slot c x v s) n) ≡ name_value y (names_at s n)
-slot_kept s c n x y e v here ne =
-    let cases = elim (nat_eq n c) as (λ b. nat_eq n c ≡ b → name_value y (names_at (with_slot c x v s) n) ≡ name_value y (names_at s n)) [
-      | true ↦ λ is. subst (λ k. name_value y (names_at (with_slot c x v s) k) ≡ name_value y (names_at s k)) (sym (same_place n c is)) (ap (name_value y) (names_at-written s c x e v here) ∙ name_value-with_name-other x y v (names_at s c) ne)
-      | false ↦ λ is. ap (name_value y) (names_at-other s c n x v (other_place n c is))
-    ] in cases refl
-
-pub variable_kept : (scopes : List Pairs) (c n : ℕ) (x y : List ℕ) (e v : Value) → value_at x (scope_at (slice_get scopes c)) ≡ Some e → same_units y x ≡ false → value_at y (scope_at (slice_get (slice_set scopes c (with_value x v (scope_at (slice_get scopes c)))) n)) ≡ value_at y (scope_at (slice_get scopes n))
-variable_kept scopes c n x y e v here ne =
-    let after = slice_set scopes c (with_value x v (scope_at (slice_get scopes c))) in
-    let cases = elim (nat_eq n c) as (λ b. nat_eq n c ≡ b → value_at y (scope_at (slice_get after n)) ≡ value_at y (scope_at (slice_get scopes n))) [
-      | true ↦ λ is. subst (λ k. value_at y (scope_at (slice_get after k)) ≡ value_at y (scope_at (slice_get scopes k))) (sym (same_place n c is)) (ap (value_at y) (scope_at-written scopes c x e v here) ∙ value_at-with_value-other x y v (scope_at (slice_get scopes c)) ne)
-      | false ↦ λ is. ap (value_at y) (scope_at-other scopes c n _ (other_place n c is))
-    ] in cases refl
-
--- after an assignment on both sides the scopes correspond
-pub scopes_assigned : (scopes : List Pairs) (s : Store) (c : ℕ) (x : List ℕ) (u v : Value) (e f : EsValue) → ((n : ℕ) → ScopeIs s.heap (scope_at (slice_get scopes n)) (names_at s n)) → value_at x (scope_at (slice_get scopes c)) ≡ Some u → name_value x (names_at s c) ≡ Some e → Val s.heap v f → (n : ℕ) → ScopeIs s.heap (scope_at (slice_get (slice_set scopes c (with_value x v (scope_at (slice_get scopes c)))) n)) (names_at (with_slot c x f s) n)
-scopes_assigned scopes s c x u v e f same here here' is n y guest =
-    let after = slice_set scopes c (with_value x v (scope_at (slice_get scopes c))) in
-    let written : y ≡ x → OptVal s.heap (value_at y (scope_at (slice_get after n))) (name_value y (names_at (with_slot c x f s) n)) =
-    λ alike. elim (nat_eq n c) as (λ b. nat_eq n c ≡ b → OptVal s.heap (value_at y (scope_at (slice_get after n))) (name_value y (names_at (with_slot c x f s) n))) [
-      | true ↦ λ at. subst (λ k. OptVal s.heap (value_at y (scope_at (slice_get after k))) (name_value y (names_at (with_slot c x f s) k))) (sym (same_place n c at)) (subst (λ q. OptVal s.heap (value_at q (scope_at (slice_get after c))) (name_value q (names_at (with_slot c x f s) c))) (sym alike) (rw (scope_at-written scopes c x u v here, names_at-written s c x e f here', value_at-with_value x v (scope_at (slice_get scopes c)), name_value-with_name x f (names_at s c)) is))
-      | false ↦ λ at. rw (scope_at-other scopes c n (with_value x v (scope_at (slice_get scopes c))) (other_place n c at), names_at-other s c n x f (other_place n c at)) (same n y guest)
-    ] refl in
-    let cases = elim (same_units y x) as (λ b. same_units y x ≡ b → OptVal s.heap (value_at y (scope_at (slice_get after n))) (name_value y (names_at (with_slot c x f s) n))) [
-      | true ↦ λ is1. written (same_text y x (sym is1))
-      | false ↦ λ is1. rw (variable_kept scopes c n x y u v here is1, slot_kept s c n x y e f here' is1) (same n y guest)
-    ] in cases refl
-
--- what scopes belong to, after a name was written
-
-written_at : {X : Type 0} (xs : List X) (c n : ℕ) (y : X) (P : Option X → Type 0) → (n ≡ c → P (Some y)) → P (slice_get xs n) → P (slice_get (slice_set xs c y) n)
-written_at [] c n y P new old = old
-written_at (z ∷ zs) zero zero y P new old = new refl
-written_at (z ∷ zs) zero (suc n) y P new old = old
-written_at (z ∷ zs) (suc c) zero y P new old = old
-written_at (z ∷ zs) (suc c) (suc n) y P new old = written_at zs c n y P (λ e. new (ap suc e)) old
-
-renamed_is : (scope : Option store.Scope) (names : store.Names) → IsScope scope → IsScope (Some (store.renamed scope names))
-renamed_is None names is = tt
-renamed_is (Some scope) names is = is
-
-renamed_fixed : (scope : Option store.Scope) (names : store.Names) → is_fixed (Some (store.renamed scope names)) ≡ is_fixed scope
-renamed_fixed None names = refl
-renamed_fixed (Some scope) names = refl
-
-pub are_written : (s : Store) (c : ℕ) (x : List ℕ) (v : EsValue) → AreScopes s → AreScopes (with_slot c x v s)
-are_written s c x v are n =
-    let names = with_name x v (names_at s c) in
-    written_at s.scopes c n (store.renamed (slice_get s.scopes c) names) IsScope (λ e. renamed_is (slice_get s.scopes c) names (are c)) (are n)
-
-fixed_written : (s : Store) (c n : ℕ) (x : List ℕ) (v : EsValue) → is_fixed (slice_get (with_slot c x v s).scopes n) ≡ is_fixed (slice_get s.scopes n)
-fixed_written s c n x v =
-    let names = with_name x v (names_at s c) in
-    written_at s.scopes c n (store.renamed (slice_get s.scopes c) names) (λ scope. is_fixed scope ≡ is_fixed (slice_get s.scopes n)) (λ e. renamed_fixed (slice_get s.scopes c) names ∙ ap (λ k. is_fixed (slice_get s.scopes k)) (sym e)) refl
-
-pub owners_written : {H : Here} (s : Store) (c : ℕ) (x : List ℕ) (v : EsValue) → OwnersAre H s → OwnersAre H (with_slot c x v s)
-owners_written {H = H} s c x v r = record {
-  are = are_written s c x v r.are;
-  written = λ y known. fixed_written s c (H.place y) x v ∙ r.written y known;
-  result = fixed_written s c (H.place (codes "moduleResult___")) x v ∙ r.result;
-  unshared = r.unshared;
+-- what is known of a chain stays so
+pub captured_stays : {vars free : Names} {by : ℕ} {g g' : Tags} {direct chain : List ℕ} {s s' : Store} → Shaped g s g' s' → AreScopes s → AreScopes s' → Captured vars free by g direct chain s → Captured vars free by g' direct chain s'
+captured_stays {by = by} {direct = direct} {chain = chain} {s = s} {s' = s'} k are are' p = record {
+  chained = chained_stays by direct chain k p.chained;
+  within = within_more chain _ _ k.count p.within;
+  names = λ x known. let q = p.names x known in record {
+    scope = q.scope;
+    below = omega (arith, k.count, q.below);
+    at = resolve_stays chain s s' x q.scope p.within are are' (λ n lt. k.shape n x lt) q.at;
+    written = λ free. k.fixed q.scope q.below ∙ q.written free;
+  };
+  runtime = p.runtime;
+  runtime_below = omega (arith, k.count, p.runtime_below);
+  runtime_at = resolve_stays chain s s' runtime_name p.runtime p.within are are' (λ n lt. k.shape n runtime_name lt) p.runtime_at;
+  runtime_bound = k.shape p.runtime runtime_name p.runtime_below ∙ p.runtime_bound;
 }
 
--- 8.7.2: a name of a scope is written there alone
-pub slot_written : (s : Store) (c : ℕ) (x : List ℕ) (v : EsValue) → is_fixed (slice_get s.scopes c) ≡ false → s.shared ≡ [] → write_slot c x v s ≡ with_slot c x v s
-slot_written s c x v free unshared =
-    ap (λ b. cond b s (with_slot c x v (with_heap s (put_shared s.shared c x v s.heap)))) free ∙ ap (λ shared. with_slot c x v (with_heap s (put_shared shared c x v s.heap))) unshared
+pub in_stays : {H : Here} {g g' : Tags} {s s' : Store} → Shaped g s g' s' → AreScopes s → AreScopes s' → In H g s → In H g' s'
+in_stays {H = H} {s = s} {s' = s'} k are are' p = record {
+  captured = captured_stays k are are' p.captured;
+  act = omega (arith, k.count, p.act);
+  written = k.fixed H.act p.act ∙ p.written;
+  temps = λ x hidden bound. resolve_stays H.chain s s' x H.act p.captured.within are are' (λ n lt. k.shape n x lt) (p.temps x hidden (sym (k.shape H.act x p.act) ∙ bound));
+}
 
--- a variable that has a value keeps one
-pub lookup_assigned : (chain : List ℕ) (scopes after : List Pairs) (y : List ℕ) → ((n : ℕ) (v : Value) → value_at y (scope_at (slice_get scopes n)) ≡ Some v → (u : Value) × (value_at y (scope_at (slice_get after n)) ≡ Some u)) → (v : Value) → lookup chain scopes y ≡ Some v → (u : Value) × (lookup chain after y ≡ Some u)
-lookup_assigned [] scopes after y keep v e = cc
-lookup_assigned (n ∷ chain) scopes after y keep v e =
-    let here = keep n in
-    let rest = lookup_assigned chain scopes after y keep v in
-    let cases = elim (value_at y (scope_at (slice_get after n))) as (λ o'. value_at y (scope_at (slice_get after n)) ≡ o' → (u : Value) × (first_of o' (lookup chain after y) ≡ Some u)) [
-      | Some u ↦ λ is'. (u, refl)
-      | None ↦ λ is'. elim (value_at y (scope_at (slice_get scopes n))) as (λ o. value_at y (scope_at (slice_get scopes n)) ≡ o → first_of o (lookup chain scopes y) ≡ Some v → (u : Value) × (lookup chain after y ≡ Some u)) [
-        | Some q ↦ λ is h. let new = here q is in absurd (none-some new.0 (sym is' ∙ new.1))
-        | None ↦ λ is h. rest h
-      ] refl e
-    ] in cases refl
+pub same_slot : (a b : ℕ) (x : List ℕ) → slot a x ≡ slot b x → a ≡ b
+same_slot a b x e = cc
 
--- each scope has the names that it had, after a name that it has was written
-pub written_same : (s : Store) (c n : ℕ) (x y : List ℕ) (e v : EsValue) → name_value x (names_at s c) ≡ Some e → is_some (name_value y (names_at (with_slot c x v s) n)) ≡ is_some (name_value y (names_at s n))
-written_same s c n x y e v here =
-    let cases = elim (same_units y x) as (λ b. same_units y x ≡ b → is_some (name_value y (names_at (with_slot c x v s) n)) ≡ is_some (name_value y (names_at s n))) [
-      | true ↦ λ alike. elim (nat_eq n c) as (λ b. nat_eq n c ≡ b → is_some (name_value y (names_at (with_slot c x v s) n)) ≡ is_some (name_value y (names_at s n))) [
-        | true ↦ λ at. rw (same_place n c at, same_text y x (sym alike), names_at-written s c x e v here, name_value-with_name x v (names_at s c), here) refl
-        | false ↦ λ at. ap (λ names. is_some (name_value y names)) (names_at-other s c n x v (other_place n c at))
-      ] refl
-      | false ↦ λ other. ap is_some (slot_kept s c n x y e v here other)
-    ] in cases refl
+-- a variable that is found in a scope of the store has a value in the scope of its tag
+pub record FoundAt (tags : Tags) (m : ℕ) (chain : List ℕ) (w : ℕ → List Pairs) (s : Store) (x : List ℕ) (c : ℕ) : Type 0 where
+  pub number : ℕ
+  pub tag : slice_get tags c ≡ Some (tag_of_scope m number)
+  pub known : Value
+  pub value : EsValue
+  pub looked : lookup chain (w m) x ≡ Some known
+  pub there : name_value x (names_at s c) ≡ Some value
+  pub same : Val s.heap known value
+  pub here : value_at x (scope_at (slice_get (w m) number)) ≡ Some known
+  pub assigns : (u : Value) → assigned chain x u (w m) ≡ slice_set (w m) number (with_value x u (scope_at (slice_get (w m) number)))
+
+found_here : (tags : Tags) (m n d : ℕ) (chain chain' : List ℕ) (w : ℕ → List Pairs) (s : Store) (x : List ℕ) (c : ℕ) (o : Option Value) (o' : Option EsValue) → slice_get tags d ≡ Some (tag_of_scope m n) → IsScope (slice_get s.scopes d) → value_at x (scope_at (slice_get (w m) n)) ≡ o → name_value x (names_at s d) ≡ o' → OptVal s.heap o o' → cond (is_some o') (slot d x) (in_with (slice_get s.scopes d) s x (resolve chain' s x)) ≡ slot c x → (resolve chain' s x ≡ slot c x → FoundAt tags m chain w s x c) → FoundAt tags m (n ∷ chain) w s x c
+found_here tags m n d chain chain' w s x c (Some u) (Some u') tag own is is' same e further =
+    let at : d ≡ c = same_slot d c x e in
+    subst (λ k. FoundAt tags m (n ∷ chain) w s x k) at (record { number = n; tag = tag; known = u; value = u'; looked = rw is refl; there = is'; same = same; here = is; assigns = λ q. rw is refl })
+found_here tags m n d chain chain' w s x c None None tag own is is' same e further =
+    let rest = further (sym (passes (slice_get s.scopes d) s x (resolve chain' s x) own) ∙ e) in
+    record { number = rest.number; tag = rest.tag; known = rest.known; value = rest.value; looked = rw is rest.looked; there = rest.there; same = rest.same; here = rest.here; assigns = λ q. rw is (rest.assigns q) }
+found_here tags m n d chain chain' w s x c None (Some u') tag own is is' same e further = absurd same
+found_here tags m n d chain chain' w s x c (Some u) None tag own is is' same e further = absurd same
+
+-- a variable that the interpreter finds is the one that the direct meaning finds
+pub found_at : (tags : Tags) (m : ℕ) (chain chain' : List ℕ) (w : ℕ → List Pairs) (s : Store) (x : List ℕ) (c : ℕ) → Chained tags m chain chain' → AreScopes s → ((d k n : ℕ) → slice_get tags d ≡ Some (tag_of_scope k n) → ScopeIs s.heap (scope_at (slice_get (w k) n)) (names_at s d)) → is_hidden x ≡ false → resolve chain' s x ≡ slot c x → FoundAt tags m chain w s x c
+found_at tags m [] [] w s x c same are r guest e = absurd (global_is_no_slot s x c e)
+found_at tags m (n ∷ chain) (d ∷ chain') w s x c same are r guest e = found_here tags m n d chain chain' w s x c _ _ same.0 (are d) refl refl (r d m n same.0 x guest) e (found_at tags m chain chain' w s x c same.1 are r guest)
+found_at tags m [] (d ∷ chain') w s x c same are r guest e = absurd same
+found_at tags m (n ∷ chain) [] w s x c same are r guest e = absurd same

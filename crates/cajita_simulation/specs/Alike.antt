@@ -2,7 +2,7 @@
 use Rattle.std.specs.Prelude.{◌≡◌, ℕ, List, [], ◌++◌}
 use Rattle.plans.specs.Plans.{Fault, number_fault, depth_fault, convert_fault}
 use Rattle.module_loader.specs.Page.{Kept}
-use Rattle.first_meaning.specs.Direct.{Item}
+use Rattle.cajita_meaning.specs.Direct.{Item}
 
 -- the items that the log prints, of those that the natives of a page keep: none are kept yet
 abbrev pub shown : Kept → List Item

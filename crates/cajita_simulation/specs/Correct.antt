@@ -1,22 +1,28 @@
 -- A rewritten module does in the interpreter what its source does directly. Its program runs in a page of its own, and each of both has a number of steps.
-use Rattle.std.specs.Prelude.{◌≡◌, ℕ, ◌+◌, ◌*◌, ◌≤◌, Some}
+use Rattle.std.specs.Prelude.{◌≡◌, ℕ, ◌+◌, ◌*◌, ◌≤◌, [], Some}
 use Rattle.plans.specs.Plans.{over, stopped, out, count_of, kept_of}
 use Rattle.matching.specs.Sentences.{IsFinished}
 use Rattle.es3_language.specs.Store.{Store}
 use Rattle.es3_language.specs.Meaning as Target
+use Rattle.rows.specs.Nodes.{no_rules}
 use Rattle.cajita_tree.specs.Tree as c
 use Rattle.cajita_rewrite.specs.Rewrite.{program_of}
-use Rattle.first_meaning.specs.World.{World}
-use Rattle.first_meaning.specs.Direct as Source
-use Rattle.first_meaning.specs.Direct.{printed, direct_run}
+use Rattle.cajita_meaning.specs.World.{World, empty_world}
+use Rattle.cajita_meaning.specs.Direct as Source
+use Rattle.cajita_meaning.specs.Direct.{printed, load_run}
+use Rattle.heap_rows.specs.Opening.{first, place_of}
 use Rattle.module_loader.specs.Page.{Kept, module_run}
+use Rattle.row_simulation.specs.Correspond.{Val, ObjectsAre}
 use Rattle.cajita_simulation.specs.Alike.{shown, IsPrefix, GuestFault, most_steps}
-use Rattle.cajita_simulation.specs.Correspond.{Val, AllStand}
+
+-- a module by itself, as the module of a number and with n steps: it imports nothing, and the world is empty
+abbrev pub direct_run : c.Tree c.program → ℕ → ℕ → Source.Run
+direct_run m by n = load_run no_rules m by [] empty_world [] n
 
 -- the load gave a value and the program came to its end with one that corresponds, or both threw values that correspond; named objects stand for those of the world
 abbrev pub SameEnd : Source.Completion → World → Target.Completion → Store → Type 0
-SameEnd (Source.gave v) w (Target.normal (Some e)) s = Val s.heap v e × AllStand w.objects s.heap
-SameEnd (Source.threw v) w (Target.threw e) s = Val s.heap v e × AllStand w.objects s.heap
+SameEnd (Source.gave v) w (Target.normal (Some e)) s = Val s.heap v e × ((m : ℕ) × ObjectsAre first place_of w.objects s.heap m)
+SameEnd (Source.threw v) w (Target.threw e) s = Val s.heap v e × ((m : ℕ) × ObjectsAre first place_of w.objects s.heap m)
 SameEnd _ w _ s = ⊥
 
 -- both came to such an end, or stopped by the same fault, which is no conversion; and what is printed is the same

@@ -20,28 +20,32 @@ pub record GuestKey (k : List ℕ) : Type 0 where
   pub no_text : same_units (codes "toString") k ≡ false
   pub no_value : same_units (codes "valueOf") k ≡ false
 
--- a part over names that are declared; no other form is accepted yet
-abbrev pub Guest : List (List ℕ) → (s : c.Sort) → c.Tree s → Type 0
-Guest names _ (c.num n) = Unit {0}
-Guest names _ (c.text us) = Unit {0}
-Guest names _ (c.name x) = (is_among names x ≡ true) × GuestName x
-Guest names _ (c.record_of fs) = Guest names _ fs
-Guest names _ (c.read e k) = Guest names _ e × Guest names _ k
-Guest names _ (c.binary op a b) = (op ≡ Add) × Guest names _ a × Guest names _ b
-Guest names _ c.no_fields = Unit {0}
-Guest names _ (c.more_fields k e rest) = GuestKey k × Guest names _ e × Guest names _ rest
-Guest names _ (c.fixed k) = Unit {0}
-Guest names _ c.no_expr = Unit {0}
-Guest names _ (c.some_expr e) = Guest names _ e
-Guest names _ (c.var is) = Guest names _ is
-Guest names _ (c.expression e) = Guest names _ e
-Guest names _ c.no_items = Unit {0}
-Guest names _ (c.more_items x e rest) = (is_among names x ≡ true) × GuestName x × Guest names _ e × Guest names _ rest
-Guest names _ c.no_stmts = Unit {0}
-Guest names _ (c.more_stmts s rest) = Guest names _ s × Guest names _ rest
-Guest names _ (c.a_body c.no_funcs vars list) = Guest names _ list
-Guest names _ (c.a_module imports body) = Guest names _ body
-Guest names _ _ = ⊥
+-- names, by whether each is one of them
+abbrev pub Names : Type 0
+Names = List ℕ → Bool
+
+-- a part over names that may be read and names that may be written; no other form is accepted yet
+abbrev pub Guest : Names → Names → (s : c.Sort) → c.Tree s → Type 0
+Guest vars free _ (c.num n) = Unit {0}
+Guest vars free _ (c.text us) = Unit {0}
+Guest vars free _ (c.name x) = (vars x ≡ true) × GuestName x
+Guest vars free _ (c.record_of fs) = Guest vars free _ fs
+Guest vars free _ (c.read e k) = Guest vars free _ e × Guest vars free _ k
+Guest vars free _ (c.binary op a b) = (op ≡ Add) × Guest vars free _ a × Guest vars free _ b
+Guest vars free _ c.no_fields = Unit {0}
+Guest vars free _ (c.more_fields k e rest) = GuestKey k × Guest vars free _ e × Guest vars free _ rest
+Guest vars free _ (c.fixed k) = Unit {0}
+Guest vars free _ c.no_expr = Unit {0}
+Guest vars free _ (c.some_expr e) = Guest vars free _ e
+Guest vars free _ (c.var is) = Guest vars free _ is
+Guest vars free _ (c.expression e) = Guest vars free _ e
+Guest vars free _ c.no_items = Unit {0}
+Guest vars free _ (c.more_items x e rest) = (vars x ≡ true) × (free x ≡ true) × GuestName x × Guest vars free _ e × Guest vars free _ rest
+Guest vars free _ c.no_stmts = Unit {0}
+Guest vars free _ (c.more_stmts s rest) = Guest vars free _ s × Guest vars free _ rest
+Guest vars free _ (c.a_body c.no_funcs names list) = Guest vars free _ list
+Guest vars free _ (c.a_module imports body) = Guest vars free _ body
+Guest vars free _ _ = ⊥
 
 -- the names that statements declare by `var`
 abbrev pub item_names : c.Tree c.items → List (List ℕ)
@@ -58,4 +62,4 @@ declared (c.more_stmts s rest) = declared_by s ++ declared rest
 
 -- a module that imports nothing and declares no function, and whose variables are those that its statements declare
 pub data GuestModule : c.Tree c.program → Type 0 where
-  a_guest : (vars : List (List ℕ)) (list : c.Tree c.stmts) → ((x : List ℕ) → is_among vars x ≡ is_among (declared list) x) → Guest vars c.stmts list → GuestModule (c.a_module [] (c.a_body c.no_funcs vars list))
+  a_guest : (vars : List (List ℕ)) (list : c.Tree c.stmts) → ((x : List ℕ) → is_among vars x ≡ is_among (declared list) x) → Guest (is_among vars) (is_among vars) c.stmts list → GuestModule (c.a_module [] (c.a_body c.no_funcs vars list))

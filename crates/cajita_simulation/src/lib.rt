@@ -1,11 +1,22 @@
 //! A rewritten module does in the interpreter what its source does directly.
 //!
-//! The definitions stand in specs/ and the laws in proofs/; there is no code. The function here has no body: its contract is the law.
+//! The definitions stand in specs/ and the laws in proofs/; there is no code. The functions here have no body: their contracts are the laws.
+//!
+//! The direct meaning's world and the interpreter's store are related by specs/Related.antt: objects and what a page keeps by the relation of rows, scopes by their
+//! tags (specs/Scopes.antt), closures by their code. A page begins related; a load begun anywhere in this relation ends in it again, so loads follow one another.
 #![tactic(auto)]
 
-ghost use Rattle.std.specs.Prelude.{ℕ, ◌<◌};
+ghost use Rattle.std.specs.Prelude.{ℕ, ◌<◌, List, []};
+ghost use Rattle.es3_language.specs.Store.{Store};
+ghost use Rattle.rows.specs.Nodes.{Rules};
 ghost use Rattle.cajita_tree.specs.Tree as c;
+ghost use Rattle.cajita_meaning.specs.World.{World, empty_world};
+ghost use Rattle.cajita_meaning.specs.Direct.{Item};
+ghost use Rattle.module_loader.specs.Page.{Kept, first_kept};
 ghost use Rattle.cajita_simulation.specs.Guest.{GuestModule};
+ghost use Rattle.cajita_simulation.specs.Scopes.{Tags};
+ghost use Rattle.cajita_simulation.specs.Related.{Between};
+ghost use Rattle.cajita_simulation.specs.Loads.{page_store, Loads};
 ghost use Rattle.cajita_simulation.specs.Correct.{Correct};
 
 /// The program that stands for an accepted module, run as one of the 64 modules of a page, does what the source does directly: it ends alike, after
@@ -14,4 +25,18 @@ ghost use Rattle.cajita_simulation.specs.Correct.{Correct};
 #[tactic(auto, using(crate::proofs::Theorem::correct))]
 pub fn a_rewritten_module_does_what_its_source_does()
     ensures { (m : c.Tree c.program) (by : ℕ) → by < 64 → GuestModule m → Correct by m }
+{}
+
+/// So it does wherever the two sides are related, whatever ran before and however many steps that took, under any rules of a page; and where both come to an end they
+/// are related again.
+#[tactic(auto, using(crate::proofs::Theorem::loads))]
+pub fn a_module_loads_wherever_both_sides_are_related()
+    ensures { (rules : Rules) (m : c.Tree c.program) (by : ℕ) → by < 64 → GuestModule m
+        → (w : World) (z : List Item) (n : ℕ) (g : Tags) (s : Store) (y : Kept) (i : ℕ) → Between w z n g s y i → Loads rules m by w z n s y i }
+{}
+
+/// Where a page begins, with any number of modules and cells, the two sides are related.
+#[tactic(auto, using(crate::proofs::Load::Begins::begins))]
+pub fn a_page_begins_related()
+    ensures { (modules cells : ℕ) → Between empty_world [] 0 [] (page_store modules cells) first_kept 0 }
 {}

@@ -145,10 +145,14 @@ module _ (ds : List Declaration) (names : List (List ℕ)) (usable : (x : List �
   abbrev around : Scope
   around = in_module ds fixed_names
 
+  -- a guest's part, over these names
+  abbrev IsGuest : (s : c.Sort) → c.Tree s → Type 0
+  IsGuest s y = Guest (is_among names) (is_among names) s y
+
   mutual
     unfolding faults_in
 
-    expression : (e : Placed t.expr) (y : c.Tree c.expr) → First t.expr e y → faults_in around t.expr e ≡ [] → Guest names c.expr y
+    expression : (e : Placed t.expr) (y : c.Tree c.expr) → First t.expr e y → faults_in around t.expr e ≡ [] → IsGuest c.expr y
     expression _ _ (a_number n) h = tt
     expression _ _ (a_text us) h = tt
     expression _ _ (a_name x is_free) h = (usable x.text (is_declared ds x is_free (no_back _ _ h)), guest_name x (no_front _ _ (no_front _ _ h)) is_free)
@@ -156,30 +160,31 @@ module _ (ds : List Declaration) (names : List (List ℕ)) (usable : (x : List �
     expression _ _ (a_member e k y q) h = (expression e y q (no_front _ _ h), tt)
     expression _ _ (a_sum a b x y q r) h = (refl, expression a x q (no_front _ _ h), expression b y r (no_back _ _ h))
 
-    fields : (fs : Placed t.fields) (y : c.Tree c.fields) → First t.fields fs y → faults_in around t.fields fs ≡ [] → Guest names c.fields y
+    fields : (fs : Placed t.fields) (y : c.Tree c.fields) → First t.fields fs y → faults_in around t.fields fs ≡ [] → IsGuest c.fields y
     fields _ _ no_fields h = tt
     fields _ _ (more_fields k e fs x y is_key q r) h =
         let front = no_front _ _ h in
         (guest_key k (no_front _ _ (no_front _ _ front)) is_key, expression e x q (no_back _ _ front), fields fs y r (no_back _ _ h))
 
-  value : (m : Placed t.maybe_expr) (y : c.Tree c.maybe_expr) → First t.maybe_expr m y → faults_in around t.maybe_expr m ≡ [] → Guest names c.maybe_expr y
+  value : (m : Placed t.maybe_expr) (y : c.Tree c.maybe_expr) → First t.maybe_expr m y → faults_in around t.maybe_expr m ≡ [] → IsGuest c.maybe_expr y
   unfolding faults_in
   value _ _ no_expr h = tt
   value _ _ (some_expr e y q) h = expression e y q h
 
-  items : (is : Placed t.items) (y : c.Tree c.items) → First t.items is y → faults_in around t.items is ≡ [] → ((k : List ℕ) → is_among (guest.item_names y) k ≡ true → is_among names k ≡ true) → Guest names c.items y
+  items : (is : Placed t.items) (y : c.Tree c.items) → First t.items is y → faults_in around t.items is ≡ [] → ((k : List ℕ) → is_among (guest.item_names y) k ≡ true → is_among names k ≡ true) → IsGuest c.items y
   unfolding faults_in
   items _ _ no_items h d = tt
   items _ _ (more_items x m is a b is_free q r) h d =
       let front = no_front _ _ h in
-      (d x.text (left_there _ _ (same_key-refl x.text)), guest_name x (no_front _ _ (no_front _ _ (no_front _ _ front))) is_free, value m a q (no_back _ _ front), items is b r (no_back _ _ h) (λ k there. d k (right_there (same_units k x.text) _ there)))
+      let there = d x.text (left_there _ _ (same_key-refl x.text)) in
+      (there, there, guest_name x (no_front _ _ (no_front _ _ (no_front _ _ front))) is_free, value m a q (no_back _ _ front), items is b r (no_back _ _ h) (λ k there. d k (right_there (same_units k x.text) _ there)))
 
-  stmt : (s : Placed t.stmt) (y : c.Tree c.stmt) → First t.stmt s y → faults_in around t.stmt s ≡ [] → ((k : List ℕ) → is_among (guest.declared_by y) k ≡ true → is_among names k ≡ true) → Guest names c.stmt y
+  stmt : (s : Placed t.stmt) (y : c.Tree c.stmt) → First t.stmt s y → faults_in around t.stmt s ≡ [] → ((k : List ℕ) → is_among (guest.declared_by y) k ≡ true → is_among names k ≡ true) → IsGuest c.stmt y
   unfolding faults_in
   stmt _ _ (variables is y q) h d = items is y q h d
   stmt _ _ (a_statement e y q) h d = expression e y q h
 
-  stmts : (ss : Placed t.stmts) (y : c.Tree c.stmts) → First t.stmts ss y → faults_in around t.stmts ss ≡ [] → ((k : List ℕ) → is_among (guest.declared y) k ≡ true → is_among names k ≡ true) → Guest names c.stmts y
+  stmts : (ss : Placed t.stmts) (y : c.Tree c.stmts) → First t.stmts ss y → faults_in around t.stmts ss ≡ [] → ((k : List ℕ) → is_among (guest.declared y) k ≡ true → is_among names k ≡ true) → IsGuest c.stmts y
   unfolding faults_in
   stmts _ _ no_stmts h d = tt
   stmts _ _ (more_stmts s ss a b q r) h d =

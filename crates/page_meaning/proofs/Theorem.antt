@@ -5,15 +5,14 @@ use Rattle.plans.specs.Plans.{over, stopped, out}
 use Rattle.matching.specs.Sentences.{IsFinished}
 use Rattle.es3_language.specs.Meaning as Target
 use Rattle.cajita_tree.specs.Tree as c
-use Rattle.first_meaning.specs.Direct as Source
-use Rattle.first_meaning.specs.Direct.{direct_run}
+use Rattle.cajita_meaning.specs.Direct as Source
 use Rattle.cajita_rewrite.specs.Rewrite.{program_of}
 use Rattle.module_loader.specs.Page.{Kept, module_run}
 use Rattle.page_runner.specs.declared.End.TheVariants.{Convert, Steps}
 use Rattle.page_runner.specs.Log.{run_log, run_end, page_log, page_end}
 use Rattle.cajita_simulation.specs.Guest.{GuestModule}
 use Rattle.cajita_simulation.specs.Alike.{most_steps}
-use Rattle.cajita_simulation.specs.Correct.{EndAlike, Correct}
+use Rattle.cajita_simulation.specs.Correct.{direct_run, EndAlike, Correct}
 use Rattle.cajita_simulation.proofs.Theorem.{correct}
 use Rattle.page_meaning.specs.DirectLog.{load_end, direct_log, direct_end}
 use Rattle.page_meaning.specs.Means.{EndsAfter, ShowsTheSame, IsFront, SourceMeans}

@@ -2,11 +2,11 @@
 use Rattle.std.specs.Prelude.{◌≡◌, ◌≢◌, ◌≤◌, ℕ, ◌+◌, ◌*◌, List, ◌++◌}
 use Rattle.plans.specs.Plans.{count_of}
 use Rattle.cajita_tree.specs.Tree as c
-use Rattle.first_meaning.specs.Direct.{direct_run}
 use Rattle.cajita_rewrite.specs.Rewrite.{program_of}
 use Rattle.page_runner.specs.declared.End.TheVariants.{Convert, Steps}
 use Rattle.page_runner.specs.Log.{page_log, page_end}
 use Rattle.cajita_simulation.specs.Alike.{most_steps}
+use Rattle.cajita_simulation.specs.Correct.{direct_run}
 use Rattle.page_meaning.specs.DirectLog.{direct_log, direct_end}
 
 -- the direct run with n steps comes to its end, or stops for good, after c of them

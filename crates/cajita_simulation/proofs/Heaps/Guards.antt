@@ -13,31 +13,31 @@ use Rattle.es3_heap.specs.Reading.{property}
 use Rattle.es3_language.specs.Store.{Store}
 use Rattle.es3_language.specs.References.{member, get_member}
 use Rattle.es3_language.specs.Meaning.{Env, Plan, native_call, called, do_call}
-use Rattle.module_loader.specs.Opened.{opened, runtime_id}
+use Rattle.heap_rows.specs.Opening.{first, runtime_id, load_module, initialize_map, read_public}
 use Rattle.cajita_simulation.proofs.Heaps.Opened.{IsOpened, get_first}
 
 -- a member of the runtime's object is the function of a row of the guards, which has no name in the log
 pub record IsGuard (guard : List ℕ) (row : ℕ) : Type 0 where
   pub object : ℕ
   pub within : object < 16
-  pub member : own opened runtime_id guard ≡ Some (property guard (Obj object) hidden_attrs)
-  pub callable : callable_of (object_at opened object) ≡ Some (record { kind = Simple row; maker = 0 })
-  pub unnamed : tag_of (object_at opened object) ≡ tag.None
+  pub member : own first runtime_id guard ≡ Some (property guard (Obj object) hidden_attrs)
+  pub callable : callable_of (object_at first object) ≡ Some (record { kind = Simple row; maker = 0 })
+  pub unnamed : tag_of (object_at first object) ≡ tag.None
 
-pub load_module-guard : IsGuard (codes "loadModule") 0
-unfolding opened
+pub load_module-guard : IsGuard (codes "loadModule") load_module
+unfolding first
 load_module-guard = record { object = 13; within = lit< tt; member = refl; callable = refl; unnamed = refl }
 
-pub initialize_map-guard : IsGuard (codes "initializeMap") 5
-unfolding opened
+pub initialize_map-guard : IsGuard (codes "initializeMap") initialize_map
+unfolding first
 initialize_map-guard = record { object = 14; within = lit< tt; member = refl; callable = refl; unnamed = refl }
 
-pub read_pub-guard : IsGuard (codes "readPub") 7
-unfolding opened
+pub read_pub-guard : IsGuard (codes "readPub") read_public
+unfolding first
 read_pub-guard = record { object = 15; within = lit< tt; member = refl; callable = refl; unnamed = refl }
 
-runtime_unnamed : tag_of (object_at opened runtime_id) ≡ tag.None
-unfolding opened
+runtime_unnamed : tag_of (object_at first runtime_id) ≡ tag.None
+unfolding first
 runtime_unnamed = refl
 
 -- the runtime's object has no name in the log

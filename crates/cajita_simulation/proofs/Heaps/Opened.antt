@@ -8,17 +8,17 @@ use Rattle.es3_heap.specs.declared.value.Proto.TheVariants as proto
 use Rattle.es3_heap.specs.Objects.{Property, Object, Objects, object_at, with_object}
 use Rattle.es3_heap.specs.Properties.{find, own, or_else, lookup_from, lookup, get}
 use Rattle.es3_heap.specs.Making.{bare, proto_id}
-use Rattle.module_loader.specs.Opened.{opened}
+use Rattle.heap_rows.specs.Opening.{first}
 use Rattle.cajita_simulation.proofs.Heaps.Lists.{slice_get-push-other}
 use Rattle.cajita_simulation.proofs.Heaps.Made.{grown, with_named}
 
 pub record IsOpened (h : Objects) : Type 0 where
-  pub first : (i : ℕ) → i < 16 → object_at h i ≡ object_at opened i
+  pub first : (i : ℕ) → i < 16 → object_at h i ≡ object_at first i
   pub large : 16 ≤ length h.list
 
-pub opened-opened : IsOpened opened
-unfolding opened
-opened-opened = record { first = λ i less. refl; large = lit< tt }
+pub first-opened : IsOpened first
+unfolding first
+first-opened = record { first = λ i less. refl; large = lit< tt }
 
 -- a new last object keeps them, whatever is counted
 pub opened_grown : (h : Objects) (x : Object) (counts : List ℕ) → IsOpened h → IsOpened (grown h x counts)
@@ -33,7 +33,7 @@ opened_kept h o is = opened_grown h o h.counts is
 pub opened_kept-named : (h : Objects) (o : Object) (m : ℕ) → IsOpened h → IsOpened (with_named h o m)
 opened_kept-named h o m is = opened_grown h _ _ is
 
-pub first_at : (h : Objects) (i : ℕ) (x : Object) → IsOpened h → i < 16 → object_at opened i ≡ Some x → object_at h i ≡ Some x
+pub first_at : (h : Objects) (i : ℕ) (x : Object) → IsOpened h → i < 16 → object_at first i ≡ Some x → object_at h i ≡ Some x
 first_at h i x is less there = is.first i less ∙ there
 
 -- an object's own property is found
@@ -42,7 +42,7 @@ lookup_from-own zero h o k p some here = absurd (omega arith)
 lookup_from-own (suc n) h o k p some here = rw here refl
 
 -- of the first objects the own properties are read as they were
-pub get_first : (h : Objects) (i : ℕ) (k : List ℕ) (p : Property) → IsOpened h → i < 16 → own opened i k ≡ Some p → get h i k ≡ p.value
+pub get_first : (h : Objects) (i : ℕ) (k : List ℕ) (p : Property) → IsOpened h → i < 16 → own first i k ≡ Some p → get h i k ≡ p.value
 get_first h i k p is less here =
     let same : own h i k ≡ Some p = rw (is.first i less) here in
     rw (lookup_from-own (length h.list) h i k p (omega (arith, is.large)) same) refl
@@ -53,15 +53,15 @@ above_bare : (n : ℕ) (h : Objects) (o : ℕ) (c : Class) (q : Option ℕ) (k :
 above_bare n h o c q k there = rw there refl
 
 none_above-object : (n : ℕ) (h : Objects) (k : List ℕ) → IsOpened h → lookup_from (suc n) h (Some 0) k ≡ None
-unfolding opened
+unfolding first
 none_above-object n h k is = above_bare n h 0 class.Object None k (is.first 0 (lit< tt))
 
 none_above-error : (n : ℕ) (h : Objects) (k : List ℕ) → IsOpened h → lookup_from (suc (suc n)) h (Some 6) k ≡ None
-unfolding opened
+unfolding first
 none_above-error n h k is = above_bare (suc n) h 6 class.Object (Some 0) k (is.first 6 (lit< tt)) ∙ none_above-object n h k is
 
 pub none_above : (p : Proto) (n : ℕ) (h : Objects) (k : List ℕ) → IsOpened h → lookup_from (suc (suc (suc n))) h (Some (proto_id p)) k ≡ None
-unfolding opened
+unfolding first
 none_above proto.Object n h k is = none_above-object (suc (suc n)) h k is
 none_above proto.Function n h k is = above_bare (suc (suc n)) h 1 class.Object (Some 0) k (is.first 1 (lit< tt)) ∙ none_above-object (suc n) h k is
 none_above proto.Array n h k is = above_bare (suc (suc n)) h 2 class.Object (Some 0) k (is.first 2 (lit< tt)) ∙ none_above-object (suc n) h k is

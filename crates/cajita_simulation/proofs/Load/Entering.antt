@@ -1,86 +1,140 @@
--- What the interpreter enters from the program of a module to the first statement of its function.
-use Rattle.std.proofs.Common.{◌≡◌, ℕ, suc, List, [], ◌∷◌, length, Some, None, refl, sym, ◌∙◌, subst}
-use Rattle.std.specs.Prelude.{codes, true}
+-- What the interpreter enters from the program of a module to the first statement of its function, whatever ran before.
+use Rattle.std.proofs.Common.{◌≡◌, ℕ, suc, true, List, [], ◌∷◌, length, Option, Some, None, refl, sym, ap, ◌∙◌, subst, arith, lit<}
+use Rattle.std.specs.Prelude.{codes}
 use Rattle.plans.specs.Plans.{bind}
 use Rattle.matching.specs.Sides.{Match}
 use Rattle.matching.proofs.Rules.{right_enter}
 use Rattle.es3_tree.specs.Tree as t
 use Rattle.es3_heap.specs.declared.value.Value.TheVariants as es
-use Rattle.es3_heap.specs.Objects.{object_at, class_of}
-use Rattle.es3_language.specs.Store.{with_code}
-use Rattle.es3_language.specs.References.{member}
+use Rattle.es3_heap.specs.Objects.{Object, Objects, hidden_attrs, object_at, class_of, callable_of, with_object}
+use Rattle.es3_heap.specs.Properties.{own, lookup, value_of, get}
+use Rattle.es3_heap.specs.Reading.{property}
+use Rattle.es3_language.specs.Store as store
+use Rattle.es3_language.specs.Store.{Store, Code, activation, with_heap, with_code, first_names}
+use Rattle.es3_language.specs.Hoisting.{functions_of, code_of}
+use Rattle.es3_language.specs.References.{member, named, global_name}
+use Rattle.es3_language.specs.Expressions.{apply_callable}
 use Rattle.es3_language.specs.Meaning as Target
-use Rattle.cajita_rewrite.specs.Rewrite.{runtime_name, imports_name, single, load_stmt}
 use Rattle.cajita_tree.specs.Tree as c
-use Rattle.first_meaning.specs.Direct as Source
-use Rattle.first_meaning.specs.Direct.{Item}
-use Rattle.module_loader.specs.Opened.{opened, runtime_id, globals_id}
-use Rattle.module_loader.specs.Page.{page_table, first_store, first_kept}
-use Rattle.cajita_simulation.specs.Guest.{Guest}
-use Rattle.cajita_simulation.proofs.Heaps.Opened.{opened-opened}
+use Rattle.rows.specs.Nodes.{Rules}
+use Rattle.cajita_rewrite.specs.Rewrite.{runtime_name, imports_name, result_name, rewritten, joined, result_stmts, declares, single, load_stmt}
+use Rattle.cajita_meaning.specs.Direct.{Item}
+use Rattle.heap_rows.specs.Opening.{first, runtime_id, imports_id, globals_id, load_module}
+use Rattle.module_loader.specs.Page.{page_table, first_kept}
+use Rattle.module_loader.specs.Page as page
+use Rattle.row_simulation.specs.Correspond.{EsValue}
+use Rattle.cajita_simulation.specs.Guest.{Names as KnownNames, Guest, declared}
+use Rattle.cajita_simulation.proofs.Heaps.Lists.{slice_get-push}
+use Rattle.cajita_simulation.proofs.Heaps.Opened.{IsOpened, lookup_from-own}
 use Rattle.cajita_simulation.proofs.Heaps.Grown.{grown_last, grown_kept}
 use Rattle.cajita_simulation.proofs.Heaps.Functions.{function_new, function_object, prototype_object, opened_kept-function}
 use Rattle.cajita_simulation.proofs.Heaps.Guards.{load_module-guard, guard_call}
-use Rattle.cajita_simulation.proofs.Heaps.Natives.{loads}
-use Rattle.cajita_simulation.proofs.Relation.{EsValue}
+use Rattle.cajita_simulation.proofs.Doing as Source
 use Rattle.cajita_simulation.proofs.Laws.{Cont', sides}
-use Rattle.cajita_simulation.proofs.Load.Opening.{made_store, module_store, module_body, statements, code_is}
+use Rattle.cajita_simulation.proofs.Load.Names.{own_kept, no_functions}
 
--- where the program stands, and the statements of its function
-abbrev pub outer : ℕ → Target.Env
-outer by = record { chain = []; calls = 0; by = by; this = globals_id }
+-- the statements of the module's function behind `var moduleResult___;`
+abbrev pub statements : c.Tree c.stmts → t.Tree t.stmts
+statements list = joined (rewritten c.stmts list) result_stmts
 
-abbrev pub inner : ℕ → Target.Env
-inner by = record { chain = 0 ∷ []; calls = 1; by = by; this = globals_id }
+abbrev pub module_body : c.Tree c.stmts → t.Tree t.stmts
+module_body list = t.more_stmts (declares result_name) (statements list)
+
+-- the function of the module: it declares the module's result and the variables, and no function
+abbrev pub module_code : c.Tree c.stmts → Code
+module_code list = record { params = runtime_name ∷ imports_name ∷ []; vars = result_name ∷ declared list; functions = []; body = module_body list; chain = [] }
+
+pub code_is : (vars free : KnownNames) (list : c.Tree c.stmts) → Guest vars free c.stmts list → code_of (t.fun None (runtime_name ∷ imports_name ∷ []) (module_body list)) [] ≡ module_code list
+code_is vars free list guest =
+    ap (λ names. code names (functions_of (statements list))) (own_kept vars free list guest) ∙ ap (code (declared list)) (no_functions list)
+  where
+    code : List (List ℕ) → List (t.Tree t.func) → Code
+    code names functions = record { params = runtime_name ∷ imports_name ∷ []; vars = result_name ∷ names; functions = functions; body = module_body list; chain = [] }
+
+abbrev pub first_values : List EsValue
+first_values = es.Obj runtime_id ∷ es.Obj imports_id ∷ []
+
+-- the store with the function, and then with its scope
+abbrev pub made_store : ℕ → c.Tree c.stmts → Store → Store
+made_store by list s = with_code (module_code list) by s
+
+abbrev pub module_store : ℕ → c.Tree c.stmts → Store → Store
+module_store by list s =
+    store.with_scope (activation (es.Obj (length s.heap.list)) (module_code list).params first_values) (first_names (module_code list) first_values) (made_store by list s)
+
+-- where its statements stand
+abbrev pub inner : ℕ → Store → Target.Env
+inner by s = record { chain = length s.scopes ∷ []; calls = 1; by = by; this = s.globals }
 
 -- the name of the runtime's object is a global one
-runtime_global : (by : ℕ) → Target.name_value_plan runtime_name (outer by) first_store ≡ Target.give (es.Obj runtime_id) first_store
-unfolding opened
-runtime_global by = refl
 
--- the function is the object behind those of the opening
-function_at : (by : ℕ) (list : c.Tree c.stmts) → object_at (made_store by list).heap (length opened.list) ≡ Some (function_object 0 2 by (suc (length opened.list)))
-function_at by list =
-    let f = function_object 0 2 by (suc (length opened.list)) in
-    let g = Rattle.es3_heap.specs.Objects.with_object opened f in
-    subst (λ h. object_at h (length opened.list) ≡ Some f) (sym (function_new 0 2 by opened))
-    (grown_kept g (prototype_object (length opened.list)) g.counts (length opened.list) f (grown_last opened f opened.counts))
+global_there : own first globals_id (codes "___") ≡ Some (property (codes "___") (es.Obj runtime_id) hidden_attrs)
+unfolding first
+global_there = refl
+
+runtime_found : (h : Objects) → IsOpened h → lookup h globals_id (codes "___") ≡ Some (property (codes "___") (es.Obj runtime_id) hidden_attrs)
+runtime_found h is =
+    let there : own h globals_id (codes "___") ≡ Some (property (codes "___") (es.Obj runtime_id) hidden_attrs) = rw (is.first globals_id (lit< tt)) global_there in
+    lookup_from-own (length h.list) h globals_id (codes "___") _ (omega (arith, is.large)) there
+
+runtime_global : (by : ℕ) (s : Store) → IsOpened s.heap → s.globals ≡ globals_id → Target.name_value_plan runtime_name (Target.outermost by s) s ≡ Target.give (es.Obj runtime_id) s
+runtime_global by s is global =
+    let found : lookup s.heap s.globals (codes "___") ≡ Some (property (codes "___") (es.Obj runtime_id) hidden_attrs) = rw global (runtime_found s.heap is) in
+    let ref : global_name s runtime_name ≡ named s.globals runtime_name = rw found refl in
+    let got : get s.heap s.globals runtime_name ≡ es.Obj runtime_id = ap value_of found in
+    ap (λ r. Target.read_plan (Target.outermost by s) r s) ref ∙ ap (λ v. Target.give v s) got
+
+-- the function is behind the objects that there were
+function_at : (by : ℕ) (list : c.Tree c.stmts) (s : Store) → object_at (made_store by list s).heap (length s.heap.list) ≡ Some (function_object (length s.codes) 2 by (suc (length s.heap.list)))
+function_at by list s =
+    let f = function_object (length s.codes) 2 by (suc (length s.heap.list)) in
+    let g = with_object s.heap f in
+    subst (λ h. object_at h (length s.heap.list) ≡ Some f) (sym (function_new (length s.codes) 2 by s.heap))
+    (grown_kept g (prototype_object (length s.heap.list)) g.counts (length s.heap.list) f (grown_last s.heap f s.heap.counts))
 
 -- `loadModule` calls it, and keeps what was kept
-load_is : (by : ℕ) (list : c.Tree c.stmts) → Target.task_plan page_table (Target.native_call 0 (es.Obj runtime_id) (es.Obj (length opened.list) ∷ []) (outer by)) (made_store by list) first_kept ≡ Target.list true (module_body list) None (inner by) (module_store by list) Target.body_end
-load_is by list =
-    loads (es.Obj runtime_id) (length opened.list) (outer by) (made_store by list) first_kept (rw (function_at by list) refl)
-    ∙ rw (function_at by list) refl
 
-load_keeps : (by : ℕ) (list : c.Tree c.stmts) → Target.task_state page_table (Target.native_call 0 (es.Obj runtime_id) (es.Obj (length opened.list) ∷ []) (outer by)) (made_store by list) first_kept ≡ first_kept
-load_keeps by list = subst (λ o. (Rattle.module_loader.specs.Page.loads (class_of o) (length opened.list) by (made_store by list).heap first_kept).state ≡ first_kept) (sym (function_at by list)) refl
+abbrev load_task : ℕ → Store → Target.Task
+load_task by s = Target.native_call load_module (es.Obj runtime_id) (es.Obj (length s.heap.list) ∷ []) (Target.outermost by s)
+
+load_is : (by : ℕ) (list : c.Tree c.stmts) (s : Store) → Target.task_plan page_table (load_task by s) (made_store by list s) first_kept ≡ Target.list true (module_body list) None (inner by s) (module_store by list s) Target.body_end
+load_is by list s =
+    let made = made_store by list s in
+    let f = length s.heap.list in
+    let env = Target.outermost by s in
+    let turn : (o : Option Object) → Target.Plan = λ o. let q = page.loads (class_of o) f by made.heap first_kept in Target.reply_plan q.reply env (with_heap made q.heap) in
+    let entered : (o : Option Object) → Target.Plan = λ o. apply_callable (callable_of o) (es.Obj f) es.Undefined first_values env made in
+    let opened : (o : Option Code) → Target.Plan = λ o. Target.open_code o by (es.Obj f) s.globals first_values 0 made Target.body_end in
+    ap turn (function_at by list s) ∙ ap entered (function_at by list s) ∙ ap opened (slice_get-push s.codes (module_code list))
+
+load_keeps : (by : ℕ) (list : c.Tree c.stmts) (s : Store) → Target.task_state page_table (load_task by s) (made_store by list s) first_kept ≡ first_kept
+load_keeps by list s = subst (λ o. (page.loads (class_of o) (length s.heap.list) by (made_store by list s).heap first_kept).state ≡ first_kept) (sym (function_at by list s)) refl
 
 -- what goes on after the call of `loadModule`
 abbrev pub after_load : Cont' → Cont'
 after_load next' e s = bind (Target.on_value_of Target.to_normal e s) next'
 
-called : {by d : ℕ} (list : c.Tree c.stmts) {p : Source.Plan} {z : List Item} {n : ℕ} (next' : Cont') → Match (sides by) d p z n (bind (Target.list true (module_body list) None (inner by) (module_store by list) Target.body_end) next') first_kept 6 → Match (sides by) d p z n (bind (Target.do_call (Target.called (member (es.Obj runtime_id) (codes "loadModule"))) (es.Obj (length opened.list) ∷ []) (outer by) (made_store by list)) next') first_kept 5
-called {by = by} {d = d} list {p = p} {z = z} {n = n} next' f =
-    let s = made_store by list in
-    let vs : List EsValue = es.Obj (length opened.list) ∷ [] in
-    let task : Target.Task = Target.native_call 0 (es.Obj runtime_id) vs (outer by) in
-    subst (λ q. Match (sides by) d p z n (bind q next') first_kept 5) (sym (guard_call (codes "loadModule") 0 load_module-guard vs (outer by) s (opened_kept-function 0 2 by opened opened-opened)))
+called : (rules : Rules) {by d : ℕ} (list : c.Tree c.stmts) (s : Store) {p : Source.Plan} {z : List Item} {n m : ℕ} (next' : Cont') → IsOpened s.heap → Match (sides rules) d p z n (bind (Target.list true (module_body list) None (inner by s) (module_store by list s) Target.body_end) next') first_kept (suc m) → Match (sides rules) d p z n (bind (Target.do_call (Target.called (member (es.Obj runtime_id) (codes "loadModule"))) (es.Obj (length s.heap.list) ∷ []) (Target.outermost by s) (made_store by list s)) next') first_kept m
+called rules {by = by} {d = d} list s {p = p} {z = z} {n = n} {m = m} next' is f =
+    let made = made_store by list s in
+    let vs : List EsValue = es.Obj (length s.heap.list) ∷ [] in
+    subst (λ q. Match (sides rules) d p z n (bind q next') first_kept m) (sym (guard_call (codes "loadModule") load_module load_module-guard vs (Target.outermost by s) made (opened_kept-function (length s.codes) 2 by s.heap is)))
     (right_enter
-    (subst (λ y. Match (sides by) d p z n (bind (Target.task_plan page_table task s first_kept) next') y 6) (sym (load_keeps by list))
-    (subst (λ q. Match (sides by) d p z n (bind q next') first_kept 6) (sym (load_is by list)) f)))
+    (subst (λ y. Match (sides rules) d p z n (bind (Target.task_plan page_table (load_task by s) made first_kept) next') y (suc m)) (sym (load_keeps by list s))
+    (subst (λ q. Match (sides rules) d p z n (bind q next') first_kept (suc m)) (sym (load_is by list s)) f)))
 
 -- `var moduleResult___;`
-declares_result : {by d : ℕ} (list : c.Tree c.stmts) {p : Source.Plan} {z : List Item} {n : ℕ} (next' : Cont') → Match (sides by) d p z n (bind (Target.list true (statements list) None (inner by) (module_store by list) Target.body_end) next') first_kept 7 → Match (sides by) d p z n (bind (Target.list true (module_body list) None (inner by) (module_store by list) Target.body_end) next') first_kept 6
-declares_result list next' f = right_enter f
+declares_result : (rules : Rules) {by d : ℕ} (list : c.Tree c.stmts) (s : Store) {p : Source.Plan} {z : List Item} {n m : ℕ} (next' : Cont') → Match (sides rules) d p z n (bind (Target.list true (statements list) None (inner by s) (module_store by list s) Target.body_end) next') first_kept (suc m) → Match (sides rules) d p z n (bind (Target.list true (module_body list) None (inner by s) (module_store by list s) Target.body_end) next') first_kept m
+declares_result rules list s next' f = right_enter f
 
--- the statement of the program, the member, the name, the function, the call of `loadModule`, and `var moduleResult___;`
-pub enters : {by d : ℕ} (vars : List (List ℕ)) (list : c.Tree c.stmts) {p : Source.Plan} {z : List Item} {n : ℕ} (next' : Cont') → Guest vars c.stmts list
-    → Match (sides by) d p z n (bind (Target.list true (statements list) None (inner by) (module_store by list) Target.body_end) (after_load next')) first_kept 7
-    → Match (sides by) d p z n (bind (Target.stmt_plan (load_stmt (module_body list)) [] (outer by) first_store) next') first_kept 1
-enters {by = by} {d = d} vars list {p = p} {z = z} {n = n} next' guest f =
+-- the call, the member, the name, the function, `loadModule` itself, and `var moduleResult___;`
+pub enters : (rules : Rules) {by d : ℕ} (vars free : KnownNames) (list : c.Tree c.stmts) (s : Store) {p : Source.Plan} {z : List Item} {n m : ℕ} (next' : Cont') → Guest vars free c.stmts list → IsOpened s.heap → s.globals ≡ globals_id
+    → Match (sides rules) d p z n (bind (Target.list true (statements list) None (inner by s) (module_store by list s) Target.body_end) (after_load next')) first_kept (suc (suc (suc (suc (suc (suc m))))))
+    → Match (sides rules) d p z n (bind (Target.stmt_plan (load_stmt (module_body list)) [] (Target.outermost by s) s) next') first_kept m
+enters rules {by = by} {d = d} vars free list s {p = p} {z = z} {n = n} {m = m} next' guest is global f =
     let args = single (t.function (t.fun None (runtime_name ∷ imports_name ∷ []) (module_body list))) in
     right_enter (right_enter (right_enter
-    (subst (λ q. Match (sides by) d p z n (bind q (λ e s1. bind (Target.on_value_of (Target.dot_target (codes "loadModule")) e s1) (λ e1 s2. bind (Target.on_target_of (Target.after_callee args (outer by)) e1 s2) (after_load next')))) first_kept 4) (sym (runtime_global by))
+    (subst (λ q. Match (sides rules) d p z n (bind q (λ e s1. bind (Target.on_value_of (Target.dot_target (codes "loadModule")) e s1) (λ e1 s2. bind (Target.on_target_of (Target.after_callee args (Target.outermost by s)) e1 s2) (after_load next')))) first_kept (suc (suc (suc m)))) (sym (runtime_global by s is global))
     (right_enter
-    (subst (λ q. Match (sides by) d p z n (bind (Target.do_call (Target.called (member (es.Obj runtime_id) (codes "loadModule"))) (es.Obj (length opened.list) ∷ []) (outer by) (with_code q by first_store)) (after_load next')) first_kept 5) (sym (code_is vars list guest))
-    (called list (after_load next') (declares_result list (after_load next') f)))))))
+    (subst (λ q. Match (sides rules) d p z n (bind (Target.do_call (Target.called (member (es.Obj runtime_id) (codes "loadModule"))) (es.Obj (length s.heap.list) ∷ []) (Target.outermost by s) (with_code q by s)) (after_load next')) first_kept (suc (suc (suc (suc m))))) (sym (code_is vars free list guest))
+    (called rules list s (after_load next') is (declares_result rules list s (after_load next') f)))))))

@@ -10,22 +10,65 @@ use Rattle.es3_language.specs.Store.{Names, name_value, with_vars, with_params}
 use Rattle.es3_language.specs.Hoisting.{vars_in, vars_of, functions_of, own_vars}
 use Rattle.es3_language.specs.Arguments.{is_arguments}
 use Rattle.cajita_tree.specs.Tree as c
-use Rattle.first_meaning.specs.World.{undefined, value_at, undefined_names}
+use Rattle.cajita_meaning.specs.World as world
+use Rattle.cajita_meaning.specs.World.{undefined, value_at}
 use Rattle.cajita_rewrite.specs.Rewrite.{runtime_name, imports_name, result_name, rewritten, joined, result_stmts}
-use Rattle.module_loader.specs.Opened.{runtime_id, imports_id}
-use Rattle.cajita_simulation.specs.Guest.{is_among, Guest, item_names, declared_by, declared}
-use Rattle.cajita_simulation.proofs.Relation.{EsValue}
+use Rattle.heap_rows.specs.Opening.{runtime_id, imports_id}
+use Rattle.cajita_simulation.specs.Guest.{Names as KnownNames, is_among, Guest, item_names, declared_by, declared}
+use Rattle.row_simulation.specs.Correspond.{EsValue}
 
 -- one of the names has the value undefined
 abbrev pub undefined_value : {V : Type 0} → V → Bool → Option V
 undefined_value v known = cond known (Some v) None
 
-pub value_at-undefined : (x : List ℕ) (vars : List (List ℕ)) → value_at x (undefined_names vars) ≡ undefined_value undefined (is_among vars x)
-value_at-undefined x [] = refl
-value_at-undefined x (y ∷ ys) = elim (same_units x y) as (λ b. cond b (Some undefined) (value_at x (undefined_names ys)) ≡ undefined_value undefined (b || is_among ys x)) [
-  | true ↦ refl
-  | false ↦ value_at-undefined x ys
+-- a scope of the world with more names behind it
+
+value_at-before : (x : List ℕ) (scope more : world.Pairs) (v : world.Value) → value_at x scope ≡ Some v → value_at x (scope ++ more) ≡ Some v
+value_at-before x [] more v h = cc
+value_at-before x ((z, w) ∷ rest) more v h =
+    let cases = elim (same_units x z) as (λ b. cond b (Some w) (value_at x rest) ≡ Some v → cond b (Some w) (value_at x (rest ++ more)) ≡ Some v) [
+      | true ↦ λ h. h
+      | false ↦ λ h. value_at-before x rest more v h
+    ] in cases h
+
+value_at-behind : (x : List ℕ) (scope more : world.Pairs) → value_at x scope ≡ None → value_at x (scope ++ more) ≡ value_at x more
+value_at-behind x [] more h = refl
+value_at-behind x ((z, w) ∷ rest) more h =
+    let cases = elim (same_units x z) as (λ b. cond b (Some w) (value_at x rest) ≡ None → cond b (Some w) (value_at x (rest ++ more)) ≡ value_at x more) [
+      | true ↦ λ h. cc
+      | false ↦ λ h. value_at-behind x rest more h
+    ] in cases h
+
+-- a variable that has a value keeps it
+value_at-bound : (x : List ℕ) (vars : List (List ℕ)) (scope : world.Pairs) (v : world.Value) → value_at x scope ≡ Some v → value_at x (world.with_vars vars scope) ≡ Some v
+value_at-bound x [] scope v h = h
+value_at-bound x (y ∷ ys) scope v h = elim (is_some (value_at y scope)) as (λ b. value_at x (world.with_vars ys (cond b scope (scope ++ (y, undefined) ∷ []))) ≡ Some v) [
+  | true ↦ value_at-bound x ys scope v h
+  | false ↦ value_at-bound x ys (scope ++ (y, undefined) ∷ []) v (value_at-before x scope ((y, undefined) ∷ []) v h)
 ]
+
+-- another is undefined where it is declared
+value_at-unbound : (x : List ℕ) (vars : List (List ℕ)) (scope : world.Pairs) → value_at x scope ≡ None → value_at x (world.with_vars vars scope) ≡ undefined_value undefined (is_among vars x)
+value_at-unbound x [] scope h = h
+value_at-unbound x (y ∷ ys) scope h =
+    let more : world.Pairs = scope ++ (y, undefined) ∷ [] in
+    let new : (b : Bool) → same_units x y ≡ b → value_at x more ≡ undefined_value undefined b = λ b is. value_at-behind x scope ((y, undefined) ∷ []) h ∙ ap (λ q. undefined_value undefined q) is in
+    let cases = elim (same_units x y) as (λ b. same_units x y ≡ b → value_at x (world.with_vars ys (cond (is_some (value_at y scope)) scope more)) ≡ undefined_value undefined (b || is_among ys x)) [
+      | true ↦ λ is.
+          let bare : value_at y scope ≡ None = subst (λ k. value_at k scope ≡ None) (same_text x y (sym is)) h in
+          rw bare (value_at-bound x ys more undefined (new true is))
+      | false ↦ λ is. elim (is_some (value_at y scope)) as (λ q. value_at x (world.with_vars ys (cond q scope more)) ≡ undefined_value undefined (is_among ys x)) [
+        | true ↦ value_at-unbound x ys scope h
+        | false ↦ value_at-unbound x ys more (new false is)
+      ]
+    ] in cases refl
+
+-- the variables of a module, each undefined
+abbrev pub first_pairs : List (List ℕ) → world.Pairs
+first_pairs vars = world.with_vars vars (world.with_params [] [] [])
+
+pub value_at-undefined : (x : List ℕ) (vars : List (List ℕ)) → value_at x (first_pairs vars) ≡ undefined_value undefined (is_among vars x)
+value_at-undefined x vars = value_at-unbound x vars [] refl
 
 -- a scope with more names behind it
 
@@ -98,20 +141,20 @@ own_append (x ∷ xs) ys = elim (is_arguments x) as (λ b. cond b (own_vars (xs 
   | false ↦ ap (λ (l : List (List ℕ)). x ∷ l) (own_append xs ys)
 ]
 
-own_items : (vars : List (List ℕ)) (is : c.Tree c.items) → Guest vars c.items is → own_vars (item_names is) ≡ item_names is
-own_items vars c.no_items g = refl
-own_items vars (c.more_items x e rest) g = rw g.1.own_name (ap (λ (l : List (List ℕ)). x ∷ l) (own_items vars rest g.3))
+own_items : (vars free : KnownNames) (is : c.Tree c.items) → Guest vars free c.items is → own_vars (item_names is) ≡ item_names is
+own_items vars free c.no_items g = refl
+own_items vars free (c.more_items x e rest) g = rw g.2.own_name (ap (λ (l : List (List ℕ)). x ∷ l) (own_items vars free rest g.4))
 
-own_by : (vars : List (List ℕ)) (x : c.Tree c.stmt) → Guest vars c.stmt x → own_vars (declared_by x) ≡ declared_by x
-own_by vars (c.var is) g = own_items vars is g
-own_by vars _ g = refl
+own_by : (vars free : KnownNames) (x : c.Tree c.stmt) → Guest vars free c.stmt x → own_vars (declared_by x) ≡ declared_by x
+own_by vars free (c.var is) g = own_items vars free is g
+own_by vars free _ g = refl
 
-own_declared : (vars : List (List ℕ)) (ss : c.Tree c.stmts) → Guest vars c.stmts ss → own_vars (declared ss) ≡ declared ss
-own_declared vars c.no_stmts g = refl
-own_declared vars (c.more_stmts x ss) g = own_append (declared_by x) (declared ss) ∙ ap (λ l. l ++ own_vars (declared ss)) (own_by vars x g.0) ∙ ap (λ l. declared_by x ++ l) (own_declared vars ss g.1)
+own_declared : (vars free : KnownNames) (ss : c.Tree c.stmts) → Guest vars free c.stmts ss → own_vars (declared ss) ≡ declared ss
+own_declared vars free c.no_stmts g = refl
+own_declared vars free (c.more_stmts x ss) g = own_append (declared_by x) (declared ss) ∙ ap (λ l. l ++ own_vars (declared ss)) (own_by vars free x g.0) ∙ ap (λ l. declared_by x ++ l) (own_declared vars free ss g.1)
 
-pub own_kept : (vars : List (List ℕ)) (ss : c.Tree c.stmts) → Guest vars c.stmts ss → own_vars (vars_of (joined (rewritten c.stmts ss) result_stmts)) ≡ declared ss
-own_kept vars ss g = ap own_vars (vars_kept ss) ∙ own_declared vars ss g
+pub own_kept : (vars free : KnownNames) (ss : c.Tree c.stmts) → Guest vars free c.stmts ss → own_vars (vars_of (joined (rewritten c.stmts ss) result_stmts)) ≡ declared ss
+own_kept vars free ss g = ap own_vars (vars_kept ss) ∙ own_declared vars free ss g
 
 -- no statement declares a function
 

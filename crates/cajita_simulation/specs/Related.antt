@@ -1,0 +1,109 @@
+-- When the world of the direct meaning and the store of the interpreter are related, with the steps that both took.
+use Rattle.std.specs.Prelude.{◌≡◌, ℕ, ◌+◌, ◌*◌, ◌≤◌, ◌<◌, true, false, List, [], ◌∷◌, length, Some, slice_get, is_some}
+use Rattle.caja_units.specs.Units.{is_hidden}
+use Rattle.es3_heap.specs.declared.value.FuncKind.TheVariants as kind
+use Rattle.es3_heap.specs.Objects as heap
+use Rattle.es3_heap.specs.Objects.{Objects}
+use Rattle.es3_heap.specs.Properties.{own}
+use Rattle.es3_language.specs.Store.{Store, name_value}
+use Rattle.es3_language.specs.Hoisting.{code_of}
+use Rattle.es3_language.specs.Arguments.{is_fixed}
+use Rattle.es3_language.specs.References.{slot, resolve}
+use Rattle.es3_language.specs.Meaning as Target
+use Rattle.cajita_tree.specs.Tree as c
+use Rattle.rows.specs.Nodes.{Rules}
+use Rattle.cajita_rewrite.specs.Rewrite.{rewritten, runtime_name}
+use Rattle.cajita_meaning.specs.World.{made_name, Object, a_closure, World}
+use Rattle.cajita_meaning.specs.Direct.{Item, printed, Around}
+use Rattle.heap_rows.specs.Marks.{simple_mark}
+use Rattle.heap_rows.specs.Doing.{Page}
+use Rattle.heap_rows.specs.Opening.{first, place_of, globals_id}
+use Rattle.module_loader.specs.Page.{Kept, first_kept}
+use Rattle.row_simulation.specs.Correspond.{Named, ObjectsAre}
+use Rattle.row_simulation.specs.RowLaw.{PagesAre}
+use Rattle.cajita_simulation.specs.Guest.{Names, Guest}
+use Rattle.cajita_simulation.specs.Alike.{shown}
+use Rattle.cajita_simulation.specs.Scopes.{Tags, Chained, Temps, no_temps, names_at, ScopesAre}
+
+-- where a form stands: what is the same for its page; its surroundings and its module; the scopes around it in the interpreter; the names that it may read and
+-- those that it may write; the scope of the activation, which has the temporaries; the object that is `this` in the interpreter
+pub record Here : Type 0 where
+  pub rules : Rules
+  pub around : Around
+  pub by : ℕ
+  pub chain : List ℕ
+  pub vars : Names
+  pub free : Names
+  pub act : ℕ
+  pub this : ℕ
+
+abbrev pub env_of : Here → Target.Env
+env_of H = record { chain = H.chain; calls = H.around.calls; by = H.by; this = H.this }
+
+-- where names are found: facts that no change takes away
+
+abbrev pub Within : List ℕ → ℕ → Type 0
+Within [] n = Unit {0}
+Within (c ∷ cs) n = (c < n) × Within cs n
+
+-- a name is found in a scope, in which it may be written where it is one that may be
+pub record Place (free : Names) (chain : List ℕ) (s : Store) (x : List ℕ) : Type 0 where
+  pub scope : ℕ
+  pub below : scope < length s.scopes
+  pub at : resolve chain s x ≡ slot scope x
+  pub written : free x ≡ true → is_fixed (slice_get s.scopes scope) ≡ false
+
+-- along a chain the names are found, and the runtime's object; it is the module's chain on the other side
+pub record Captured (vars free : Names) (by : ℕ) (g : Tags) (direct chain : List ℕ) (s : Store) : Type 0 where
+  pub chained : Chained g by direct chain
+  pub within : Within chain (length s.scopes)
+  pub names : (x : List ℕ) → vars x ≡ true → Place free chain s x
+  pub runtime : ℕ
+  pub runtime_below : runtime < length s.scopes
+  pub runtime_at : resolve chain s runtime_name ≡ slot runtime runtime_name
+  pub runtime_bound : is_some (name_value runtime_name (names_at s runtime)) ≡ true
+
+-- and an activation whose hidden names are found in it
+pub record In (H : Here) (g : Tags) (s : Store) : Type 0 where
+  pub captured : Captured H.vars H.free H.by g H.around.chain H.chain s
+  pub act : H.act < length s.scopes
+  pub written : is_fixed (slice_get s.scopes H.act) ≡ false
+  pub temps : (x : List ℕ) → is_hidden x ≡ true → is_some (name_value x (names_at s H.act)) ≡ true → resolve H.chain s x ≡ slot H.act x
+
+-- a closure's code is the rewriting of its function, in the scopes that are those around the closure, along which its free names are found; and it has the mark
+-- of a function that may be called by itself
+pub record CodeIs (by : ℕ) (g : Tags) (s : Store) (f : c.Tree c.func) (direct : List ℕ) (i : ℕ) : Type 0 where
+  pub number : ℕ
+  pub callable : heap.callable_of (heap.object_at s.heap i) ≡ Some (record { kind = kind.Code number; maker = by })
+  pub chain : List ℕ
+  pub code : slice_get s.codes number ≡ Some (code_of (rewritten c.func f) chain)
+  pub simple : is_some (own s.heap i simple_mark) ≡ true
+  pub vars : Names
+  pub free : Names
+  pub captured : Captured vars free by g direct chain s
+  pub guest : Guest vars free c.func f
+
+abbrev pub ClosuresAre : (ℕ → List Object) → Tags → Store → Type 0
+ClosuresAre objects g s = (m n i : ℕ) (f : c.Tree c.func) (chain : List ℕ) → m < 64 → slice_get (objects m) n ≡ Some (a_closure f chain) → Named s.heap (made_name m n) i → CodeIs m g s f chain i
+
+-- all of both sides but the place where a form stands: what the log prints is the same, objects, closures, scopes and what a page keeps beside them correspond; and
+-- of 64 steps of the interpreter for each of the direct meaning, k are in hand
+pub record Related (T : Temps) (k : ℕ) (w : World) (z : List Item) (n : ℕ) (g : Tags) (s : Store) (y : Kept) (m : ℕ) : Type 0 where
+  pub steps : m + k ≤ 64 * n
+  pub items : printed z ≡ shown y
+  pub objects : ObjectsAre first place_of w.objects s.heap m
+  pub page : Page
+  pub pages : PagesAre s.heap w page
+  pub closures : ClosuresAre w.objects g s
+  pub scopes : ScopesAre T g w.scopes s
+  pub globals : s.globals ≡ globals_id
+  pub kept : y ≡ first_kept
+
+-- between two turns nothing is known of temporaries, and no step is in hand
+abbrev pub Between : World → List Item → ℕ → Tags → Store → Kept → ℕ → Type 0
+Between w z n g s y m = Related no_temps 0 w z n g s y m
+
+-- at the place where a form stands
+pub record Rel (H : Here) (T : Temps) (k : ℕ) (w : World) (z : List Item) (n : ℕ) (g : Tags) (s : Store) (y : Kept) (m : ℕ) : Type 0 where
+  pub all : Related T k w z n g s y m
+  pub here : In H g s

@@ -1,4 +1,0 @@
-pub mod World
-pub mod Public
-pub mod Sums
-pub mod Direct
