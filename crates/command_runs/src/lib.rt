@@ -1,5 +1,5 @@
 //! Runs of the top call over given bytes, for worked rows.
 #![tactic(auto)]
 
-pub mod tables;
 pub mod runs;
+pub mod tables;

@@ -138,7 +138,8 @@ fn keys_after(alloc: Global, heap: &mut Heap, keys: &[&str]) -> Result<Value, St
     };
     for name in ["x", "x__"] {
         let key = Units::from_ascii(alloc, name.as_bytes()).map_err(out_of_memory)?;
-        heap.put(*o, &key, Value::Bool(true)).map_err(out_of_memory)?;
+        heap.put(*o, &key, Value::Bool(true))
+            .map_err(out_of_memory)?;
     }
     for key in keys {
         let _value = read(alloc, heap, &x, key)?;
