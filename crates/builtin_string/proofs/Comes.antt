@@ -1,0 +1,28 @@
+-- What a method of texts comes to at a text, and at another receiver.
+use Rattle.std.proofs.Common.{◌≡◌, ℕ, List, Result, sym, subst, refl, ◌∙◌}
+use Rattle.std.specs.Prelude.{codes}
+use Rattle.plans.specs.Plans.{Fault}
+use Rattle.es3_heap.specs.declared.value.Stop.{Stop}
+use Rattle.es3_heap.specs.declared.value.Value.{Value}
+use Rattle.es3_heap.specs.declared.value.Value.TheVariants as v
+use Rattle.es3_heap.specs.Objects.{Objects}
+use Rattle.es3_convert.specs.Answers.{Answers}
+use Rattle.heap_rows.specs.Doing.{Done}
+use Rattle.row_outcomes.specs.declared.Outcome.{Outcome}
+use Rattle.row_outcomes.specs.Comes.{Comes, throws}
+use Rattle.row_outcomes.specs.Arguments.{told, outcome_of, text_method}
+use Rattle.row_outcomes.proofs.Told.{told_comes}
+
+pub at_text : (d : Done) (this : Value) (by : ℕ) (h : Objects) (answer : List ℕ → Result Value Fault) (us : List ℕ) (a : Result Value Stop) (r : Result Outcome Stop)
+    → d ≡ text_method this by h answer → this ≡ v.Text us → Answers a (answer us) → r ≡ outcome_of a → Comes d r h
+at_text d this by h answer us a r row is answers same =
+    let whole : d ≡ told (answer us) h = subst (λ x. d ≡ text_method x by h answer) is row in
+    rw whole (told_comes a r (answer us) h answers same)
+
+other_thrown : (this : Value) (by : ℕ) (h : Objects) (answer : List ℕ → Result Value Fault) → ((us : List ℕ) → this ≡ v.Text us → ⊥) → text_method this by h answer ≡ throws (codes "bad receiver") by h
+other_thrown (v.Text us) by h answer other = absurd (other us refl)
+other_thrown x by h answer other = refl
+
+pub at_other : (d : Done) (this : Value) (by : ℕ) (h g : Objects) (answer : List ℕ → Result Value Fault) (r : Result Outcome Stop)
+    → d ≡ text_method this by h answer → ((us : List ℕ) → this ≡ v.Text us → ⊥) → Comes (throws (codes "bad receiver") by h) r g → Comes d r g
+at_other d this by h g answer r row other thrown = rw (row ∙ other_thrown this by h answer other) thrown

@@ -1,0 +1,3 @@
+pub mod Comes
+pub mod Rows
+pub mod Units

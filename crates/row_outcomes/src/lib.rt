@@ -1,0 +1,90 @@
+//! What a built-in function comes to, and how that stands to its row among objects.
+//!
+//! `Comes` (specs/Comes.antt) ties an outcome to a row: the answer and the objects that are left are the row's; that memory is wanting says nothing. What the
+//! row touches is told by the natives that the function is among.
+#![tactic(auto)]
+
+ghost use Rattle.std.specs.Prelude.{◌≡◌, ◌≤◌, IfOk, OnOk, length, unwrap_or, slice_get};
+ghost use Rattle.es3_heap.specs.Objects.{with_object};
+ghost use Rattle.es3_heap.specs.Making.{error_object, named};
+ghost use Rattle.es3_convert.specs.Answers.{Answers};
+ghost use Rattle.row_outcomes.specs.Comes.{Comes, throws};
+ghost use Rattle.row_outcomes.specs.Arguments.{argument, number_argument, outcome_of};
+
+use caja_num::Whole;
+use caja_units::{Memory, Units};
+use es3_convert::{out_of_memory, to_number};
+use es3_heap::{Heap, ObjId, Proto, Stop, Value};
+use std::alloc::Global;
+
+/// What a built-in function comes to, where the run does not stop.
+#[derive(Debug, Drop)]
+pub enum Outcome {
+    Value(Value),
+    Throw(Value),
+    /// A call in its place: whether it is recorded, the function, the receiver and the arguments.
+    Invoke(bool, Value, Value, Vec<Value>),
+}
+
+/// A value by its place, from 0, or what stands for one that is absent (ES3 10.1.3).
+pub fn value_or<'a>(values: &'a [Value], n: usize, absent: &'a Value) -> &'a Value
+    ensures { result.now ≡ unwrap_or (slice_get values.now n) absent.now }
+{
+    match values.get(n) {
+        Some(value) => value,
+        None => absent,
+    }
+}
+
+/// The number of an argument by its place, from 0, or another one where it is absent or undefined (ES3 9.3).
+///
+/// # Errors
+///
+/// As `to_number`.
+pub fn number_or(
+    alloc: Global,
+    h: &Heap,
+    args: &[Value],
+    n: usize,
+    default: Whole,
+) -> Result<Whole, Stop>
+    ensures { Answers result (number_argument default (argument n args.now) h.now) }
+{
+    match value_or(args, n, &Value::Undefined) {
+        Value::Undefined => Ok(default),
+        value => to_number(alloc, h, value),
+    }
+}
+
+/// What a value is to a caller, or the stop in its place.
+pub fn outcome_of(value: Result<Value, Stop>) -> Result<Outcome, Stop>
+    ensures { result ≡ outcome_of value }
+{
+    Ok(Outcome::Value(value?))
+}
+
+/// A new TypeError with this message (ES3 15.11.6.5), made by the running module.
+fn type_error(alloc: Global, h: &mut Heap, by: u32, message: &[u8]) -> Result<ObjId, Memory>
+    ensures id { IfOk result (λ o. o ≡ length h.old.list) }
+    ensures store { OnOk result (h.new ≡ (throws message.now by h.old).heap) }
+    ensures live { length h.old.list ≤ length h.new.list }
+{
+    let name = Units::from_ascii(alloc, b"TypeError")?;
+    let message = Units::from_ascii(alloc, message)?;
+    let error = h.make_error(Proto::TypeError, name, message)?;
+    h.name_next(error, by);
+    Ok(error)
+}
+
+/// Throws a new TypeError with this message, made by the running module, which then has that module's next name.
+///
+/// # Errors
+///
+/// `Stop::Memory` where memory is wanting.
+pub fn thrown(alloc: Global, h: &mut Heap, by: u32, message: &[u8]) -> Result<Outcome, Stop>
+    ensures outcome { Comes (throws message.now by h.old) result h.new }
+    ensures live { length h.old.list ≤ length h.new.list }
+{
+    let error = type_error(alloc, h, by, message).map_err(out_of_memory)?;
+    Ok(Outcome::Throw(Value::Obj(error)))
+}
