@@ -1,0 +1,119 @@
+//! `Object`, `Function`, `Array`, and the methods of the prototype of Object (ES3 15.2 to 15.4).
+
+ghost use Rattle.std.specs.Prelude.{◌≡◌, ◌≤◌, IfOk, OnOk, length};
+ghost use Rattle.es3_heap.specs.Objects.{with_object};
+ghost use Rattle.es3_heap.specs.Making.{array_object, named};
+ghost use Rattle.row_outcomes.specs.Comes.{Comes};
+ghost use Rattle.row_outcomes.specs.Arguments.{argument};
+ghost use Rattle.global_names.specs.Objects.{new_object, object_from, function_from, array_of, array_from, to_text, to_value};
+
+use caja_units::Memory;
+use es3_convert::{out_of_memory, to_text};
+use es3_heap::{Class, Heap, ObjId, Proto, Stop, Value};
+use row_outcomes::{Outcome, thrown, value_or};
+use std::alloc::Global;
+
+/// A new object without properties, made by the running module.
+fn make_object(h: &mut Heap, by: u32) -> Result<ObjId, Memory>
+    ensures id { IfOk result (λ o. o ≡ length h.old.list) }
+    ensures store { OnOk result (h.new ≡ (new_object by h.old).heap) }
+    ensures live { length h.old.list ≤ length h.new.list }
+{
+    let proto = h.proto(Proto::Object);
+    let object = h.make(Class::Object, Some(proto))?;
+    h.name_next(object, by);
+    Ok(object)
+}
+
+/// A new object without properties.
+fn new_object(h: &mut Heap, by: u32) -> Result<Outcome, Stop>
+    ensures outcome { Comes (new_object by h.old) result h.new }
+    ensures live { length h.old.list ≤ length h.new.list }
+{
+    let object = make_object(h, by).map_err(out_of_memory)?;
+    Ok(Outcome::Value(Value::Obj(object)))
+}
+
+/// `Object(v)` (ES3 15.2.1.1, 15.2.2.1): a new object for no value, `undefined` and `null`, and an object itself. It throws a
+/// TypeError `not allowed` for another value.
+pub fn object_from(alloc: Global, h: &mut Heap, by: u32, args: &[Value]) -> Result<Outcome, Stop>
+    ensures outcome { Comes (object_from by (argument 0 args.now) h.old) result h.new }
+    ensures live { length h.old.list ≤ length h.new.list }
+{
+    match value_or(args, 0, &Value::Undefined) {
+        Value::Undefined | Value::Null => new_object(h, by),
+        Value::Obj(o) => Ok(Outcome::Value(Value::Obj(*o))),
+        _ => thrown(alloc, h, by, b"not allowed"),
+    }
+}
+
+/// `Function(..)` (ES3 15.3.1.1, 15.3.2.1) throws a TypeError `not allowed`.
+pub fn function_from(alloc: Global, h: &mut Heap, by: u32) -> Result<Outcome, Stop>
+    ensures outcome { Comes (function_from by h.old) result h.new }
+    ensures live { length h.old.list ≤ length h.new.list }
+{
+    thrown(alloc, h, by, b"not allowed")
+}
+
+/// Copies of values.
+fn copies(alloc: Global, values: &[Value]) -> Result<Vec<Value>, Memory>
+    ensures { IfOk result (λ v. v.items ≡ values.now) }
+{
+    let mut copies = Vec::with_capacity(alloc, values.len())?;
+    for value in values {
+        copies.push(value.copy(alloc)?)?;
+    }
+    Ok(copies)
+}
+
+/// A new array of some values, made by the running module.
+fn make_array(alloc: Global, h: &mut Heap, by: u32, values: &[Value]) -> Result<ObjId, Memory>
+    ensures id { IfOk result (λ o. o ≡ length h.old.list) }
+    ensures store { OnOk result (h.new ≡ named (with_object h.old (array_object values.now)) (length h.old.list) by) }
+    ensures live { length h.old.list ≤ length h.new.list }
+{
+    let items = copies(alloc, values)?;
+    let array = h.make_array(items)?;
+    h.name_next(array, by);
+    Ok(array)
+}
+
+/// A new array of some values, which are fewer than 2^32.
+fn array_of(alloc: Global, h: &mut Heap, by: u32, values: &[Value]) -> Result<Outcome, Stop>
+    ensures outcome { Comes (array_of by values.now h.old) result h.new }
+    ensures live { length h.old.list ≤ length h.new.list }
+{
+    if values.len() > u32::MAX as usize {
+        return Err(Stop::Number);
+    }
+    let array = make_array(alloc, h, by, values).map_err(out_of_memory)?;
+    Ok(Outcome::Value(Value::Obj(array)))
+}
+
+/// `Array(..)` (ES3 15.4.1.1, 15.4.2.1): an array of the arguments. It throws a TypeError `not allowed` for one number alone,
+/// and the run stops where the arguments are 2^32 or more.
+pub fn array_from(alloc: Global, h: &mut Heap, by: u32, args: &[Value]) -> Result<Outcome, Stop>
+    ensures outcome { Comes (array_from by args.now h.old) result h.new }
+    ensures live { length h.old.list ≤ length h.new.list }
+{
+    match args {
+        [Value::Num(_)] => thrown(alloc, h, by, b"not allowed"),
+        _ => array_of(alloc, h, by, args),
+    }
+}
+
+/// `toString()` (ES3 15.2.4.2): the text of the receiver. The run stops where it has none.
+pub fn to_string(alloc: Global, h: &Heap, this: &Value) -> Result<Outcome, Stop>
+    ensures { Comes (to_text this.now h.now) result h.now }
+{
+    let text = to_text(alloc, h, this)?;
+    Ok(Outcome::Value(Value::Text(text)))
+}
+
+/// `valueOf()` (ES3 15.2.4.4): the receiver.
+pub fn value_of(alloc: Global, h: &Heap, this: &Value) -> Result<Outcome, Stop>
+    ensures { Comes (to_value this.now h.now) result h.now }
+{
+    let value = this.copy(alloc).map_err(out_of_memory)?;
+    Ok(Outcome::Value(value))
+}
