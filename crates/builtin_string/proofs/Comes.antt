@@ -10,7 +10,7 @@ use Rattle.es3_convert.specs.Answers.{Answers}
 use Rattle.heap_rows.specs.Doing.{Done}
 use Rattle.row_outcomes.specs.declared.Outcome.{Outcome}
 use Rattle.row_outcomes.specs.Comes.{Comes, throws}
-use Rattle.row_outcomes.specs.Arguments.{told, outcome_of, text_method}
+use Rattle.row_outcomes.specs.Arguments.{told, outcome_of, at_text as done_at, text_method}
 use Rattle.row_outcomes.proofs.Told.{told_comes}
 
 pub at_text : (d : Done) (this : Value) (by : ℕ) (h : Objects) (answer : List ℕ → Result Value Fault) (us : List ℕ) (a : Result Value Stop) (r : Result Outcome Stop)
@@ -18,6 +18,11 @@ pub at_text : (d : Done) (this : Value) (by : ℕ) (h : Objects) (answer : List 
 at_text d this by h answer us a r row is answers same =
     let whole : d ≡ told (answer us) h = subst (λ x. d ≡ text_method x by h answer) is row in
     rw whole (told_comes a r (answer us) h answers same)
+
+-- what is done at a text, and at another receiver
+pub done_at_text : (d : Done) (this : Value) (by : ℕ) (h g : Objects) (done : List ℕ → Done) (us : List ℕ) (r : Result Outcome Stop)
+    → d ≡ done_at this by h done → this ≡ v.Text us → Comes (done us) r g → Comes d r g
+done_at_text d this by h g done us r row is comes = rw (row, is) comes
 
 other_thrown : (this : Value) (by : ℕ) (h : Objects) (answer : List ℕ → Result Value Fault) → ((us : List ℕ) → this ≡ v.Text us → ⊥) → text_method this by h answer ≡ throws (codes "bad receiver") by h
 other_thrown (v.Text us) by h answer other = absurd (other us refl)
