@@ -24,10 +24,14 @@ pub done_at_text : (d : Done) (this : Value) (by : ℕ) (h g : Objects) (done : 
     → d ≡ done_at this by h done → this ≡ v.Text us → Comes (done us) r g → Comes d r g
 done_at_text d this by h g done us r row is comes = rw (row, is) comes
 
-other_thrown : (this : Value) (by : ℕ) (h : Objects) (answer : List ℕ → Result Value Fault) → ((us : List ℕ) → this ≡ v.Text us → ⊥) → text_method this by h answer ≡ throws (codes "bad receiver") by h
-other_thrown (v.Text us) by h answer other = absurd (other us refl)
-other_thrown x by h answer other = refl
+other_thrown : (this : Value) (by : ℕ) (h : Objects) (done : List ℕ → Done) → ((us : List ℕ) → this ≡ v.Text us → ⊥) → done_at this by h done ≡ throws (codes "bad receiver") by h
+other_thrown (v.Text us) by h done other = absurd (other us refl)
+other_thrown x by h done other = refl
+
+pub done_at_other : (d : Done) (this : Value) (by : ℕ) (h g : Objects) (done : List ℕ → Done) (r : Result Outcome Stop)
+    → d ≡ done_at this by h done → ((us : List ℕ) → this ≡ v.Text us → ⊥) → Comes (throws (codes "bad receiver") by h) r g → Comes d r g
+done_at_other d this by h g done r row other thrown = rw (row ∙ other_thrown this by h done other) thrown
 
 pub at_other : (d : Done) (this : Value) (by : ℕ) (h g : Objects) (answer : List ℕ → Result Value Fault) (r : Result Outcome Stop)
     → d ≡ text_method this by h answer → ((us : List ℕ) → this ≡ v.Text us → ⊥) → Comes (throws (codes "bad receiver") by h) r g → Comes d r g
-at_other d this by h g answer r row other thrown = rw (row ∙ other_thrown this by h answer other) thrown
+at_other d this by h g answer r row other thrown = done_at_other d this by h g (λ us. told (answer us) h) r row other thrown

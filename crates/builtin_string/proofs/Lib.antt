@@ -1,4 +1,4 @@
 pub mod Comes
 pub mod Rows
 pub mod Units
-pub mod Places
+pub mod Standing

@@ -32,13 +32,14 @@ fn pieces_between(alloc: Global, text: &Units, separator: &Units) -> Result<Vec<
     requires { separator.now ≢ [] }
     ensures { IfOk result (λ pieces. pieces.items ≡ map v.Text (split_by separator.now text.now)) }
 {
+    let count = text.len();
     let mut pieces = Vec::new(alloc);
     let mut from = 0;
     while let Some(place) = text.index_of(separator, from) {
         pieces.push(Value::Text(text.slice(alloc, from, place)?))?;
         from = place + separator.len();
     }
-    pieces.push(Value::Text(text.slice(alloc, from, text.len())?))?;
+    pieces.push(Value::Text(text.slice(alloc, from, count)?))?;
     Ok(pieces)
 }
 

@@ -21,8 +21,11 @@ fn begins_at(text: &Units, part: &Units, place: usize) -> bool
     requires { place ≤ length text.now }
     ensures { result ≡ begins_with part.now (drop place text.now) }
 {
+    if text.len() - place < part.len() {
+        return false;
+    }
     for at in 0..part.len() {
-        if text.at(place + at) != part.at(at) {
+        if part.at(at) != text.at(place + at) {
             return false;
         }
     }
