@@ -1,5 +1,5 @@
 -- Conversions of values (ES3 9) and the operator that rests on them alone, `+` (11.6.1). A conversion runs no code of a text.
-use Rattle.std.specs.Prelude.{ℕ, zero, suc, ◌+◌, ℤ, pos, Bool, ◌&&◌, not, List, [], ◌∷◌, ◌++◌, Option, Some, None, is_some, Result, Ok, Err, codes, if◌then◌else◌}
+use Rattle.std.specs.Prelude.{ℕ, zero, suc, ◌+◌, ℤ, pos, Bool, false, ◌&&◌, List, [], ◌∷◌, ◌++◌, Option, Some, None, option_map, nat_eq, Result, Ok, Err, codes, if◌then◌else◌}
 use Rattle.plans.specs.Plans.{Fault, number_fault, depth_fault, convert_fault}
 use Rattle.caja_num.specs.Numbers.{sum}
 use Rattle.caja_units.specs.Index.{number_units}
@@ -8,8 +8,10 @@ use Rattle.es3_heap.specs.declared.value.Value.{Value}
 use Rattle.es3_heap.specs.declared.value.Value.TheVariants as v
 use Rattle.es3_heap.specs.declared.value.Class.{Class}
 use Rattle.es3_heap.specs.declared.value.Class.TheVariants as class
-use Rattle.es3_heap.specs.Objects.{Objects, object_at, class_of}
-use Rattle.es3_heap.specs.Properties.{own, lookup, value_of, length_key, length_of}
+use Rattle.es3_heap.specs.declared.value.FuncKind.{FuncKind}
+use Rattle.es3_heap.specs.declared.value.FuncKind.TheVariants as kind
+use Rattle.es3_heap.specs.Objects.{Objects, object_at, class_of, callable_of}
+use Rattle.es3_heap.specs.Properties.{own, get, value_of, length_key, length_of}
 
 -- a conversion, and then another
 abbrev pub and_then : {A B : Type 0} → Result A Fault → (A → Result B Fault) → Result B Fault
@@ -25,9 +27,25 @@ primitive_text (v.Num n) = number_text n
 primitive_text (v.Text us) = us
 primitive_text (v.Obj o) = []
 
--- an object has no `toString` and no `valueOf` of its own making, so its conversions are the built-in ones (8.6.2.6)
+-- the numbers of the built-in `toString` and `valueOf` (15.2.4.2, 15.2.4.4)
+abbrev pub to_string : ℕ
+to_string = 62
+
+abbrev pub value_of_object : ℕ
+value_of_object = 63
+
+-- whether a value is the built-in function of a number
+abbrev pub is_numbered : ℕ → Option FuncKind → Bool
+is_numbered n (Some (kind.Simple m)) = nat_eq m n
+is_numbered n k = false
+
+abbrev pub is_built_in : ℕ → Objects → Value → Bool
+is_built_in n h (v.Obj o) = is_numbered n (option_map (λ c. c.kind) (callable_of (object_at h o)))
+is_built_in n h x = false
+
+-- 8.6.2.6: no text's code runs in a conversion where an object's `toString` and its `valueOf`, as [[Get]] gives them, are the built-in ones
 abbrev pub converts : Objects → ℕ → Bool
-converts h o = not (is_some (lookup h o (codes "toString"))) && not (is_some (lookup h o (codes "valueOf")))
+converts h o = is_built_in to_string h (get h o (codes "toString")) && is_built_in value_of_object h (get h o (codes "valueOf"))
 
 -- n items of an array from an index on; a hole is undefined
 abbrev pub items_from : ℕ → ℕ → Objects → ℕ → List Value
@@ -43,14 +61,14 @@ item_text text v.Undefined = Ok []
 item_text text v.Null = Ok []
 item_text text x = text x
 
--- 15.4.4.5: the items with a comma before each, and between each two
-abbrev pub tail_text : (Value → Result (List ℕ) Fault) → List Value → Result (List ℕ) Fault
-tail_text text [] = Ok []
-tail_text text (x ∷ xs) = and_then (item_text text x) (λ us. and_then (tail_text text xs) (λ ws. Ok (codes "," ++ (us ++ ws))))
+-- 15.4.4.5: the items with a separator before each, and between each two
+abbrev pub tail_text : (Value → Result (List ℕ) Fault) → List ℕ → List Value → Result (List ℕ) Fault
+tail_text text sep [] = Ok []
+tail_text text sep (x ∷ xs) = and_then (item_text text x) (λ us. and_then (tail_text text sep xs) (λ ws. Ok (sep ++ (us ++ ws))))
 
-abbrev pub joined : (Value → Result (List ℕ) Fault) → List Value → Result (List ℕ) Fault
-joined text [] = Ok []
-joined text (x ∷ xs) = and_then (item_text text x) (λ us. and_then (tail_text text xs) (λ ws. Ok (us ++ ws)))
+abbrev pub joined : (Value → Result (List ℕ) Fault) → List ℕ → List Value → Result (List ℕ) Fault
+joined text sep [] = Ok []
+joined text sep (x ∷ xs) = and_then (item_text text x) (λ us. and_then (tail_text text sep xs) (λ ws. Ok (us ++ ws)))
 
 -- the text of an object whose conversions are the built-in ones, by its class (15.2.4.2, 15.3.4.2, 15.4.4.2)
 abbrev pub class_text : Result (List ℕ) Fault → Class → Result (List ℕ) Fault
@@ -61,7 +79,7 @@ class_text array c = Ok (codes "[object Object]")
 -- 9.8: ToString, where n arrays may still be nested in one another
 unfoldable pub text_within : ℕ → Objects → Value → Result (List ℕ) Fault
 text_within zero h (v.Obj o) = if converts h o then class_text (Err depth_fault) (class_of (object_at h o)) else Err convert_fault
-text_within (suc n) h (v.Obj o) = if converts h o then class_text (joined (text_within n h) (array_items h o)) (class_of (object_at h o)) else Err convert_fault
+text_within (suc n) h (v.Obj o) = if converts h o then class_text (joined (text_within n h) (codes ",") (array_items h o)) (class_of (object_at h o)) else Err convert_fault
 text_within n h x = Ok (primitive_text x)
 
 -- at most 32 arrays in one another

@@ -17,7 +17,7 @@ pub use compare::{less, loose_equal, strict_equal, to_bool};
 use es3_heap::Stop;
 pub use number::to_number;
 pub use sum::{add, to_primitive};
-pub use text::{index_key, number_text, to_text};
+pub use text::{TO_STRING, VALUE_OF, index_key, join, number_text, push_text, to_text};
 
 /// Want of memory stops the run.
 pub fn out_of_memory(_memory: Memory) -> Stop

@@ -5,21 +5,24 @@ ghost use Rattle.caja_units.specs.Index.{number_units};
 ghost use Rattle.caja_units.specs.Number.{number_text};
 ghost use Rattle.es3_heap.specs.Properties.{own, value_of};
 ghost use Rattle.es3_convert.specs.Answers.{Answers};
-ghost use Rattle.es3_convert.specs.Conversions.{primitive_text, converts, item_text, text_within, text_of};
-ghost use Rattle.es3_convert.specs.Texts.{separator, array_text, object_text};
+ghost use Rattle.es3_convert.specs.Conversions.{primitive_text, to_string, value_of_object, is_built_in, converts, array_items, item_text, joined, text_within, text_of};
+ghost use Rattle.es3_convert.specs.Texts.{before_item, array_text, object_text};
 
 use crate::array::{array_item, array_len};
 use crate::out_of_memory;
 use caja_num::Whole;
 use caja_units::{Memory, Units};
-use es3_heap::{Class, Heap, ObjId, Stop, Value};
+use es3_heap::{Class, FuncKind, Heap, ObjId, Stop, Value};
 use std::alloc::Global;
 
 /// How many arrays may be nested in one another.
 const MOST_NESTED: u32 = 32;
 
-/// What stands between two items.
-const COMMA: u16 = b',' as u16;
+/// The number of the built-in `toString` among the natives (ES3 15.2.4.2).
+pub const TO_STRING: u32 = 62;
+
+/// The number of the built-in `valueOf` (ES3 15.2.4.4).
+pub const VALUE_OF: u32 = 63;
 
 /// The text of a number (ES3 9.8.1).
 pub fn number_text(alloc: Global, n: Whole) -> Result<Units, Memory>
@@ -53,13 +56,27 @@ pub fn primitive_text(alloc: Global, v: &Value) -> Result<Units, Memory>
     }
 }
 
+/// Whether a value is the built-in function of a number.
+fn is_built_in(h: &Heap, v: &Value, number: u32) -> bool
+    ensures { result ≡ is_built_in number h.now v.now }
+{
+    match v {
+        Value::Obj(o) => match h.kind(*o) {
+            Some(FuncKind::Simple(other)) => other == number,
+            _ => false,
+        },
+        _ => false,
+    }
+}
+
 /// Whether an object's conversions are the built-in ones (ES3 8.6.2.6).
 fn converts(alloc: Global, h: &Heap, o: ObjId) -> Result<bool, Memory>
     ensures { IfOk result (λ b. b ≡ converts h.now o) }
 {
-    let to_string = Units::from_ascii(alloc, b"toString")?;
-    let value_of = Units::from_ascii(alloc, b"valueOf")?;
-    Ok(!h.has(o, &to_string) && !h.has(o, &value_of))
+    let text_key = Units::from_ascii(alloc, b"toString")?;
+    let value_key = Units::from_ascii(alloc, b"valueOf")?;
+    let has_text = is_built_in(h, h.get(o, &text_key), TO_STRING);
+    Ok(has_text && is_built_in(h, h.get(o, &value_key), VALUE_OF))
 }
 
 /// Appends a text.
@@ -75,11 +92,16 @@ pub fn push_text(units: &mut Vec<u16>, text: &Units) -> Result<(), Memory>
 }
 
 /// Appends the text of the item at an index to those of the items before it.
-fn push_item(units: &mut Vec<u16>, index: u64, text: &Units) -> Result<(), Memory>
-    ensures { OnOk result (units.new.items ≡ units.old.items ++ (separator index ++ text.now)) }
+fn push_item(
+    units: &mut Vec<u16>,
+    index: u64,
+    separator: &Units,
+    text: &Units,
+) -> Result<(), Memory>
+    ensures { OnOk result (units.new.items ≡ units.old.items ++ (before_item index separator.now ++ text.now)) }
 {
     if index > 0 {
-        units.push(COMMA)?;
+        push_text(units, separator)?;
     }
     push_text(units, text)
 }
@@ -96,10 +118,16 @@ fn item_text(alloc: Global, nested: u32, h: &Heap, o: ObjId, index: u64) -> Resu
     }
 }
 
-/// The items of an array with a comma between each two (ES3 15.4.4.5).
+/// The items of an array with a separator between each two (ES3 15.4.4.5).
 #[cycle(text)]
-fn array_text(alloc: Global, nested: u32, h: &Heap, o: ObjId) -> Result<Units, Stop>
-    ensures { Answers result (array_text nested h.now o) }
+fn array_text(
+    alloc: Global,
+    nested: u32,
+    separator: &Units,
+    h: &Heap,
+    o: ObjId,
+) -> Result<Units, Stop>
+    ensures { Answers result (array_text nested separator.now h.now o) }
 {
     if nested == 0 {
         return Err(Stop::Depth);
@@ -108,7 +136,7 @@ fn array_text(alloc: Global, nested: u32, h: &Heap, o: ObjId) -> Result<Units, S
     let mut units = Vec::new(alloc);
     for index in 0..count {
         let item = item_text(alloc, nested - 1, h, o, index)?;
-        push_item(&mut units, index, &item).map_err(out_of_memory)?;
+        push_item(&mut units, index, separator, &item).map_err(out_of_memory)?;
     }
     Units::from_units(alloc, &units).map_err(out_of_memory)
 }
@@ -122,7 +150,10 @@ fn object_text(alloc: Global, nested: u32, h: &Heap, o: ObjId) -> Result<Units, 
         return Err(Stop::Convert);
     }
     match h.class(o) {
-        Class::Array => array_text(alloc, nested, h, o),
+        Class::Array => {
+            let comma = Units::from_ascii(alloc, b",").map_err(out_of_memory)?;
+            array_text(alloc, nested, &comma, h, o)
+        }
         Class::Function => Units::from_ascii(alloc, b"[object Function]").map_err(out_of_memory),
         _ => Units::from_ascii(alloc, b"[object Object]").map_err(out_of_memory),
     }
@@ -140,9 +171,21 @@ fn text_within(alloc: Global, nested: u32, h: &Heap, v: &Value) -> Result<Units,
 }
 
 /// The text of a value (ES3 9.8). At most 32 arrays may be nested in one another, else the run stops (`Depth`); it stops
-/// too at an object that has a `toString` or a `valueOf` (`Convert`).
+/// too at an object whose `toString` or `valueOf` is not the built-in one (`Convert`).
 pub fn to_text(alloc: Global, h: &Heap, v: &Value) -> Result<Units, Stop>
     ensures { Answers result (text_of h.now v.now) }
 {
     text_within(alloc, MOST_NESTED, h, v)
+}
+
+/// The texts of an array's items with a separator between each two (ES3 15.4.4.5); an undefined item and `null` give nothing.
+/// The array itself counts among the 32 that may be nested in one another.
+///
+/// # Errors
+///
+/// As `to_text` of an item.
+pub fn join(alloc: Global, h: &Heap, o: ObjId, separator: &Units) -> Result<Units, Stop>
+    ensures { Answers result (joined (text_within 31 h.now) separator.now (array_items h.now o)) }
+{
+    array_text(alloc, MOST_NESTED, separator, h, o)
 }

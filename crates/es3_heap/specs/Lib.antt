@@ -2,5 +2,6 @@ pub mod Objects
 pub mod Properties
 pub mod Enumerating
 pub mod Making
+pub mod Items
 pub mod Reading
 pub mod Store

@@ -4,14 +4,15 @@ ghost use Rattle.std.specs.Prelude.{◌≡◌, ◌≤◌, IfOk, OnOk, OnErr, ◌
 ghost use Rattle.std.specs.Option.{option_copied};
 ghost use Rattle.es3_heap.specs.Objects.{object_at, props_of, proto_of, callable_of, tag_of, class_of, with_object};
 ghost use Rattle.es3_heap.specs.Properties.{own, lookup, get, can_put, put, define, can_delete, delete, with_props, lengthened, written};
+ghost use Rattle.es3_heap.specs.Items.{set_items};
 ghost use Rattle.es3_heap.specs.Enumerating.{own_keys, shadowed, added_keys, keys};
 ghost use Rattle.es3_heap.specs.Making.{proto_id, first_objects, new_objects, made, made_function, array_object, error_object, count_at, raised, with_tag, awaits_name, tagged, named};
 ghost use Rattle.es3_heap.specs.Reading.{property, kind_of, maker_of};
 
 use crate::object::{Callable, Object};
-use crate::slots;
 use crate::slots::Slot;
 use crate::value::{Attrs, Class, FuncKind, ObjId, Proto, Tag, Value};
+use crate::{items, slots};
 use caja_units::{Memory, Units};
 use std::alloc::Global;
 use std::marker::Model;
@@ -411,6 +412,20 @@ impl Heap {
     {
         let object = Object::array(self.alloc, &self.length_key, items)?;
         self.push(object)
+    }
+
+    /// Gives an array these items in the place of those that it had (ES3 15.4.5.1): one past the new length goes, the others
+    /// keep their places among the properties, and new ones go last. After want of memory its items are not known.
+    pub fn set_items(&mut self, o: ObjId, items: Vec<Value>) -> Result<(), Memory>
+        ensures store { OnOk result (self.new ≡ set_items self.old o items.items) }
+        ensures live { length self.new.list ≡ length self.old.list }
+    {
+        let at = o.number() as usize;
+        if at >= self.objects.len() {
+            return Ok(());
+        }
+        let object = &mut self.objects[at];
+        items::set_items(&mut object.slots, self.alloc, &self.length_key, items)
     }
 
     /// A new error with its name and message (ES3 15.11).

@@ -2,6 +2,7 @@
 #![tactic(auto)]
 
 mod heap;
+mod items;
 mod object;
 mod slots;
 mod value;

@@ -49,7 +49,7 @@ impl Model for Object {
 }
 
 /// A whole number that is small enough.
-fn whole(n: u64) -> Whole
+pub fn whole(n: u64) -> Whole
     requires { n < 2 ^ 53 }
     ensures { result ≡ pos n }
 {
@@ -57,7 +57,7 @@ fn whole(n: u64) -> Whole
 }
 
 /// The name that a number is (ES3 9.8.1).
-fn number_key(alloc: Global, n: u32) -> Result<Units, Memory>
+pub fn number_key(alloc: Global, n: u32) -> Result<Units, Memory>
     ensures { IfOk result (λ text. text ≡ number_units n) }
 {
     let text = format!(in alloc; "{n}")?;

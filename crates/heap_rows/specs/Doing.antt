@@ -1,9 +1,7 @@
 -- What a row does among the objects of ES3.
 use Rattle.std.specs.Prelude.{ℕ, Bool, true, false, ◌||◌, ◌&&◌, List, [], ◌∷◌, ◌++◌, Option, Some, None, Result, Ok, Err, is_some, not, length, nat_lt, nat_eq, slice_get, codes, map, if◌then◌else◌}
-use Rattle.std.specs.List.{filter}
 use Rattle.plans.specs.Plans.{Fault, number_fault}
-use Rattle.caja_units.specs.Units.{same_units, is_hidden}
-use Rattle.caja_units.specs.Index.{array_index}
+use Rattle.caja_units.specs.Units.{is_hidden}
 use Rattle.es3_heap.specs.declared.value.Value.{Value}
 use Rattle.es3_heap.specs.declared.value.Value.TheVariants as v
 use Rattle.es3_heap.specs.declared.value.Class.{Class}
@@ -15,9 +13,10 @@ use Rattle.es3_heap.specs.declared.value.Tag.TheVariants as tag
 use Rattle.es3_heap.specs.declared.value.Proto.{Proto}
 use Rattle.es3_heap.specs.declared.value.Proto.TheVariants as proto
 use Rattle.es3_heap.specs.Objects.{Property, Callable, Object, Objects, plain_attrs, hidden_attrs, object_at, props_of, class_of, callable_of, tag_of, with_object}
-use Rattle.es3_heap.specs.Properties.{own, value_of, put, delete, length_key, defined, with_props}
-use Rattle.es3_heap.specs.Making.{proto_id, array_object, error_object, named as with_name, length_property, item_properties}
-use Rattle.es3_convert.specs.Conversions.{text_of, array_items, text_within, item_text, and_then}
+use Rattle.es3_heap.specs.Properties.{own, value_of, put, delete, defined}
+use Rattle.es3_heap.specs.Items.{set_items}
+use Rattle.es3_heap.specs.Making.{proto_id, array_object, error_object, named as with_name}
+use Rattle.es3_convert.specs.Conversions.{text_of, array_items, text_within, joined}
 use Rattle.es3_convert.specs.Numbers.{number_of}
 use Rattle.es3_convert.specs.Comparisons.{strictly_equal}
 use Rattle.es3_language.specs.Natives.{Reply, value_reply, throw_reply, invoke_reply, stop_reply}
@@ -134,13 +133,6 @@ pairs_of h x = []
 abbrev pub record_object : List Property → Object
 record_object ps = record { class = class.Object; proto = Some (proto_id proto.Object); callable = None; tag = tag.None; props = ps }
 
--- an array's items, in the place of those that it had: its other properties stand behind them
-abbrev pub is_other : Property → Bool
-is_other p = not (is_some (array_index p.key) || same_units p.key length_key)
-
-abbrev pub set_items : Objects → ℕ → List Value → Objects
-set_items h o vs = with_props h o (object_at h o) (length_property (length vs) ∷ (item_properties 0 vs ++ filter is_other (props_of (object_at h o))))
-
 -- a change of what is a record, and of what is an array
 abbrev pub of_record : Class → Objects → Objects → Objects
 of_record class.Object g h = g
@@ -191,20 +183,12 @@ touched_value by t (v.Obj o) h k = told_of by t (tag_of (object_at h o)) k
 touched_value by t x h k = []
 
 -- the texts of an array's items with a text between
-abbrev pub tail_by : (Value → Result (List ℕ) Fault) → List ℕ → List Value → Result (List ℕ) Fault
-tail_by text sep [] = Ok []
-tail_by text sep (x ∷ xs) = and_then (item_text text x) (λ us. and_then (tail_by text sep xs) (λ ws. Ok (sep ++ (us ++ ws))))
-
-abbrev pub joined_by : (Value → Result (List ℕ) Fault) → List ℕ → List Value → Result (List ℕ) Fault
-joined_by text sep [] = Ok []
-joined_by text sep (x ∷ xs) = and_then (item_text text x) (λ us. and_then (tail_by text sep xs) (λ ws. Ok (us ++ ws)))
-
 abbrev pub joined_if : Result (List ℕ) Fault → Sight → Result (List ℕ) Fault
 joined_if array (r.an_array frozen xs) = array
 joined_if array s = Ok []
 
 abbrev pub joined_of : Objects → Value → List ℕ → Result (List ℕ) Fault
-joined_of h x sep = joined_if (joined_by (text_within 31 h) sep (see h 0 x).values) (see h 0 x).sight
+joined_of h x sep = joined_if (joined (text_within 31 h) sep (see h 0 x).values) (see h 0 x).sight
 
 -- what a page keeps beside its objects
 pub record Page : Type 0 where

@@ -10,6 +10,7 @@ use Rattle.es3_heap.specs.declared.value.Tag.TheVariants as tag
 use Rattle.es3_heap.specs.Objects.{Object, Objects, plain_attrs, hidden_attrs, with_object}
 use Rattle.es3_heap.specs.Properties.{define}
 use Rattle.es3_heap.specs.Making.{new_objects, made, made_function, tagged, proto_id}
+use Rattle.es3_convert.specs.Conversions.{to_string, value_of_object}
 use Rattle.rows.specs.Rows as r
 use Rattle.rows.specs.Names.{Tools, of_cajita, of_math, tools}
 use Rattle.heap_rows.specs.Marks.{freeze, frozen_mark}
@@ -18,7 +19,7 @@ use Rattle.heap_rows.specs.Doing.{Page}
 
 -- what has no name
 
--- a guard by its number, as a property of the runtime's object that `for in` passes over
+-- a function by its number, as a property of an object that `for in` passes over: a guard of the runtime's object
 abbrev pub with_guard : List ℕ → ℕ → ℕ → Objects → Objects
 with_guard name number runtime h = define (made_function (Simple number) 0 h) runtime name (Obj (length h.list)) hidden_attrs
 
@@ -49,13 +50,17 @@ abbrev pub with_guards : ℕ → Objects → Objects
 with_guards runtime h =
     with_guard (codes "readPub") read_public runtime (with_guard (codes "initializeMap") initialize_map runtime (with_guard (codes "loadModule") load_module runtime h))
 
+-- 15.2.4.2, 15.2.4.4: `toString` and `valueOf` of the prototype of Object
+abbrev pub with_conversions : Objects → Objects
+with_conversions h = with_guard (codes "valueOf") value_of_object (proto_id proto.Object) (with_guard (codes "toString") to_string (proto_id proto.Object) h)
+
 -- the only global name is `___`
 unfoldable pub first : Objects
-first = define (with_guards runtime_id (with_objects new_objects)) globals_id (codes "___") (Obj runtime_id) hidden_attrs
+first = with_conversions (define (with_guards runtime_id (with_objects new_objects)) globals_id (codes "___") (Obj runtime_id) hidden_attrs)
 
 -- so many objects have no name
 abbrev pub first_count : ℕ
-first_count = 16
+first_count = 18
 
 -- the built-ins
 
@@ -70,7 +75,7 @@ common =
 
 -- where each stands: behind the objects without a name, by its number
 abbrev pub place_of : r.Native → ℕ
-place_of f = number_of f + 16
+place_of f = number_of f + 18
 
 -- the last of them has the number 51
 abbrev pub built_ins_there : Objects → Type 0

@@ -19,5 +19,5 @@ decreases-array_text l = 4 * l.nested
 
 abbrev pub invariant-array_text-loop-index : goal.invariant-array_text-loop-index
 invariant-array_text-loop-index l =
-    array_text l.nested l.h l.o
-    ≡ and_then (rest_text l.index (text_within (l.nested - 1) l.h) (items_from (l.count - l.index) l.index l.h l.o)) (λ ws. Ok (l.units.items ++ ws))
+    array_text l.nested l.separator l.h l.o
+    ≡ and_then (rest_text l.index (text_within (l.nested - 1) l.h) l.separator (items_from (l.count - l.index) l.index l.h l.o)) (λ ws. Ok (l.units.items ++ ws))
