@@ -1,5 +1,5 @@
 -- What a method of texts comes to at a text, and at another receiver.
-use Rattle.std.proofs.Common.{◌≡◌, ℕ, List, Result, sym, subst, refl, ◌∙◌}
+use Rattle.std.proofs.Common.{◌≡◌, ℕ, List, Result, subst, refl, ◌∙◌}
 use Rattle.std.specs.Prelude.{codes}
 use Rattle.plans.specs.Plans.{Fault}
 use Rattle.es3_heap.specs.declared.value.Stop.{Stop}

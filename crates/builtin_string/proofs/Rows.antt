@@ -2,18 +2,16 @@
 use Rattle.std.proofs.Common.{◌≡◌, ℕ, suc, List, [], ◌∷◌, ◌++◌, map, length, drop, Option, Some, None, Result, Ok, Err, refl, sym, ap, ◌∙◌}
 use Rattle.std.specs.Prelude.{ℤ, pos}
 use Rattle.plans.specs.Plans.{Fault}
-use Rattle.es3_heap.specs.declared.value.Stop.{Stop}
 use Rattle.es3_heap.specs.declared.value.Value.{Value}
 use Rattle.es3_heap.specs.declared.value.Value.TheVariants as v
 use Rattle.es3_heap.specs.Objects.{Objects}
-use Rattle.es3_convert.specs.Answers.{Answers}
 use Rattle.es3_convert.specs.Conversions.{and_then, text_of}
 use Rattle.rows.specs.Rows as r
 use Rattle.rows.specs.Arguments as rows
 use Rattle.rows.specs.Arguments.{clamped, place}
 use Rattle.rows.specs.Arrays.{part}
 use Rattle.rows.specs.Texts.{unit_at, code_end, first_place, last_place, or_minus_one, between, split_by, texts, joined}
-use Rattle.heap_rows.specs.Doing.{value_in, finish, does}
+use Rattle.heap_rows.specs.Doing.{value_in, does}
 use Rattle.heap_rows.specs.Opening.{place_of, empty_page}
 use Rattle.row_outcomes.specs.Comes.{row_done}
 use Rattle.row_outcomes.specs.Arguments.{argument, number_argument, told, at_text, text_method}

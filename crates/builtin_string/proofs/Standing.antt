@@ -10,7 +10,7 @@ use Rattle.caja_units.specs.Units.{stands_at}
 use Rattle.caja_units.proofs.Places.{first_place-found}
 use Rattle.es3_heap.specs.declared.value.Value.{Value}
 use Rattle.es3_heap.specs.declared.value.Value.TheVariants as v
-use Rattle.rows.specs.Texts.{begins_with, first_place, or_else, last_place, pieces, split_by}
+use Rattle.rows.specs.Texts.{begins_with, first_place, last_place, pieces, split_by}
 
 -- the units behind the first one
 behind : (us rest : List ℕ) (u i : ℕ) → drop i us ≡ u ∷ rest → drop (suc i) us ≡ rest
@@ -223,11 +223,11 @@ last_piece s us from some le e = uncut s (drop from us) [] from some (sym (first
 
 -- a piece more
 
-pub pieces_more : (before after : List Value) (piece : List ℕ) (rest here : List (List ℕ)) (all : List Value) → before ++ map v.Text here ≡ all → here ≡ piece ∷ rest → after ≡ before ++ v.Text piece ∷ [] → after ++ map v.Text rest ≡ all
-pieces_more before after piece rest here all is more pushed = rw (pushed, append_assoc) (ap (λ l. before ++ map v.Text l) (sym more) ∙ is)
+pub pieces_more : (before after : List Value) (pushed piece : List ℕ) (rest here : List (List ℕ)) (all : List Value) → before ++ map v.Text here ≡ all → here ≡ piece ∷ rest → after ≡ before ++ v.Text pushed ∷ [] → pushed ≡ piece → after ++ map v.Text rest ≡ all
+pieces_more before after pushed piece rest here all is more behind same = rw (behind, same, append_assoc) (ap (λ l. before ++ map v.Text l) (sym more) ∙ is)
 
-pub pieces_end : (before after : List Value) (piece : List ℕ) (here : List (List ℕ)) (all : List Value) → before ++ map v.Text here ≡ all → here ≡ piece ∷ [] → after ≡ before ++ v.Text piece ∷ [] → after ≡ all
-pieces_end before after piece here all is more pushed = sym (append-nil after) ∙ pieces_more before after piece [] here all is more pushed
+pub pieces_end : (before after : List Value) (pushed piece : List ℕ) (here : List (List ℕ)) (all : List Value) → before ++ map v.Text here ≡ all → here ≡ piece ∷ [] → after ≡ before ++ v.Text pushed ∷ [] → pushed ≡ piece → after ≡ all
+pieces_end before after pushed piece here all is more behind same = sym (append-nil after) ∙ pieces_more before after pushed piece [] here all is more behind same
 
 pub split_some : (s us : List ℕ) → s ≢ [] → pieces s 0 [] us ≡ split_by s us
 split_some [] us some = absurd (some refl)

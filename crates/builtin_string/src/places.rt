@@ -33,14 +33,12 @@ fn begins_at(text: &Units, part: &Units, place: usize) -> bool
 }
 
 /// The first place, not before another one, at which a part stands in a text.
-fn first_place(text: &Units, part: &Units, from: usize) -> Option<usize>
-    requires { from ≤ length text.now }
-    ensures is { result ≡ first_place part.now from (drop from text.now) }
+fn first_place(text: &Units, part: &Units, from: Whole) -> Option<usize>
+    ensures is { result
+        ≡ first_place part.now (clamped (length text.now) from) (drop (clamped (length text.now) from) text.now) }
     ensures within { IfSome result (λ i. i ≤ 4294967294) }
 {
-    let place = text.index_of(part, from);
-    let _count = text.len();
-    place
+    text.index_of(part, clamped(text.len(), from))
 }
 
 /// The last place at which a part stands in a text.
@@ -73,7 +71,7 @@ fn first_index(alloc: Global, h: &Heap, text: &Units, args: &[Value]) -> Result<
 {
     let part = to_text(alloc, h, value_or(args, 0, &Value::Undefined))?;
     let from = number_or(alloc, h, args, 1, Whole::new(0).unwrap())?;
-    Ok(place_value(first_place(text, &part, clamped(text.len(), from))))
+    Ok(place_value(first_place(text, &part, from)))
 }
 
 /// What `lastIndexOf` answers at a text.

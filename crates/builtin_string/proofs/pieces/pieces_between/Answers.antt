@@ -1,4 +1,4 @@
-use Rattle.std.proofs.Common.{◌∷◌, [], ◌++◌, map, ap, sym, ◌∙◌, arith}
+use Rattle.std.proofs.Common.{map, ap, sym, ◌∙◌, arith}
 use Rattle.std.specs.List.{slice_range}
 use Rattle.es3_heap.specs.declared.value.Value.TheVariants as v
 use Rattle.builtin_string.proofs.Standing.{next_piece, last_piece, pieces_more, pieces_end, split_some}
@@ -28,11 +28,11 @@ loop-place-preserved c =
     let piece = next_piece c.args.separator.now c.args.text.now c.loop-place.from c.in-Some.place c.requires c.loop-place.invariant.within (sym c.index_of.ensures ∙ c.in-Some.is) in
     record {
       within = omega (arith, piece.within, c.len.ensures.count);
-      pieces = rw c.len.ensures.count (pieces_more c.loop-place.pieces.items _ _ _ _ _ c.loop-place.invariant.pieces piece.piece (c.in_ok-push.ensures.items ∙ ap (λ t. c.loop-place.pieces.items ++ v.Text t ∷ []) c.in_ok-slice.ensures));
+      pieces = rw c.len.ensures.count (pieces_more c.loop-place.pieces.items _ _ _ _ _ _ c.loop-place.invariant.pieces piece.piece c.in_ok-push.ensures.items c.in_ok-slice.ensures);
     }
 
 pub returns : goal.returns
 returns c =
     let piece = last_piece c.args.separator.now c.args.text.now c.loop-place.from c.requires c.loop-place.invariant.within (sym c.index_of.ensures ∙ c.in_default.is) in
-    pieces_end c.loop-place.pieces.items _ _ _ _ c.loop-place.invariant.pieces piece (c.in_ok-push-2.ensures.items ∙ ap (λ t. c.loop-place.pieces.items ++ v.Text t ∷ []) (c.in_ok-slice-2.ensures ∙ ap (slice_range c.args.text.now c.loop-place.from) c.len-count.ensures.count))
+    pieces_end c.loop-place.pieces.items _ _ _ _ _ c.loop-place.invariant.pieces piece c.in_ok-push-2.ensures.items (c.in_ok-slice-2.ensures ∙ ap (slice_range c.args.text.now c.loop-place.from) c.len-count.ensures.count)
     ∙ ap (map v.Text) (split_some c.args.separator.now c.args.text.now c.requires)

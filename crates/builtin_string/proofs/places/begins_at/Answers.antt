@@ -1,5 +1,4 @@
-use Rattle.std.proofs.Common.{sym, ◌∙◌, ap, arith}
-use Rattle.std.specs.Prelude.{slice_get}
+use Rattle.std.proofs.Common.{sym, arith}
 use Rattle.std.proofs.lemmas.List.{length-drop}
 use Rattle.builtin_string.proofs.Standing.{begins_long, begins_at_test, begins_at_rest}
 use Rattle.builtin_string.proofs.places.begins_at.Goals as goal
