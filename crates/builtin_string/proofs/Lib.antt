@@ -1,3 +1,4 @@
 pub mod Comes
 pub mod Rows
 pub mod Units
+pub mod Standing

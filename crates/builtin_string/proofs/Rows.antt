@@ -1,23 +1,24 @@
 -- What the rows of the methods of texts come to.
-use Rattle.std.proofs.Common.{◌≡◌, ℕ, suc, List, [], ◌∷◌, ◌++◌, length, Result, Ok, refl}
+use Rattle.std.proofs.Common.{◌≡◌, ℕ, suc, List, [], ◌∷◌, ◌++◌, map, length, drop, Option, Some, None, Result, Ok, Err, refl, sym, ap, ◌∙◌}
 use Rattle.std.specs.Prelude.{ℤ, pos}
-use Rattle.es3_heap.specs.declared.value.Stop.{Stop}
+use Rattle.plans.specs.Plans.{Fault}
 use Rattle.es3_heap.specs.declared.value.Value.{Value}
 use Rattle.es3_heap.specs.declared.value.Value.TheVariants as v
 use Rattle.es3_heap.specs.Objects.{Objects}
-use Rattle.es3_convert.specs.Answers.{Answers}
-use Rattle.es3_convert.specs.Conversions.{and_then}
+use Rattle.es3_convert.specs.Conversions.{and_then, text_of}
 use Rattle.rows.specs.Rows as r
 use Rattle.rows.specs.Arguments as rows
 use Rattle.rows.specs.Arguments.{clamped, place}
 use Rattle.rows.specs.Arrays.{part}
-use Rattle.rows.specs.Texts.{unit_at, code_end, between}
-use Rattle.heap_rows.specs.Doing.{finish, does}
+use Rattle.rows.specs.Texts.{unit_at, code_end, first_place, last_place, or_minus_one, between, split_by, texts, joined}
+use Rattle.heap_rows.specs.Doing.{value_in, does}
 use Rattle.heap_rows.specs.Opening.{place_of, empty_page}
 use Rattle.row_outcomes.specs.Comes.{row_done}
-use Rattle.row_outcomes.specs.Arguments.{argument, number_argument, told, text_method}
-use Rattle.row_outcomes.proofs.Arguments.{Yields, number_or_yields, on_text_is}
-use Rattle.builtin_string.specs.Strings.{char_at, code_of, char_code_at, slice_text, substring}
+use Rattle.row_outcomes.specs.Arguments.{argument, number_argument, told, at_text, text_method}
+use Rattle.row_outcomes.specs.Lists.{texts_of, done_with, new_array}
+use Rattle.row_outcomes.proofs.Arguments.{Yields, as_text_yields, unless_yields, number_or_yields, on_text_does, on_text_is}
+use Rattle.row_outcomes.proofs.Lists.{done_with-then, as_text_does, as_texts_does, array_made}
+use Rattle.builtin_string.specs.Strings.{char_at, code_of, char_code_at, place_value, index_of, last_index_of, slice_text, substring, split, split_done, concat_text}
 
 pub char_at-is : (by : ℕ) (this : Value) (args : List Value) (h : Objects) → row_done r.char_at by this args h ≡ text_method this by h (λ us. char_at us args h)
 char_at-is by this args h =
@@ -50,3 +51,50 @@ pub substring-is : (by : ℕ) (this : Value) (args : List Value) (h : Objects) �
 substring-is by this args h =
     on_text_is by this args h (λ us. rows.number_or (pos 0) (rows.argument 0 (suc (length args))) (λ a. rows.number_or (pos (length us)) (rows.argument 1 (suc (length args))) (λ b. r.ends (r.answers (r.text (between (clamped (length us) a) (clamped (length us) b) us)))))) (λ us. substring us args h)
     (λ us. by_ends by this args h us (λ a b. between (clamped (length us) a) (clamped (length us) b) us))
+
+-- a place of a text
+place_told : (by : ℕ) (vs : List Value) (h : Objects) (o : Option ℕ) → (does place_of by (r.ends (r.answers (or_minus_one o))) vs h empty_page []).done ≡ told (Ok (place_value o)) h
+place_told by vs h None = refl
+place_told by vs h (Some i) = refl
+
+pub index_of-is : (by : ℕ) (this : Value) (args : List Value) (h : Objects) → row_done r.index_of by this args h ≡ text_method this by h (λ us. index_of us args h)
+index_of-is by this args h =
+    let place = λ (us t : List ℕ) (i : ℤ). first_place t (clamped (length us) i) (drop (clamped (length us) i) us) in
+    on_text_is by this args h (λ us. r.as_text (rows.argument 0 (suc (length args))) (λ t. rows.number_or (pos 0) (rows.argument 1 (suc (length args))) (λ i. r.ends (r.answers (or_minus_one (place us t i)))))) (λ us. index_of us args h)
+    (λ us. as_text_yields by this args h 0 (λ t. rows.number_or (pos 0) (rows.argument 1 (suc (length args))) (λ i. r.ends (r.answers (or_minus_one (place us t i))))) (λ t. and_then (number_argument (pos 0) (argument 1 args) h) (λ i. Ok (place_value (place us t i))))
+    (λ t. number_or_yields by this args h (pos 0) 1 (λ i. r.ends (r.answers (or_minus_one (place us t i)))) (λ i. Ok (place_value (place us t i))) (λ i more. place_told by (this ∷ (args ++ more)) h (place us t i))))
+
+pub last_index_of-is : (by : ℕ) (this : Value) (args : List Value) (h : Objects) → row_done r.last_index_of by this args h ≡ text_method this by h (λ us. last_index_of us args h)
+last_index_of-is by this args h =
+    on_text_is by this args h (λ us. r.as_text (rows.argument 0 (suc (length args))) (λ t. r.ends (r.answers (or_minus_one (last_place t 0 us))))) (λ us. last_index_of us args h)
+    (λ us. as_text_yields by this args h 0 (λ t. r.ends (r.answers (or_minus_one (last_place t 0 us)))) (λ t. Ok (place_value (last_place t 0 us))) (λ t more. place_told by (this ∷ (args ++ more)) h (last_place t 0 us)))
+
+-- an array of texts
+texts_in : (vs : List Value) (uss : List (List ℕ)) → map (value_in place_of vs) (map r.text uss) ≡ map v.Text uss
+texts_in vs [] = refl
+texts_in vs (us ∷ uss) = ap (λ xs. v.Text us ∷ xs) (texts_in vs uss)
+
+texts_made : (by : ℕ) (vs : List Value) (h : Objects) (uss : List (List ℕ)) → (does place_of by (r.ends (texts uss)) vs h empty_page []).done ≡ new_array by h (map v.Text uss)
+texts_made by vs h uss = array_made by vs h (map r.text uss) ∙ ap (new_array by h) (texts_in vs uss)
+
+split_at_some : (us : List ℕ) (x : Value) (h : Objects) → (x ≡ v.Undefined → ⊥) → split us x h ≡ and_then (text_of h x) (λ s. Ok (map v.Text (split_by s us)))
+split_at_some us v.Undefined h some = absurd (some refl)
+split_at_some us x h some = refl
+
+pub split-is : (by : ℕ) (this : Value) (args : List Value) (h : Objects) → row_done r.split by this args h ≡ at_text this by h (λ us. split_done by us args h)
+split-is by this args h =
+    on_text_does by this args h (λ us. r.looks (rows.argument 0 (suc (length args))) (rows.unless_undefined (r.ends (texts (us ∷ []))) (r.as_text (rows.argument 0 (suc (length args))) (λ s. r.ends (texts (split_by s us)))))) (λ us. split_done by us args h)
+    (λ us. unless_yields by this args h 0 (r.ends (texts (us ∷ []))) (r.as_text (rows.argument 0 (suc (length args))) (λ s. r.ends (texts (split_by s us)))) (new_array by h (v.Text us ∷ [])) (done_with (text_of h (argument 0 args)) h (λ s. new_array by h (map v.Text (split_by s us)))) (split_done by us args h)
+    (λ more. texts_made by (this ∷ (args ++ more)) h (us ∷ []))
+    (as_text_does by this args h 0 (λ s. r.ends (texts (split_by s us))) (λ s. new_array by h (map v.Text (split_by s us))) (λ s more. texts_made by (this ∷ (args ++ more)) h (split_by s us)))
+    (λ none. rw none refl)
+    (λ some. rw (split_at_some us (argument 0 args) h some) (done_with-then (text_of h (argument 0 args)) (λ s. Ok (map v.Text (split_by s us))) h (new_array by h))))
+
+pub concat_text-is : (by : ℕ) (this : Value) (args : List Value) (h : Objects) → row_done r.concat_text by this args h ≡ text_method this by h (λ us. concat_text us args h)
+concat_text-is by this args h =
+    on_text_is by this args h (λ us. rows.as_texts (rows.arguments (suc (length args))) (λ uss. r.ends (r.answers (r.text (us ++ joined uss))))) (λ us. concat_text us args h)
+    (λ us more. as_texts_does by this args h (λ uss. r.ends (r.answers (r.text (us ++ joined uss)))) (λ uss. told (Ok (v.Text (us ++ joined uss))) h) (λ uss more. refl) more ∙ sym (told_with (texts_of h args) h (λ uss. v.Text (us ++ joined uss))))
+  where
+    told_with : {A : Type 0} (r : Result A Fault) (h : Objects) (value : A → Value) → told (and_then r (λ x. Ok (value x))) h ≡ done_with r h (λ x. told (Ok (value x)) h)
+    told_with (Ok x) h value = refl
+    told_with (Err f) h value = refl

@@ -1,5 +1,5 @@
 -- Units at a place, and between two.
-use Rattle.std.proofs.Common.{◌≡◌, ℕ, zero, suc, List, [], ◌∷◌, Option, Some, None, refl}
+use Rattle.std.proofs.Common.{◌≡◌, ℕ, zero, suc, List, [], ◌∷◌, refl}
 use Rattle.std.specs.Prelude.{slice_get, take, drop}
 use Rattle.builtin_string.specs.Strings.{listed}
 

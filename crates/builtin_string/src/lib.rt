@@ -3,6 +3,12 @@
 
 mod chars;
 mod parts;
+mod pieces;
+mod places;
+mod whole;
 
 pub use chars::{char_at, char_code_at};
 pub use parts::{slice_text, substring};
+pub use pieces::split;
+pub use places::{index_of, last_index_of};
+pub use whole::concat_text;

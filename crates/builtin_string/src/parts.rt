@@ -38,7 +38,7 @@ fn place(count: usize, n: Whole) -> usize
 }
 
 /// A place in so many units, the first one where it is negative.
-fn clamped(count: usize, n: Whole) -> usize
+pub fn clamped(count: usize, n: Whole) -> usize
     ensures is { result ≡ clamped count n }
     ensures within { result ≤ count }
 {

@@ -1,6 +1,6 @@
 -- What the rows of built-in functions make of their arguments, as values: a row is carried out with the receiver and the arguments in hand, and more behind them.
-use Rattle.std.proofs.Common.{◌≡◌, ℕ, zero, suc, ◌+◌, Bool, true, false, List, [], ◌∷◌, ◌++◌, length, Option, Some, None, Result, Ok, Err, cond, refl, sym, ap, ◌∙◌, subst, append_assoc, arith}
-use Rattle.std.specs.Prelude.{ℤ, unwrap_or, slice_get, nat_lt, codes, is_some}
+use Rattle.std.proofs.Common.{◌≡◌, ℕ, zero, suc, ◌+◌, Bool, true, false, List, [], ◌∷◌, ◌++◌, length, Option, Some, None, Result, Ok, Err, cond, refl, sym, ◌∙◌, subst, append_assoc, arith}
+use Rattle.std.specs.Prelude.{ℤ, nat_lt, codes, is_some}
 use Rattle.std.proofs.lemmas.Bool.Decides.{nat_tests}
 use Rattle.plans.specs.Plans.{Fault}
 use Rattle.es3_heap.specs.declared.value.Value.{Value}
@@ -20,7 +20,7 @@ use Rattle.heap_rows.specs.Marks.{simple_mark}
 use Rattle.heap_rows.specs.Doing.{Done, value_in, see, see_object, sort_seen, with_result, does}
 use Rattle.heap_rows.specs.Opening.{place_of, empty_page}
 use Rattle.row_outcomes.specs.Comes.{throws}
-use Rattle.row_outcomes.specs.Arguments.{argument, number_argument, told, text_method}
+use Rattle.row_outcomes.specs.Arguments.{argument, number_argument, told, at_text, text_method}
 
 no_less : (j : ℕ) → nat_lt j 0 ≡ false
 no_less j = grind (arith, nat_tests)
@@ -138,13 +138,17 @@ number_or_yields by this args h default i go answer yields =
     (λ none. rw none refl) (λ some. rw (number_at_some default (argument i args) h some) refl)
 
 -- a method of texts
-pub on_text_is : (by : ℕ) (this : Value) (args : List Value) (h : Objects) (go : List ℕ → Row) (answer : List ℕ → Result Value Fault) → ((us : List ℕ) → Yields by this args h (go us) (told (answer us) h))
-    → (does place_of by (on_text go) (this ∷ args) h empty_page []).done ≡ text_method this by h answer
-on_text_is by v.Undefined args h go answer yields = refl
-on_text_is by v.Null args h go answer yields = refl
-on_text_is by (v.Bool b) args h go answer yields = refl
-on_text_is by (v.Num n) args h go answer yields = refl
-on_text_is by (v.Text us) args h go answer yields = yields us []
-on_text_is by (v.Obj o) args h go answer yields =
+pub on_text_does : (by : ℕ) (this : Value) (args : List Value) (h : Objects) (go : List ℕ → Row) (done : List ℕ → Done) → ((us : List ℕ) → Yields by this args h (go us) (done us))
+    → (does place_of by (on_text go) (this ∷ args) h empty_page []).done ≡ at_text this by h done
+on_text_does by v.Undefined args h go done yields = refl
+on_text_does by v.Null args h go done yields = refl
+on_text_does by (v.Bool b) args h go done yields = refl
+on_text_does by (v.Num n) args h go done yields = refl
+on_text_does by (v.Text us) args h go done yields = yields us []
+on_text_does by (v.Obj o) args h go done yields =
     let seen = see_object (length (v.Obj o ∷ args)) h o (class_of (object_at h o)) in
     subst (λ row. (does place_of by row (v.Obj o ∷ (args ++ seen.values)) h empty_page []).done ≡ throws (codes "bad receiver") by h) (sym (no_text go seen.sight (object_seen (length (v.Obj o ∷ args)) h o (class_of (object_at h o))))) refl
+
+pub on_text_is : (by : ℕ) (this : Value) (args : List Value) (h : Objects) (go : List ℕ → Row) (answer : List ℕ → Result Value Fault) → ((us : List ℕ) → Yields by this args h (go us) (told (answer us) h))
+    → (does place_of by (on_text go) (this ∷ args) h empty_page []).done ≡ text_method this by h answer
+on_text_is by this args h go answer yields = on_text_does by this args h go (λ us. told (answer us) h) yields

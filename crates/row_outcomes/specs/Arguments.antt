@@ -30,7 +30,11 @@ abbrev pub outcome_of : Result Value Stop → Result Outcome Stop
 outcome_of (Ok x) = Ok (outcome.Value x)
 outcome_of (Err s) = Err s
 
--- the answer of a method of texts
+-- what a method of texts comes to: at another receiver it throws
+abbrev pub at_text : Value → ℕ → Objects → (List ℕ → Done) → Done
+at_text (v.Text us) by h done = done us
+at_text x by h done = throws (codes "bad receiver") by h
+
+-- the answer of a method of texts that changes nothing
 abbrev pub text_method : Value → ℕ → Objects → (List ℕ → Result Value Fault) → Done
-text_method (v.Text us) by h answer = told (answer us) h
-text_method x by h answer = throws (codes "bad receiver") by h
+text_method x by h answer = at_text x by h (λ us. told (answer us) h)

@@ -10,12 +10,16 @@ ghost use Rattle.es3_heap.specs.Making.{error_object, named};
 ghost use Rattle.es3_convert.specs.Answers.{Answers};
 ghost use Rattle.row_outcomes.specs.Comes.{Comes, throws};
 ghost use Rattle.row_outcomes.specs.Arguments.{argument, number_argument, outcome_of};
+ghost use Rattle.row_outcomes.specs.Lists.{new_array};
 
 use caja_num::Whole;
 use caja_units::{Memory, Units};
 use es3_convert::{out_of_memory, to_number};
 use es3_heap::{Heap, ObjId, Proto, Stop, Value};
 use std::alloc::Global;
+
+/// Arrays have fewer items than this (ES3 15.4).
+const MOST_ITEMS: usize = 4_294_967_296;
 
 /// What a built-in function comes to, where the run does not stop.
 #[derive(Debug, Drop)]
@@ -87,4 +91,21 @@ pub fn thrown(alloc: Global, h: &mut Heap, by: u32, message: &[u8]) -> Result<Ou
 {
     let error = type_error(alloc, h, by, message).map_err(out_of_memory)?;
     Ok(Outcome::Throw(Value::Obj(error)))
+}
+
+/// A new array of these items (ES3 15.4.2.1), made by the running module, which then has that module's next name.
+///
+/// # Errors
+///
+/// `Stop::Number` where there are 2^32 items or more, and `Stop::Memory` where memory is wanting.
+pub fn new_array(h: &mut Heap, by: u32, items: Vec<Value>) -> Result<Outcome, Stop>
+    ensures outcome { Comes (new_array by h.old items.items) result h.new }
+    ensures live { length h.old.list ≤ length h.new.list }
+{
+    if items.len() >= MOST_ITEMS {
+        return Err(Stop::Number);
+    }
+    let array = h.make_array(items).map_err(out_of_memory)?;
+    h.name_next(array, by);
+    Ok(Outcome::Value(Value::Obj(array)))
 }
