@@ -1,5 +1,5 @@
 -- What the rows of the methods of functions come to.
-use Rattle.std.proofs.Common.{◌≡◌, ℕ, suc, ◌+◌, ◌-◌, ◌≤◌, Bool, true, false, List, [], ◌∷◌, ◌++◌, length, map, take, drop, get_or, Result, Option, Some, None, refl, ap, sym, ◌∙◌, subst, append_assoc, if◌then◌else◌, arith}
+use Rattle.std.proofs.Common.{◌≡◌, ℕ, suc, ◌+◌, ◌-◌, ◌≤◌, Bool, true, false, List, [], ◌∷◌, ◌++◌, length, map, take, drop, get_or, Result, Some, None, refl, ap, sym, ◌∙◌, subst, append_assoc, if◌then◌else◌, arith}
 use Rattle.std.specs.Prelude.{codes, is_some}
 use Rattle.std.proofs.Math.Seq.{take-length}
 use Rattle.es3_heap.specs.declared.value.Stop.{Stop}
@@ -14,9 +14,9 @@ use Rattle.rows.specs.Rows as r
 use Rattle.rows.specs.Rows.{Native, handles, held}
 use Rattle.rows.specs.Arguments as rows
 use Rattle.rows.specs.Arguments.{values_from}
-use Rattle.rows.specs.Core.{is_callable, call_it, apply_list, apply_to}
+use Rattle.rows.specs.Core.{apply_list}
 use Rattle.heap_rows.specs.Marks.{simple_mark}
-use Rattle.heap_rows.specs.Doing.{Done, value_in, see, see_object, finish, does}
+use Rattle.heap_rows.specs.Doing.{value_in, see, see_object, finish, does}
 use Rattle.heap_rows.specs.Opening.{place_of, empty_page}
 use Rattle.row_outcomes.specs.declared.Outcome.{Outcome}
 use Rattle.row_outcomes.specs.Comes.{Comes, row_done, throws}

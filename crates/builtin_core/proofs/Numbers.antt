@@ -1,6 +1,6 @@
 -- What the rows of `Math`, `Number` and `String` come to.
-use Rattle.std.proofs.Common.{◌≡◌, ℕ, suc, List, [], ◌∷◌, ◌++◌, length, drop, get_or, ◌<◌, Result, Ok, Err, refl, sym, ◌∙◌, subst, append-nil, drop-cons, arith}
-use Rattle.std.specs.Prelude.{ℤ, pos, Bool, false, int_lt, nat_eq, unsigned_abs}
+use Rattle.std.proofs.Common.{◌≡◌, ℕ, suc, List, [], ◌∷◌, ◌++◌, length, drop, get_or, ◌<◌, Result, Ok, Err, refl, sym, subst, append-nil, drop-cons, arith}
+use Rattle.std.specs.Prelude.{ℤ, pos, Bool, false, nat_eq, unsigned_abs}
 use Rattle.std.proofs.lemmas.Bool.Decides.{nat_tests}
 use Rattle.plans.specs.Plans.{Fault}
 use Rattle.es3_heap.specs.declared.value.Stop.{Stop}

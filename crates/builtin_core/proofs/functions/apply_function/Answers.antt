@@ -1,4 +1,4 @@
-use Rattle.std.proofs.Common.{◌≡◌, true, Some, None, rules, arith}
+use Rattle.std.proofs.Common.{◌≡◌, true, Some, None, rules}
 use Rattle.builtin_core.specs.Seeing.{has_class_function}
 use Rattle.builtin_core.specs.Calls.{arguments_in}
 use Rattle.builtin_core.proofs.Calls.{apply_comes, apply_refused}

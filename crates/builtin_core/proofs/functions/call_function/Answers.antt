@@ -1,4 +1,4 @@
-use Rattle.std.proofs.Common.{◌≡◌, ◌-◌, length, take, drop, true, rules, arith}
+use Rattle.std.proofs.Common.{◌≡◌, ◌-◌, length, take, drop, true, rules}
 use Rattle.builtin_core.specs.Seeing.{has_class_function}
 use Rattle.builtin_core.proofs.Calls.{call_comes}
 use Rattle.builtin_core.proofs.functions.call_function.Goals as goal

@@ -1,4 +1,4 @@
-use Rattle.std.proofs.Common.{rules, arith}
+use Rattle.std.proofs.Common.{arith}
 use Rattle.std.proofs.lemmas.Result.{err_from_is_err_and}
 use Rattle.builtin_core.proofs.Numbers.{best_from-fault}
 use Rattle.builtin_core.proofs.math.best_from.Goals as goal
