@@ -1,1 +1,4 @@
-mod Sights
+pub mod Calls
+pub mod Makers
+pub mod Numbers
+pub mod Sights

@@ -13,38 +13,38 @@ use Rattle.es3_convert.specs.Comparisons.{truth_of}
 use Rattle.rows.specs.Rows as r
 use Rattle.rows.specs.Rows.{Sight, Sort}
 use Rattle.rows.specs.Arguments.{argument}
-use Rattle.rows.specs.Core.{seen_array, seen_record, seen_true}
+use Rattle.rows.specs.Core.{seen_array, seen_record, seen_true, is_callable}
 use Rattle.heap_rows.specs.Marks.{simple_mark}
 use Rattle.heap_rows.specs.Doing.{Done, sort_seen, see, see_object, value_in, gives}
 use Rattle.heap_rows.specs.Opening.{place_of}
 use Rattle.row_outcomes.specs.Comes.{row_done}
 use Rattle.row_outcomes.proofs.Arguments.{argument_held}
-use Rattle.builtin_core.specs.Seeing.{is_class_array, has_class_array, is_class_object, has_class_object}
+use Rattle.builtin_core.specs.Seeing.{is_class_array, has_class_array, is_class_object, has_class_object, is_class_function, has_class_function}
 
 -- an argument by its handle
 argument_in : (this : Value) (args : List Value) (i : ℕ) → value_in place_of (this ∷ args) (argument i (suc (length args))) ≡ unwrap_or (slice_get args i) v.Undefined
 argument_in this args i = subst (λ l. value_in place_of (this ∷ l) (argument i (suc (length args))) ≡ unwrap_or (slice_get args i) v.Undefined) (append-nil args) (argument_held place_of i this args [])
 
 -- a function is seen as one of a sort, or as a stranger
-function_seen : (P : Sight → Type 0) → ((q : Sort) → P (r.a_function q)) → ((b : Bool) → P (r.a_stranger b)) → (simple : Bool) (c : Option Callable) → P (sort_seen simple c)
-function_seen P some other simple None = other true
+pub function_seen : (P : Sight → Type 0) → ((q : Sort) → P (r.a_function q)) → P (r.a_stranger true) → (simple : Bool) (c : Option Callable) → P (sort_seen simple c)
+function_seen P some other simple None = other
 function_seen P some other simple (Some c) =
     elim c.kind as (λ q. let d : Callable = record { kind = q; maker = c.maker } in P (sort_seen simple (Some d))) [
       | kind.Code n ↦ elim simple as (λ b. let d : Callable = record { kind = kind.Code n; maker = c.maker } in P (sort_seen b (Some d))) [
         | true ↦ some r.closure
-        | false ↦ other true
+        | false ↦ other
       ]
       | kind.Simple n ↦ some r.simple
       | kind.Constructor n ↦ some _
       | kind.Exophoric n w ↦ some _
     ]
 
--- the two facts that are told of what is seen of an object
+-- the facts that are told of what is seen of an object
 
 array_object : (n : ℕ) (h : Objects) (o : ℕ) (c : Class) → seen_array (see_object n h o c).sight ≡ is_class_array c
 array_object n h o class.Object = refl
 array_object n h o class.Array = refl
-array_object n h o class.Function = function_seen (λ s. seen_array s ≡ false) (λ q. refl) (λ b. refl) (is_some (own h o simple_mark)) (callable_of (object_at h o))
+array_object n h o class.Function = function_seen (λ s. seen_array s ≡ false) (λ q. refl) refl (is_some (own h o simple_mark)) (callable_of (object_at h o))
 array_object n h o class.Error = refl
 array_object n h o class.Node = refl
 
@@ -59,7 +59,7 @@ array_seen n h (v.Obj o) = array_object n h o (class_of (object_at h o))
 record_object : (n : ℕ) (h : Objects) (o : ℕ) (c : Class) → seen_record (see_object n h o c).sight ≡ is_class_object c
 record_object n h o class.Object = refl
 record_object n h o class.Array = refl
-record_object n h o class.Function = function_seen (λ s. seen_record s ≡ false) (λ q. refl) (λ b. refl) (is_some (own h o simple_mark)) (callable_of (object_at h o))
+record_object n h o class.Function = function_seen (λ s. seen_record s ≡ false) (λ q. refl) refl (is_some (own h o simple_mark)) (callable_of (object_at h o))
 record_object n h o class.Error = refl
 record_object n h o class.Node = refl
 
@@ -74,7 +74,7 @@ record_seen n h (v.Obj o) = record_object n h o (class_of (object_at h o))
 true_object : (n : ℕ) (h : Objects) (o : ℕ) (c : Class) → seen_true (see_object n h o c).sight ≡ true
 true_object n h o class.Object = refl
 true_object n h o class.Array = refl
-true_object n h o class.Function = function_seen (λ s. seen_true s ≡ true) (λ q. refl) (λ b. refl) (is_some (own h o simple_mark)) (callable_of (object_at h o))
+true_object n h o class.Function = function_seen (λ s. seen_true s ≡ true) (λ q. refl) refl (is_some (own h o simple_mark)) (callable_of (object_at h o))
 true_object n h o class.Error = refl
 true_object n h o class.Node = refl
 
@@ -86,6 +86,21 @@ true_seen n h (v.Num i) = refl
 true_seen n h (v.Text []) = refl
 true_seen n h (v.Text (u ∷ us)) = refl
 true_seen n h (v.Obj o) = true_object n h o (class_of (object_at h o))
+
+callable_object : (n : ℕ) (h : Objects) (o : ℕ) (c : Class) → is_callable (see_object n h o c).sight ≡ is_class_function c
+callable_object n h o class.Object = refl
+callable_object n h o class.Array = refl
+callable_object n h o class.Function = function_seen (λ s. is_callable s ≡ true) (λ q. refl) refl (is_some (own h o simple_mark)) (callable_of (object_at h o))
+callable_object n h o class.Error = refl
+callable_object n h o class.Node = refl
+
+pub callable_seen : (n : ℕ) (h : Objects) (x : Value) → is_callable (see h n x).sight ≡ has_class_function h x
+callable_seen n h v.Undefined = refl
+callable_seen n h v.Null = refl
+callable_seen n h (v.Bool b) = refl
+callable_seen n h (v.Num i) = refl
+callable_seen n h (v.Text us) = refl
+callable_seen n h (v.Obj o) = callable_object n h o (class_of (object_at h o))
 
 -- what is told of the first argument
 abbrev first : List Value → Value

@@ -1,1 +1,4 @@
+pub mod Calls
+pub mod Errors
+pub mod Numbers
 pub mod Seeing

@@ -21,3 +21,11 @@ is_class_object c = false
 abbrev pub has_class_object : Objects → Value → Bool
 has_class_object h (v.Obj o) = is_class_object (class_of (object_at h o))
 has_class_object h x = false
+
+abbrev pub is_class_function : Class → Bool
+is_class_function class.Function = true
+is_class_function c = false
+
+abbrev pub has_class_function : Objects → Value → Bool
+has_class_function h (v.Obj o) = is_class_function (class_of (object_at h o))
+has_class_function h x = false

@@ -89,7 +89,7 @@ no_text go (r.a_text us) is = absurd is
 no_text go s is = refl
 
 -- a conversion, and then the rest
-number_told : (by : ℕ) (vs : List Value) (h : Objects) (go : ℤ → Row) (answer : ℤ → Result Value Fault) (n : Result ℤ Fault) → ((i : ℤ) → (does place_of by (go i) vs h empty_page []).done ≡ told (answer i) h)
+pub number_told : (by : ℕ) (vs : List Value) (h : Objects) (go : ℤ → Row) (answer : ℤ → Result Value Fault) (n : Result ℤ Fault) → ((i : ℤ) → (does place_of by (go i) vs h empty_page []).done ≡ told (answer i) h)
     → (with_result n h empty_page [] (λ i. does place_of by (go i) vs h empty_page [])).done ≡ told (and_then n answer) h
 number_told by vs h go answer (Ok i) yields = yields i
 number_told by vs h go answer (Err f) yields = refl
@@ -99,7 +99,7 @@ text_told : (by : ℕ) (vs : List Value) (h : Objects) (go : List ℕ → Row) (
 text_told by vs h go answer (Ok us) yields = yields us
 text_told by vs h go answer (Err f) yields = refl
 
-as_number_yields : (by : ℕ) (this : Value) (args : List Value) (h : Objects) (i : ℕ) (go : ℤ → Row) (answer : ℤ → Result Value Fault) → ((n : ℤ) → Yields by this args h (go n) (told (answer n) h))
+pub as_number_yields : (by : ℕ) (this : Value) (args : List Value) (h : Objects) (i : ℕ) (go : ℤ → Row) (answer : ℤ → Result Value Fault) → ((n : ℤ) → Yields by this args h (go n) (told (answer n) h))
     → Yields by this args h (as_number (rows.argument i (suc (length args))) go) (told (and_then (number_of h (argument i args)) answer) h)
 as_number_yields by this args h i go answer yields = λ more. rw (argument_held place_of i this args more) (number_told by (this ∷ (args ++ more)) h go answer (number_of h (argument i args)) (λ n. yields n more))
 

@@ -1,19 +1,18 @@
 -- What the rows of built-in functions make of all their arguments, and the arrays that they make.
 use Rattle.std.proofs.Common.{◌≡◌, ℕ, zero, suc, ◌+◌, ◌-◌, false, List, [], ◌∷◌, ◌++◌, map, length, drop, Result, Ok, Err, Some, refl, sym, ◌∙◌, add-one, arith}
-use Rattle.std.specs.Prelude.{ℤ, slice_get}
+use Rattle.std.specs.Prelude.{slice_get}
 use Rattle.std.proofs.lemmas.List.{length-map}
 use Rattle.plans.specs.Plans.{Fault}
 use Rattle.es3_heap.specs.declared.value.Value.{Value}
 use Rattle.es3_heap.specs.Objects.{Objects}
 use Rattle.es3_convert.specs.Conversions.{and_then, text_of}
-use Rattle.es3_convert.specs.Numbers.{number_of}
 use Rattle.rows.specs.Rows.{Row, Handle, makes_array, as_text}
 use Rattle.rows.specs.Arguments as rows
-use Rattle.rows.specs.Arguments.{values_from, arguments, as_texts, as_numbers}
+use Rattle.rows.specs.Arguments.{values_from, arguments, as_texts}
 use Rattle.heap_rows.specs.Doing.{Done, value_in, finish, with_result, does}
 use Rattle.heap_rows.specs.Opening.{place_of, empty_page}
 use Rattle.row_outcomes.specs.Arguments.{argument}
-use Rattle.row_outcomes.specs.Lists.{texts_of, numbers_of, done_with, new_array}
+use Rattle.row_outcomes.specs.Lists.{texts_of, done_with, new_array}
 use Rattle.row_outcomes.proofs.Arguments.{Yields, argument_held}
 
 -- a conversion, and then the rest
@@ -52,27 +51,12 @@ texts_from by vs h i (x ∷ xs) more there go done yields =
     (λ us. texts_from by vs h (i + 1) xs more (rw add-one (behind vs (xs ++ more) x i there)) (λ r. go (us ∷ r)) (λ r. done (us ∷ r)) (λ r. yields (us ∷ r)) ∙ sym (done_with-then (texts_of h xs) (λ r. Ok (us ∷ r)) h done))
     ∙ sym (done_with-then (text_of h x) (λ us. and_then (texts_of h xs) (λ r. Ok (us ∷ r))) h done))
 
-numbers_from : (by : ℕ) (vs : List Value) (h : Objects) (i : ℕ) (xs more : List Value) → drop i vs ≡ xs ++ more → (go : List ℤ → Row) (done : List ℤ → Done) → ((ns : List ℤ) → (does place_of by (go ns) vs h empty_page []).done ≡ done ns)
-    → (does place_of by (as_numbers (values_from i (length xs)) go) vs h empty_page []).done ≡ done_with (numbers_of h xs) h done
-numbers_from by vs h i [] more there go done yields = yields []
-numbers_from by vs h i (x ∷ xs) more there go done yields =
-    rw (here vs (xs ++ more) x i there)
-    (with_is by vs h (λ n. as_numbers (values_from (i + 1) (length xs)) (λ r. go (n ∷ r))) (λ n. done_with (and_then (numbers_of h xs) (λ r. Ok (n ∷ r))) h done) (number_of h x)
-    (λ n. numbers_from by vs h (i + 1) xs more (rw add-one (behind vs (xs ++ more) x i there)) (λ r. go (n ∷ r)) (λ r. done (n ∷ r)) (λ r. yields (n ∷ r)) ∙ sym (done_with-then (numbers_of h xs) (λ r. Ok (n ∷ r)) h done))
-    ∙ sym (done_with-then (number_of h x) (λ n. and_then (numbers_of h xs) (λ r. Ok (n ∷ r))) h done))
-
 -- all the arguments
 pub as_texts_does : (by : ℕ) (this : Value) (args : List Value) (h : Objects) (go : List (List ℕ) → Row) (done : List (List ℕ) → Done) → ((uss : List (List ℕ)) → Yields by this args h (go uss) (done uss))
     → Yields by this args h (as_texts (arguments (suc (length args))) go) (done_with (texts_of h args) h done)
 as_texts_does by this args h go done yields = λ more.
     let count : suc (length args) - 1 ≡ length args = omega arith in
     rw count (texts_from by (this ∷ (args ++ more)) h 1 args more refl go done (λ uss. yields uss more))
-
-pub as_numbers_does : (by : ℕ) (this : Value) (args : List Value) (h : Objects) (go : List ℤ → Row) (done : List ℤ → Done) → ((ns : List ℤ) → Yields by this args h (go ns) (done ns))
-    → Yields by this args h (as_numbers (arguments (suc (length args))) go) (done_with (numbers_of h args) h done)
-as_numbers_does by this args h go done yields = λ more.
-    let count : suc (length args) - 1 ≡ length args = omega arith in
-    rw count (numbers_from by (this ∷ (args ++ more)) h 1 args more refl go done (λ ns. yields ns more))
 
 -- an array that a row makes
 pub array_made : (by : ℕ) (vs : List Value) (h : Objects) (xs : List Handle) → finish place_of by (makes_array false xs) vs h [] ≡ new_array by h (map (value_in place_of vs) xs)

@@ -1,23 +1,18 @@
--- Several values at once: their texts, their numbers, and a new array of them.
-use Rattle.std.specs.Prelude.{ℕ, ℤ, List, [], ◌∷◌, length, nat_lt, Result, Ok, Err, if◌then◌else◌}
+-- Several values at once: their texts, and a new array of them.
+use Rattle.std.specs.Prelude.{ℕ, List, [], ◌∷◌, length, nat_lt, Result, Ok, Err, if◌then◌else◌}
 use Rattle.plans.specs.Plans.{Fault}
 use Rattle.es3_heap.specs.declared.value.Value.{Value}
 use Rattle.es3_heap.specs.Objects.{Objects}
 use Rattle.es3_heap.specs.Making.{array_object}
 use Rattle.es3_convert.specs.Conversions.{and_then, text_of}
-use Rattle.es3_convert.specs.Numbers.{number_of}
 use Rattle.es3_language.specs.Natives.{value_reply, stop_reply}
 use Rattle.rows.specs.Rows.{most_items}
 use Rattle.heap_rows.specs.Doing.{Done, makes, too_long}
 
--- the texts, the numbers of some values, from the left
+-- the texts of some values, from the left
 abbrev pub texts_of : Objects → List Value → Result (List (List ℕ)) Fault
 texts_of h [] = Ok []
 texts_of h (x ∷ xs) = and_then (text_of h x) (λ us. and_then (texts_of h xs) (λ rest. Ok (us ∷ rest)))
-
-abbrev pub numbers_of : Objects → List Value → Result (List ℤ) Fault
-numbers_of h [] = Ok []
-numbers_of h (x ∷ xs) = and_then (number_of h x) (λ n. and_then (numbers_of h xs) (λ rest. Ok (n ∷ rest)))
 
 -- what is done with what was converted, or the run stops, and nothing changes
 abbrev pub done_with : {A : Type 0} → Result A Fault → Objects → (A → Done) → Done
