@@ -1,5 +1,5 @@
 -- A row names built-in functions that stand among the objects: any row where all of them do, and the common ones where a page has begun.
-use Rattle.std.proofs.Common.{◌≡◌, ℕ, ◌<◌, ◌≤◌, true, List, [], ◌∷◌, length, refl, arith}
+use Rattle.std.proofs.Common.{◌≡◌, ℕ, ◌+◌, ◌<◌, ◌≤◌, true, List, [], ◌∷◌, length, refl, arith}
 use Rattle.std.specs.Prelude.{nat_lt}
 use Rattle.std.proofs.lemmas.Bool.Decides.{nat_tests}
 use Rattle.std.proofs.lemmas.List.Elements.{All-nil, All-cons}
@@ -7,7 +7,7 @@ use Rattle.es3_heap.specs.Objects.{Objects}
 use Rattle.rows.specs.Rows as r
 use Rattle.rows.specs.Rows.{Native, Handle, Ending, Settling, Row}
 use Rattle.heap_rows.specs.Natives.{is_common}
-use Rattle.heap_rows.specs.Opening.{place_of, built_ins_there}
+use Rattle.heap_rows.specs.Opening.{first_count, place_of, built_ins_there}
 use Rattle.live_rows.specs.Named.{HandleNames, HandlesName, EndNames, SettlingNames, RowNames}
 use Rattle.live_rows.specs.Live.{IsThere}
 
@@ -52,7 +52,7 @@ names_what_is_there fs h q there = row_any (IsThere fs h) there q
 
 -- the common ones
 
-common_below : (f : Native) → is_common f ≡ true → nat_lt (place_of f) 68 ≡ true
+common_below : (f : Native) → is_common f ≡ true → nat_lt (place_of f) (first_count + 52) ≡ true
 common_below (r.service k) common = cc
 common_below r.say common = cc
 common_below r.later common = cc
@@ -65,8 +65,8 @@ common_below (r.makes r.type_error) common = refl
 common_below (r.makes r.range_error) common = refl
 common_below f common = refl
 
-below : (a n : ℕ) → nat_lt a 68 ≡ true → 68 ≤ n → a < n
-below a n less many = grind (arith, nat_tests)
+below : (a m n : ℕ) → nat_lt a m ≡ true → m ≤ n → a < n
+below a m n less many = grind (arith, nat_tests)
 
 pub common_there : (h : Objects) (f : Native) → built_ins_there h → is_common f ≡ true → IsThere place_of h f
-common_there h f there common = below (place_of f) (length h.list) (common_below f common) there
+common_there h f there common = below (place_of f) (first_count + 52) (length h.list) (common_below f common) there
