@@ -53,7 +53,7 @@ frozen_holds n false o holds = holds
 made_live : (frozen : Bool) (by : ℕ) (o : Object) (h : Objects) (y : List Told) → AreClosed h → HoldsLive (length h.list) o → LiveDone h (makes value_reply by (frozen_if frozen o) h y)
 made_live frozen by o h y closed holds = answers_live by (frozen_if frozen o) h y (with_object_grown h (frozen_if frozen o) closed (frozen_holds (length h.list) frozen o holds))
 
-pub item_properties_live : (n i : ℕ) (vs : List Value) → All (IsLive n) vs → LiveProps n (item_properties i vs)
+item_properties_live : (n i : ℕ) (vs : List Value) → All (IsLive n) vs → LiveProps n (item_properties i vs)
 item_properties_live n i [] live = All-nil (LiveProp n)
 item_properties_live n i (x ∷ vs) live =
     All-cons (LiveProp n) (record { key = number_units i; value = x; attrs = plain_attrs }) (item_properties (i + 1) vs) (All-head (IsLive n) x vs live) (item_properties_live n (i + 1) vs (All-tail (IsLive n) x vs live))

@@ -15,8 +15,8 @@ ghost use Rattle.heap_rows.specs.Doing.{Page, Told, does};
 ghost use Rattle.live_rows.specs.Named.{RowNames};
 ghost use Rattle.live_rows.specs.Live.{IsThere, LivePage, LiveCame};
 
-/// Whatever a row is, done with live values among closed objects, it leaves closed objects and a live page, and answers live values. The built-in functions that it
-/// names must stand among the objects.
+/// Whatever a row is, done with live values among closed objects, it takes no object away, leaves closed objects and a live page, and answers live values. The
+/// built-in functions that it names must stand among the objects.
 pub fn what_a_row_comes_to_is_live()
     ensures { (fs : Native → ℕ) (by : ℕ) (q : Row) (vs : List Value) (h : Objects) (g : Page) (y : List Told) → RowNames (IsThere fs h) q → AreClosed h
         → All (IsLive (length h.list)) vs → LivePage (length h.list) g → LiveCame h (does fs by q vs h g y) }
