@@ -1,0 +1,10 @@
+pub mod Values
+pub mod Seeing
+pub mod Changes
+pub mod Ends
+pub mod Made
+pub mod Writes
+pub mod Items
+pub mod Kept
+pub mod Rows
+pub mod Named
