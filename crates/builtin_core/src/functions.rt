@@ -10,7 +10,7 @@ ghost use Rattle.builtin_core.specs.Calls.{invokes, arguments_in};
 use caja_units::Memory;
 use es3_convert::{array_items, out_of_memory};
 use es3_heap::{Class, Heap, Stop, Value};
-use row_outcomes::{Outcome, thrown, value_or};
+use row_outcomes::{Outcome, copied, thrown, value_or};
 use std::alloc::Global;
 
 /// Whether a value can be called (ES3 15.3).
@@ -21,17 +21,6 @@ fn has_class_function(h: &Heap, value: &Value) -> bool
         Value::Obj(o) => matches!(h.class(*o), Class::Function),
         _ => false,
     }
-}
-
-/// Some values once more.
-fn copied(alloc: Global, values: &[Value]) -> Result<Vec<Value>, Memory>
-    ensures { IfOk result (λ copies. copies.items ≡ values.now) }
-{
-    let mut copies = Vec::new(alloc);
-    for value in values {
-        copies.push(value.copy(alloc)?)?;
-    }
-    Ok(copies)
 }
 
 /// A call that is recorded, of a function with a receiver and arguments.

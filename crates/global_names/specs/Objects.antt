@@ -1,17 +1,17 @@
 -- What `Object`, `Function`, `Array` and the methods of the prototype of Object answer (ES3 15.2 to 15.4), by their receiver and their arguments.
-use Rattle.std.specs.Prelude.{ℕ, List, [], ◌∷◌, Some, None, Ok, length, nat_lt, codes, if◌then◌else◌}
+use Rattle.std.specs.Prelude.{ℕ, List, [], ◌∷◌, Some, Ok, codes}
 use Rattle.es3_heap.specs.declared.value.Value.{Value}
 use Rattle.es3_heap.specs.declared.value.Value.TheVariants as v
 use Rattle.es3_heap.specs.declared.value.Class.TheVariants as class
 use Rattle.es3_heap.specs.declared.value.Proto.TheVariants as proto
 use Rattle.es3_heap.specs.Objects.{Objects}
-use Rattle.es3_heap.specs.Making.{plain_object, proto_id, array_object}
+use Rattle.es3_heap.specs.Making.{plain_object, proto_id}
 use Rattle.es3_convert.specs.Conversions.{and_then, text_of}
 use Rattle.es3_language.specs.Natives.{value_reply}
-use Rattle.rows.specs.Rows.{most_items}
-use Rattle.heap_rows.specs.Doing.{Done, makes, gives, too_long}
+use Rattle.heap_rows.specs.Doing.{Done, makes, gives}
 use Rattle.row_outcomes.specs.Comes.{throws}
-use Rattle.row_outcomes.specs.Arguments.{argument, told}
+use Rattle.row_outcomes.specs.Arguments.{told}
+use Rattle.row_outcomes.specs.Lists.{new_array}
 
 -- 15.2.1.1, 15.2.2.1: `Object(v)`, with and without `new`: a new object for nothing, an object itself; wrappers of other values aren't made
 abbrev pub new_object : ℕ → Objects → Done
@@ -28,12 +28,9 @@ abbrev pub function_from : ℕ → Objects → Done
 function_from by h = throws (codes "not allowed") by h
 
 -- 15.4.1.1, 15.4.2.1: `Array(..)`, with and without `new`: an array of the arguments; one number alone, which would be a length, is refused
-abbrev pub array_of : ℕ → List Value → Objects → Done
-array_of by vs h = if nat_lt (length vs) most_items then makes value_reply by (array_object vs) h [] else too_long h []
-
 abbrev pub array_from : ℕ → List Value → Objects → Done
 array_from by (v.Num n ∷ []) h = throws (codes "not allowed") by h
-array_from by vs h = array_of by vs h
+array_from by vs h = new_array by h vs
 
 -- 15.2.4.2: `toString` is the conversion of its receiver
 abbrev pub to_text : Value → Objects → Done

@@ -1,6 +1,6 @@
 -- The store in which a text begins that runs as it stands: the global names (ES3 15.1), and what the prototypes have (15.2.4 to 15.11.4). `Object`, `Function` and `Array`
 -- stand behind all that a page begins with, and the global object behind them.
-use Rattle.std.specs.Prelude.{ℕ, true, false, List, [], ◌∷◌, None, map, codes}
+use Rattle.std.specs.Prelude.{ℕ, ◌+◌, true, false, List, [], ◌∷◌, None, map, length, codes}
 use Rattle.es3_heap.specs.declared.value.Value.TheVariants.{Undefined, Obj}
 use Rattle.es3_heap.specs.declared.value.Class.TheVariants as class
 use Rattle.es3_heap.specs.declared.value.Attrs.{Attrs}
@@ -14,7 +14,7 @@ use Rattle.rows.specs.Rows as r
 use Rattle.rows.specs.Names.{function_methods, text_methods, array_methods}
 use Rattle.heap_rows.specs.Opening.{place_of, opened}
 
--- the numbers of `Object`, `Function` and `Array`, and where they stand
+-- the numbers of `Object`, `Function` and `Array`
 abbrev pub object_number : ℕ
 object_number = 59
 
@@ -24,26 +24,14 @@ function_number = 60
 abbrev pub array_number : ℕ
 array_number = 61
 
-abbrev pub object_place : ℕ
-object_place = 70
-
-abbrev pub function_place : ℕ
-function_place = 71
-
-abbrev pub array_place : ℕ
-array_place = 72
-
-abbrev pub globals_place : ℕ
-globals_place = 73
-
 -- the record `Math`
 abbrev pub math_place : ℕ
 math_place = 19
 
--- the global functions: the name of each, where it stands, and its prototype
-abbrev pub constructors : List (List ℕ × ℕ × Proto)
-constructors =
-    (codes "Object", object_place, proto.Object) ∷ (codes "Function", function_place, proto.Function) ∷ (codes "Array", array_place, proto.Array)
+-- the global functions: the name of each, where it stands, and its prototype; the first three stand from n on
+abbrev pub constructors : ℕ → List (List ℕ × ℕ × Proto)
+constructors n =
+    (codes "Object", n, proto.Object) ∷ (codes "Function", n + 1, proto.Function) ∷ (codes "Array", n + 2, proto.Array)
     ∷ (codes "String", place_of r.text_from, proto.String) ∷ (codes "Number", place_of r.number_from, proto.Number) ∷ (codes "Boolean", place_of r.truth_from, proto.Boolean)
     ∷ (codes "Error", place_of (r.makes r.error), proto.Error) ∷ (codes "TypeError", place_of (r.makes r.type_error), proto.TypeError)
     ∷ (codes "RangeError", place_of (r.makes r.range_error), proto.RangeError) ∷ []
@@ -53,13 +41,16 @@ abbrev pub with_hidden : ℕ → List ℕ → ℕ → Objects → Objects
 with_hidden o k place h = define h o k (Obj place) hidden_attrs
 
 -- a global function, which has its prototype (15.2.3.1), and which that has as `constructor` (15.2.4.1)
-abbrev pub with_constructor : List ℕ × ℕ × Proto → Objects → Objects
-with_constructor (name, place, p) h =
-    with_hidden globals_place name place (with_hidden (proto_id p) (codes "constructor") place (define h place (codes "prototype") (Obj (proto_id p)) fixed_attrs))
+abbrev pub with_constructor : ℕ → List ℕ × ℕ × Proto → Objects → Objects
+with_constructor globals c h =
+    with_hidden globals c.0 c.1 (with_hidden (proto_id c.2) (codes "constructor") c.1 (define h c.1 (codes "prototype") (Obj (proto_id c.2)) fixed_attrs))
 
-abbrev pub with_constructors : List (List ℕ × ℕ × Proto) → Objects → Objects
-with_constructors [] h = h
-with_constructors (c ∷ cs) h = with_constructors cs (with_constructor c h)
+abbrev pub with_constructors : ℕ → List (List ℕ × ℕ × Proto) → Objects → Objects
+with_constructors globals [] h = h
+with_constructors globals (c ∷ cs) h = with_constructors globals cs (with_constructor globals c h)
+
+unfoldable pub with_names : ℕ → ℕ → Objects → Objects
+with_names globals n h = with_constructors globals (constructors n) h
 
 -- methods by their names and places
 abbrev pub placed : List (List ℕ × r.Native) → List (List ℕ × ℕ)
@@ -77,13 +68,24 @@ global_attrs = record { read_only = false; dont_enum = true; dont_delete = true;
 abbrev pub with_functions : Objects → Objects
 with_functions h = made_function (Constructor array_number) 0 (made_function (Constructor function_number) 0 (made_function (Constructor object_number) 0 h))
 
-abbrev pub with_globals : Objects → Objects
-with_globals h = define (made class.Object None h) globals_place (codes "undefined") Undefined global_attrs
+abbrev pub with_globals : ℕ → Objects → Objects
+with_globals globals h = define (made class.Object None h) globals (codes "undefined") Undefined global_attrs
 
 -- 15.3.4, 15.4.4, 15.5.4: the methods of the prototypes
-abbrev pub with_prototypes : Objects → Objects
+unfoldable pub with_prototypes : Objects → Objects
 with_prototypes h =
     with_methods (proto_id proto.Array) (placed array_methods) (with_methods (proto_id proto.String) (placed text_methods) (with_methods (proto_id proto.Function) (placed function_methods) h))
 
+-- `Object`, `Function`, `Array` and the global object stand behind what was there
+abbrev pub named_from : ℕ → Objects → Objects
+named_from n h = with_prototypes (with_hidden (n + 3) (codes "Math") math_place (with_names (n + 3) n (with_globals (n + 3) (with_functions h))))
+
+unfoldable pub with_global_names : Objects → Objects
+with_global_names h = named_from (length h.list) h
+
 unfoldable pub text_objects : Objects
-text_objects = with_prototypes (with_hidden globals_place (codes "Math") math_place (with_constructors constructors (with_globals (with_functions opened))))
+text_objects = with_global_names opened
+
+-- what a page begins with are 70 objects
+abbrev pub text_globals : ℕ
+text_globals = 73

@@ -2,5 +2,7 @@
 #![tactic(auto)]
 
 mod objects;
+mod opening;
 
 pub use objects::{array_from, function_from, object_from, to_string, value_of};
+pub use opening::add_global_names;

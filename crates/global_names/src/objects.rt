@@ -1,16 +1,14 @@
 //! `Object`, `Function`, `Array`, and the methods of the prototype of Object (ES3 15.2 to 15.4).
 
 ghost use Rattle.std.specs.Prelude.{◌≡◌, ◌≤◌, IfOk, OnOk, length};
-ghost use Rattle.es3_heap.specs.Objects.{with_object};
-ghost use Rattle.es3_heap.specs.Making.{array_object, named};
 ghost use Rattle.row_outcomes.specs.Comes.{Comes};
 ghost use Rattle.row_outcomes.specs.Arguments.{argument};
-ghost use Rattle.global_names.specs.Objects.{new_object, object_from, function_from, array_of, array_from, to_text, to_value};
+ghost use Rattle.global_names.specs.Objects.{new_object, object_from, function_from, array_from, to_text, to_value};
 
 use caja_units::Memory;
 use es3_convert::{out_of_memory, to_text};
 use es3_heap::{Class, Heap, ObjId, Proto, Stop, Value};
-use row_outcomes::{Outcome, thrown, value_or};
+use row_outcomes::{Outcome, copied, new_array, thrown, value_or};
 use std::alloc::Global;
 
 /// A new object without properties, made by the running module.
@@ -55,41 +53,6 @@ pub fn function_from(alloc: Global, h: &mut Heap, by: u32) -> Result<Outcome, St
     thrown(alloc, h, by, b"not allowed")
 }
 
-/// Copies of values.
-fn copies(alloc: Global, values: &[Value]) -> Result<Vec<Value>, Memory>
-    ensures { IfOk result (λ v. v.items ≡ values.now) }
-{
-    let mut copies = Vec::with_capacity(alloc, values.len())?;
-    for value in values {
-        copies.push(value.copy(alloc)?)?;
-    }
-    Ok(copies)
-}
-
-/// A new array of some values, made by the running module.
-fn make_array(alloc: Global, h: &mut Heap, by: u32, values: &[Value]) -> Result<ObjId, Memory>
-    ensures id { IfOk result (λ o. o ≡ length h.old.list) }
-    ensures store { OnOk result (h.new ≡ named (with_object h.old (array_object values.now)) (length h.old.list) by) }
-    ensures live { length h.old.list ≤ length h.new.list }
-{
-    let items = copies(alloc, values)?;
-    let array = h.make_array(items)?;
-    h.name_next(array, by);
-    Ok(array)
-}
-
-/// A new array of some values, which are fewer than 2^32.
-fn array_of(alloc: Global, h: &mut Heap, by: u32, values: &[Value]) -> Result<Outcome, Stop>
-    ensures outcome { Comes (array_of by values.now h.old) result h.new }
-    ensures live { length h.old.list ≤ length h.new.list }
-{
-    if values.len() > u32::MAX as usize {
-        return Err(Stop::Number);
-    }
-    let array = make_array(alloc, h, by, values).map_err(out_of_memory)?;
-    Ok(Outcome::Value(Value::Obj(array)))
-}
-
 /// `Array(..)` (ES3 15.4.1.1, 15.4.2.1): an array of the arguments. It throws a TypeError `not allowed` for one number alone,
 /// and the run stops where the arguments are 2^32 or more.
 pub fn array_from(alloc: Global, h: &mut Heap, by: u32, args: &[Value]) -> Result<Outcome, Stop>
@@ -98,7 +61,7 @@ pub fn array_from(alloc: Global, h: &mut Heap, by: u32, args: &[Value]) -> Resul
 {
     match args {
         [Value::Num(_)] => thrown(alloc, h, by, b"not allowed"),
-        _ => array_of(alloc, h, by, args),
+        _ => new_array(h, by, copied(alloc, args).map_err(out_of_memory)?),
     }
 }
 

@@ -67,6 +67,17 @@ pub fn outcome_of(value: Result<Value, Stop>) -> Result<Outcome, Stop>
     Ok(Outcome::Value(value?))
 }
 
+/// Some values once more, in their order.
+pub fn copied(alloc: Global, values: &[Value]) -> Result<Vec<Value>, Memory>
+    ensures { IfOk result (λ copies. copies.items ≡ values.now) }
+{
+    let mut copies = Vec::new(alloc);
+    for value in values {
+        copies.push(value.copy(alloc)?)?;
+    }
+    Ok(copies)
+}
+
 /// A new TypeError with this message (ES3 15.11.6.5), made by the running module.
 fn type_error(alloc: Global, h: &mut Heap, by: u32, message: &[u8]) -> Result<ObjId, Memory>
     ensures id { IfOk result (λ o. o ≡ length h.old.list) }

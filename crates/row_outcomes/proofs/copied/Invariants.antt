@@ -1,5 +1,5 @@
 use Rattle.std.proofs.Common.{◌≡◌, ◌++◌, drop}
-use Rattle.builtin_core.proofs.functions.copied.Given as goal
+use Rattle.row_outcomes.proofs.copied.Given as goal
 
 abbrev pub invariant-loop-value : goal.invariant-loop-value
 invariant-loop-value l = l.copies.items ++ drop l.value-index l.values ≡ l.values
