@@ -13,7 +13,7 @@ use Rattle.es3_language.specs.Meaning as Target
 use Rattle.cajita_rewrite.specs.Rewrite.{runtime_name, runtime_call}
 use Rattle.cajita_meaning.specs.World.{Object, World}
 use Rattle.cajita_meaning.specs.Direct.{Item, printed}
-use Rattle.heap_rows.specs.Opening.{first, place_of, runtime_id}
+use Rattle.heap_rows.specs.Opening.{first, first_count, place_of, runtime_id}
 use Rattle.module_loader.specs.Page.{Kept, page_table}
 use Rattle.cajita_simulation.proofs.Doing as Source
 use Rattle.cajita_simulation.proofs.Heaps.Opened.{IsOpened}
@@ -22,7 +22,7 @@ use Rattle.cajita_simulation.proofs.Relation.{EsValue, ObjectsAre, Tags, names_a
 use Rattle.cajita_simulation.proofs.Slots.{slot_plan}
 use Rattle.cajita_simulation.proofs.Laws.{Cont', M, most_steps, steps_hold}
 
-first_long : length first.list ≡ 16
+first_long : length first.list ≡ first_count
 unfolding first
 first_long = refl
 

@@ -62,12 +62,12 @@ thrown_live message by h closed =
 -- a method is one of the built-in functions
 abbrev AreBuilt : List (List ℕ × Native) → Type 0
 AreBuilt [] = Unit {0}
-AreBuilt (m ∷ table) = (nat_lt (place_of m.1) 68 ≡ true) × AreBuilt table
+AreBuilt (m ∷ table) = (nat_lt (place_of m.1) 70 ≡ true) × AreBuilt table
 
-below : (a n : ℕ) → nat_lt a 68 ≡ true → 68 ≤ n → a < n
+below : (a n : ℕ) → nat_lt a 70 ≡ true → 70 ≤ n → a < n
 below a n less many = grind (arith, nat_tests)
 
-method_live : (n : ℕ) (table : List (List ℕ × Native)) (k : List ℕ) → AreBuilt table → 68 ≤ n → IsLive n (method_value table k)
+method_live : (n : ℕ) (table : List (List ℕ × Native)) (k : List ℕ) → AreBuilt table → 70 ≤ n → IsLive n (method_value table k)
 method_live n [] k are many = tt
 method_live n (m ∷ table) k are many =
     elim (same_units k m.0) as (λ b. IsLive n (cond b (v.Obj (place_of m.1)) (method_value table k))) [
@@ -75,13 +75,13 @@ method_live n (m ∷ table) k are many =
       | false ↦ method_live n table k are.1 many
     ]
 
-function_method_live : (n : ℕ) (k : List ℕ) → 68 ≤ n → IsLive n (method_value function_methods k)
+function_method_live : (n : ℕ) (k : List ℕ) → 70 ≤ n → IsLive n (method_value function_methods k)
 function_method_live n k many = method_live n function_methods k (refl, (refl, tt)) many
 
-text_method_live : (n : ℕ) (k : List ℕ) → 68 ≤ n → IsLive n (method_value text_methods k)
+text_method_live : (n : ℕ) (k : List ℕ) → 70 ≤ n → IsLive n (method_value text_methods k)
 text_method_live n k many = method_live n text_methods k (refl, (refl, (refl, (refl, (refl, (refl, (refl, (refl, tt)))))))) many
 
-array_method_live : (n : ℕ) (k : List ℕ) → 68 ≤ n → IsLive n (method_value array_methods k)
+array_method_live : (n : ℕ) (k : List ℕ) → 70 ≤ n → IsLive n (method_value array_methods k)
 array_method_live n k many = method_live n array_methods k (refl, (refl, (refl, (refl, (refl, (refl, (refl, (refl, tt)))))))) many
 
 live_if : (n : ℕ) (b : Bool) (x y : Value) → IsLive n x → IsLive n y → IsLive n (cond b x y)

@@ -9,30 +9,30 @@ use es3_heap::{ObjId, Value};
 use std::alloc::Global;
 
 /// The methods of functions, each with its place.
-pub const FUNCTION_METHODS: [(&str, u32); 2] = [("call", 37), ("apply", 38)];
+pub const FUNCTION_METHODS: [(&str, u32); 2] = [("call", 39), ("apply", 40)];
 
 /// The methods of texts.
 pub const TEXT_METHODS: [(&str, u32); 8] = [
-    ("charAt", 39),
-    ("charCodeAt", 40),
-    ("indexOf", 41),
-    ("lastIndexOf", 42),
-    ("slice", 43),
-    ("substring", 44),
-    ("split", 45),
-    ("concat", 46),
+    ("charAt", 41),
+    ("charCodeAt", 42),
+    ("indexOf", 43),
+    ("lastIndexOf", 44),
+    ("slice", 45),
+    ("substring", 46),
+    ("split", 47),
+    ("concat", 48),
 ];
 
 /// The methods of arrays.
 pub const ARRAY_METHODS: [(&str, u32); 8] = [
-    ("concat", 47),
-    ("join", 48),
-    ("slice", 49),
-    ("push", 50),
-    ("unshift", 51),
-    ("pop", 52),
-    ("shift", 53),
-    ("reverse", 54),
+    ("concat", 49),
+    ("join", 50),
+    ("slice", 51),
+    ("push", 52),
+    ("unshift", 53),
+    ("pop", 54),
+    ("shift", 55),
+    ("reverse", 56),
 ];
 
 /// Whether a key is this one.

@@ -15,23 +15,23 @@ const MATH: u32 = 1;
 
 /// The functions of the record `cajita`: the name of each, and the object that it is.
 const CAJITA_FUNCTIONS: [(&[u8], u32); 7] = [
-    (b"freeze", 18),
-    (b"isFrozen", 19),
-    (b"copy", 20),
-    (b"snapshot", 21),
-    (b"isArray", 22),
-    (b"isRecord", 23),
-    (b"keys", 24),
+    (b"freeze", 20),
+    (b"isFrozen", 21),
+    (b"copy", 22),
+    (b"snapshot", 23),
+    (b"isArray", 24),
+    (b"isRecord", 25),
+    (b"keys", 26),
 ];
 
 /// The functions of the record `Math`.
 const MATH_FUNCTIONS: [(&[u8], u32); 6] = [
-    (b"abs", 25),
-    (b"floor", 26),
-    (b"ceil", 27),
-    (b"round", 28),
-    (b"max", 29),
-    (b"min", 30),
+    (b"abs", 27),
+    (b"floor", 28),
+    (b"ceil", 29),
+    (b"round", 30),
+    (b"max", 31),
+    (b"min", 32),
 ];
 
 /// The built-in functions in the order of their numbers: the two records', the conversions, the constructors of errors, and

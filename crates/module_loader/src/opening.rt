@@ -2,10 +2,11 @@
 
 ghost use Rattle.std.specs.Prelude.{◌≡◌, ◌≤◌, IfOk, OnOk, length};
 ghost use Rattle.es3_heap.specs.Properties.{define};
-ghost use Rattle.heap_rows.specs.Opening.{first, opened, with_guard, with_guards, runtime_id, imports_id, globals_id};
+ghost use Rattle.heap_rows.specs.Opening.{first, opened, with_guard, with_guards, with_conversions, runtime_id, imports_id, globals_id};
 
 use crate::built_ins::add_built_ins;
 use caja_units::{Memory, Units};
+use es3_convert::{TO_STRING, VALUE_OF};
 use es3_heap::{Attrs, Class, FuncKind, Heap, ObjId, Proto, Value};
 use std::alloc::Global;
 
@@ -39,19 +40,13 @@ fn hide(alloc: Global, heap: &mut Heap, o: ObjId, name: &[u8], value: Value) -> 
     heap.define(o, &key, value, Attrs::HIDDEN)
 }
 
-/// Gives the object of the runtime a guard.
-fn add_guard(
-    alloc: Global,
-    heap: &mut Heap,
-    name: &[u8],
-    row: u32,
-    runtime: ObjId,
-) -> Result<(), Memory>
-    ensures store { OnOk result (heap.new ≡ with_guard name.now row runtime heap.old) }
+/// Gives an object a function of the page, by its number, as a hidden property.
+fn add_guard(alloc: Global, heap: &mut Heap, name: &[u8], row: u32, o: ObjId) -> Result<(), Memory>
+    ensures store { OnOk result (heap.new ≡ with_guard name.now row o heap.old) }
     ensures live { length heap.old.list ≤ length heap.new.list }
 {
     let guard = heap.make_func(FuncKind::Simple(row), 0)?;
-    hide(alloc, heap, runtime, name, Value::Obj(guard))
+    hide(alloc, heap, o, name, Value::Obj(guard))
 }
 
 /// Gives the object of the runtime the guards that there are.
@@ -64,7 +59,17 @@ fn add_guards(alloc: Global, heap: &mut Heap, runtime: ObjId) -> Result<(), Memo
     add_guard(alloc, heap, b"readPub", READ_PUB, runtime)
 }
 
-/// A store with the prototypes, the object of the runtime, that of the imports, and the global object.
+/// Gives the prototype of Object the built-in conversions (ES3 15.2.4.2, 15.2.4.4).
+fn add_conversions(alloc: Global, heap: &mut Heap) -> Result<(), Memory>
+    ensures store { OnOk result (heap.new ≡ with_conversions heap.old) }
+    ensures live { length heap.old.list ≤ length heap.new.list }
+{
+    let proto = heap.proto(Proto::Object);
+    add_guard(alloc, heap, b"toString", TO_STRING, proto)?;
+    add_guard(alloc, heap, b"valueOf", VALUE_OF, proto)
+}
+
+/// A store with the prototypes, the object of the runtime, that of the imports, the global object, and the conversions.
 #[tactic(auto, unfolding(heap_rows::specs::Opening::first))]
 fn open_first(alloc: Global) -> Result<Opened, Memory>
     ensures heap { IfOk result (λ o. o.heap ≡ first) }
@@ -79,6 +84,7 @@ fn open_first(alloc: Global) -> Result<Opened, Memory>
     let globals = heap.make(Class::Object, None)?;
     add_guards(alloc, &mut heap, runtime)?;
     hide(alloc, &mut heap, globals, b"___", Value::Obj(runtime))?;
+    add_conversions(alloc, &mut heap)?;
     Ok(Opened {
         heap,
         runtime,

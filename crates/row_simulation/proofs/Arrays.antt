@@ -1,8 +1,6 @@
 -- Changes of arrays, and new ones.
 use Rattle.std.proofs.Common.{◌≡◌, ℕ, zero, suc, ◌+◌, ◌<◌, Bool, true, false, List, [], ◌∷◌, ◌++◌, length, Option, Some, None, cond, refl, sym, ap, ◌∙◌, subst, arith}
 use Rattle.std.specs.Prelude.{slice_get, codes, map, is_some, nat_lt}
-use Rattle.std.specs.List.{filter}
-use Rattle.std.specs.Fmt.{digits}
 use Rattle.std.specs.Str.Parse.{AllDigits}
 use Rattle.std.proofs.lemmas.Option.{none-some}
 use Rattle.std.proofs.lemmas.List.{append-nil, length-map}
@@ -10,8 +8,7 @@ use Rattle.std.proofs.lemmas.Fmt.{decimal_is_IsNumeral}
 use Rattle.std.proofs.lemmas.Str.Parse.{digit_from_value}
 use Rattle.std.proofs.lemmas.Bool.Decides.{nat_tests}
 use Rattle.caja_units.specs.Units.{is_hidden}
-use Rattle.caja_units.specs.Index.{array_index, number_units}
-use Rattle.caja_units.proofs.Indices.{array_index-number}
+use Rattle.caja_units.specs.Index.{number_units}
 use Rattle.es3_heap.specs.declared.value.Value.TheVariants as es
 use Rattle.es3_heap.specs.declared.value.Class.TheVariants as class
 use Rattle.es3_heap.specs.declared.value.Tag.TheVariants as tag
@@ -20,6 +17,7 @@ use Rattle.es3_heap.specs.Objects as heap
 use Rattle.es3_heap.specs.Objects.{Property, Objects, object_at, hidden_attrs}
 use Rattle.es3_heap.specs.Properties.{find, defined, length_key}
 use Rattle.es3_heap.specs.Making.{length_property, item_properties, array_object}
+use Rattle.es3_heap.specs.Items.{set_items, items_set}
 use Rattle.es3_language.specs.Natives.{value_reply}
 use Rattle.rows.specs.Rows as r
 use Rattle.rows.specs.Rows.{Handle, Native}
@@ -30,6 +28,7 @@ use Rattle.heap_rows.specs.Doing as es3
 use Rattle.heap_rows.specs.Doing.{Told}
 use Rattle.row_simulation.proofs.Keys.{not_true, ends_as, apart_too, hidden_read, hidden_set, read_frozen, set_frozen, set_mark_hidden}
 use Rattle.row_simulation.proofs.Items.{closed_is}
+use Rattle.row_simulation.proofs.ItemsSet.{items_set_are}
 use Rattle.row_simulation.proofs.Relation.{EsValue, Named, Val, Vals, closing, IsArray, Is, IsNamed, ObjectsAre, val_keep}
 use Rattle.row_simulation.proofs.Names.{made_known, cell_known, tools_known}
 use Rattle.row_simulation.specs.Among.{IsHandleAmong, AreHandlesAmong}
@@ -122,19 +121,11 @@ array_law {first = first} {places = places} by below f frozen xs a s es w h z y 
 
 -- an array's items
 
-filter_past : (i : ℕ) (vs : List EsValue) (rest : List Property) → i + length vs < 4294967296 → filter es3.is_other (item_properties i vs ++ rest) ≡ filter es3.is_other rest
-filter_past i [] rest few = refl
-filter_past i (v ∷ vs) rest few =
-    let index : array_index (number_units i) ≡ Some i = array_index-number (number_units i) i refl (omega (arith, few)) in
-    rw index (filter_past (i + 1) vs rest (omega (arith, few)))
-
-length_is_no_other : es3.is_other (length_property 0) ≡ false
-unfolding array_index digits
-length_is_no_other = refl
-
-set_props : (vs us : List EsValue) → length vs < 4294967296 → length_property (length us) ∷ (item_properties 0 us ++ filter es3.is_other (array_props false vs)) ≡ array_props false us
-set_props vs us few =
-    ap (λ l. length_property (length us) ∷ (item_properties 0 us ++ l)) (rw length_is_no_other (filter_past 0 vs [] (omega (arith, few))))
+set_props : (vs us : List EsValue) → length vs < 4294967296 → length us < 4294967296 → items_set us (array_props false vs) ≡ array_props false us
+set_props vs us few few' =
+    ap (λ ps. items_set us (length_property (length vs) ∷ ps)) (append-nil (item_properties 0 vs))
+    ∙ items_set_are (length vs) vs us few few'
+    ∙ ap (λ ps. length_property (length us) ∷ ps) (sym (append-nil (item_properties 0 us)))
 
 array_no_function : {h : Objects} {frozen : Bool} {vs : List Value} {c : heap.Object} → IsArray h frozen vs c → c.class ≡ class.Function → ⊥
 array_no_function is e = let clash = sym is.class ∙ e in cc
@@ -150,25 +141,25 @@ revised_array {h = h} w old a b i c frozen frozen' vs ws us name there known is 
 array_closed : (h : Objects) (i : ℕ) (c : heap.Object) (frozen : Bool) (vs : List Value) → object_at h i ≡ Some c → IsArray h frozen vs c → is_frozen h i ≡ frozen
 array_closed h i c frozen vs there is = ap is_some (closed_is h i c is.items (closing frozen) frozen_mark is.few frozen_no_index refl there is.props) ∙ closing_found frozen
 
-set_array : {first : Objects} {places : Native → ℕ} {m : ℕ} {h : Objects} (w : World) → ObjectsAre first places w.objects h m → (a b i : ℕ) (c : heap.Object) (frozen : Bool) (vs ws : List Value) (us : List EsValue) → length us < 4294967296 → Vals h ws us → heap.tag_of (object_at h i) ≡ tag.Made a b → object_at h i ≡ Some c → slice_get (w.objects a) b ≡ Some (an_array frozen vs) → IsArray h frozen vs c → Changed first places m h (with_made a b (direct.with_items ws (an_array frozen vs)) w).objects (cond (is_frozen h i) h (es3.set_items h i us))
+set_array : {first : Objects} {places : Native → ℕ} {m : ℕ} {h : Objects} (w : World) → ObjectsAre first places w.objects h m → (a b i : ℕ) (c : heap.Object) (frozen : Bool) (vs ws : List Value) (us : List EsValue) → length us < 4294967296 → Vals h ws us → heap.tag_of (object_at h i) ≡ tag.Made a b → object_at h i ≡ Some c → slice_get (w.objects a) b ≡ Some (an_array frozen vs) → IsArray h frozen vs c → Changed first places m h (with_made a b (direct.with_items ws (an_array frozen vs)) w).objects (cond (is_frozen h i) h (set_items h i us))
 set_array w old a b i c true vs ws us few p name there known is = rw (array_closed _ i c true vs there is) (same_made w a b (an_array true vs) known old)
 set_array {first = first} {places = places} {m = m} {h = h} w old a b i c false vs ws us few p name there known is =
-    rw (array_closed h i c false vs there is, there, is.props) (subst (λ l. Changed first places m h (with_made a b (an_array false ws) w).objects (revised h i c l)) (sym (set_props is.items us is.few)) (revised_array w old a b i c false false vs ws us name there known is few p))
+    rw (array_closed h i c false vs there is, there, is.props) (subst (λ l. Changed first places m h (with_made a b (an_array false ws) w).objects (revised h i c l)) (sym (set_props is.items us is.few few)) (revised_array w old a b i c false false vs ws us name there known is few p))
 
 -- a change of arrays, on both sides
-on_array : {first : Objects} {places : Native → ℕ} {m : ℕ} {h : Objects} (w : World) → ObjectsAre first places w.objects h m → (ws : List Value) (us : List EsValue) → length us < 4294967296 → Vals h ws us → (v : Value) (e : EsValue) → Val h v e → Changed first places m h (direct.changed (direct.with_items ws) v w).objects (es3.on_object e h (λ i. es3.of_array (heap.class_of (object_at h i)) (cond (is_frozen h i) h (es3.set_items h i us)) h))
+on_array : {first : Objects} {places : Native → ℕ} {m : ℕ} {h : Objects} (w : World) → ObjectsAre first places w.objects h m → (ws : List Value) (us : List EsValue) → length us < 4294967296 → Vals h ws us → (v : Value) (e : EsValue) → Val h v e → Changed first places m h (direct.changed (direct.with_items ws) v w).objects (es3.on_object e h (λ i. es3.of_array (heap.class_of (object_at h i)) (cond (is_frozen h i) h (set_items h i us)) h))
 on_array {first = first} {places = places} {m = m} {h = h} w old ws us few q =
-    by_value h (λ v e. Changed first places m h (direct.changed (direct.with_items ws) v w).objects (es3.on_object e h (λ i. es3.of_array (heap.class_of (object_at h i)) (cond (is_frozen h i) h (es3.set_items h i us)) h)))
+    by_value h (λ v e. Changed first places m h (direct.changed (direct.with_items ws) v w).objects (es3.on_object e h (λ i. es3.of_array (heap.class_of (object_at h i)) (cond (is_frozen h i) h (set_items h i us)) h)))
     (unchanged old) (unchanged old) (λ a. unchanged old) (λ n. unchanged old) (λ us. unchanged old)
-    (λ n i p. let s = old.each n i p in subst (λ g. Changed first places m h (direct.changed (direct.with_items ws) (object n) w).objects (es3.of_array (heap.class_of g) (cond (is_frozen h i) h (es3.set_items h i us)) h)) (sym s.there) (by_name n i p s.stored s.there s.is))
+    (λ n i p. let s = old.each n i p in subst (λ g. Changed first places m h (direct.changed (direct.with_items ws) (object n) w).objects (es3.of_array (heap.class_of g) (cond (is_frozen h i) h (set_items h i us)) h)) (sym s.there) (by_name n i p s.stored s.there s.is))
   where
-    by_object : (a b i : ℕ) → heap.tag_of (object_at h i) ≡ tag.Made a b → (o : Object) → slice_get (w.objects a) b ≡ Some o → (c : heap.Object) → object_at h i ≡ Some c → Is h o c → Changed first places m h (with_made a b (direct.with_items ws o) w).objects (es3.of_array c.class (cond (is_frozen h i) h (es3.set_items h i us)) h)
+    by_object : (a b i : ℕ) → heap.tag_of (object_at h i) ≡ tag.Made a b → (o : Object) → slice_get (w.objects a) b ≡ Some o → (c : heap.Object) → object_at h i ≡ Some c → Is h o c → Changed first places m h (with_made a b (direct.with_items ws o) w).objects (es3.of_array c.class (cond (is_frozen h i) h (set_items h i us)) h)
     by_object a b i p (a_record frozen ps) known c there is = rw is.class (same_made w a b (a_record frozen ps) known old)
     by_object a b i p (an_array frozen vs) known c there is = rw is.class (set_array w old a b i c frozen vs ws us few q p there known is)
     by_object a b i p (a_closure f chain) known c there is = rw is.class (same_made w a b (a_closure f chain) known old)
     by_object a b i p (an_error maker message) known c there is = rw is.class (same_made w a b (an_error maker message) known old)
 
-    by_name : (n : Name) (i : ℕ) → Named h n i → (c : heap.Object) → object_at h i ≡ Some c → IsNamed w.objects h n c → Changed first places m h (direct.changed (direct.with_items ws) (object n) w).objects (es3.of_array c.class (cond (is_frozen h i) h (es3.set_items h i us)) h)
+    by_name : (n : Name) (i : ℕ) → Named h n i → (c : heap.Object) → object_at h i ≡ Some c → IsNamed w.objects h n c → Changed first places m h (direct.changed (direct.with_items ws) (object n) w).objects (es3.of_array c.class (cond (is_frozen h i) h (set_items h i us)) h)
     by_name (made_name a b) i p c there is = rw is.known (by_object a b i p is.object is.known c there is.is)
     by_name (cell_name a zero) i p c there is = rw is.class (unchanged old)
     by_name (cell_name a (suc b)) i p c there is = rw is.class (unchanged old)
@@ -182,7 +173,7 @@ pub items_law : {first : Objects} {places : Native → ℕ} (by : ℕ) (x : Hand
 items_law {first = first} {places = places} by x xs v a s es w h z y m few p o is =
     let ws = map (direct.value_of s.values) xs in
     let us = map (es3.value_in places es) xs in
-    by_length (length xs) (λ b. DoneIs first places h m (cond b (direct.answered by v s (direct.changed (direct.with_items ws) (direct.value_of s.values x) w) z) (direct.too_long w z)) (cond b (es3.gives (es3.value_in places es v) (es3.on_object (es3.value_in places es x) h (λ i. es3.of_array (heap.class_of (object_at h i)) (cond (is_frozen h i) h (es3.set_items h i us)) h)) y) (es3.too_long h y)))
+    by_length (length xs) (λ b. DoneIs first places h m (cond b (direct.answered by v s (direct.changed (direct.with_items ws) (direct.value_of s.values x) w) z) (direct.too_long w z)) (cond b (es3.gives (es3.value_in places es v) (es3.on_object (es3.value_in places es x) h (λ i. es3.of_array (heap.class_of (object_at h i)) (cond (is_frozen h i) h (set_items h i us)) h)) y) (es3.too_long h y)))
     (λ short. let n : length us < 4294967296 = subst (λ k. k < 4294967296) (sym (length-map xs (es3.value_in places es))) short in
     let c = on_array w o ws us n (handles_are o xs a.1 s.values es p) (direct.value_of s.values x) (es3.value_in places es x) (handle_is o x a.0 s.values es p) in
     record { reply = val_keep c.keeps (direct.value_of s.values v) (es3.value_in places es v) (handle_is o v a.2 s.values es p); objects = objects_step c.left; items = quiet z _ y is (shown_got by s v); keeps = c.keeps })

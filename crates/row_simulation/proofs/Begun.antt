@@ -90,7 +90,7 @@ proto_few : (q p : ℕ) → q < first_count → (let x : Option ℕ = Some q in 
 proto_few q p lt e = let f = up_few q p lt e in let many = first_many in omega (arith, f, many)
 
 function_is : (f : r.Native) (t : Tag) → sort_seen false (Some (record { kind = kind_of f; maker = 0 })) ≡ r.a_function r.simple → IsFunction r.simple (named_function f t)
-function_is f t e = record { class = refl; kind = e; no_text = refl; no_value = refl }
+function_is f t e = record { class = refl; proto = refl; kind = e; no_text = refl; no_value = refl }
 
 function_fresh : (objects : ℕ → List Object) (h : Objects) (n : Name) (f : r.Native) → name_at (tag_of_name n) ≡ Some n → Fresh h n → IsNamed objects h n (named_function f (tag_of_name n)) → ((m k : ℕ) → tag_of_name n ≡ tag.Made m k → ⊥) → IsFresh first objects h n (named_function f (tag_of_name n))
 function_fresh objects h n f known fresh is unmade = record { known = known; tagged = refl; fresh = fresh; is = is; above = λ p e. proto_few 1 p (omega arith) e; reads = λ k. refl; sets = λ k. refl; unmade = unmade }

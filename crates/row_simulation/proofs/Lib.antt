@@ -2,6 +2,7 @@ pub mod Names
 pub mod Keys
 pub mod Relation
 pub mod Items
+pub mod ItemsSet
 pub mod Props
 pub mod Sights
 pub mod Row

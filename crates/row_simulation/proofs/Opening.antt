@@ -123,7 +123,7 @@ kind_seen f = refl
 
 native_is : (f : r.Native) → IsFunction (sort_of f) (native_object f)
 unfolding native_object
-native_is f = record { class = refl; kind = kind_seen f; no_text = refl; no_value = refl }
+native_is f = record { class = refl; proto = refl; kind = kind_seen f; no_text = refl; no_value = refl }
 
 sort_or : Option r.Native → r.Sort
 sort_or None = r.simple
@@ -158,7 +158,7 @@ tools_named t n e = subst (λ k. IsNamed empty_world.objects opened k (tools_obj
 -- what holds of each object at its place
 
 spot : Tag → ℕ
-spot (tag.Built n) = n + 16
+spot (tag.Built n) = n + 18
 spot t = 0
 
 record IsOpen (i : ℕ) (o : heap.Object) : Type 0 where
@@ -168,10 +168,10 @@ record IsOpen (i : ℕ) (o : heap.Object) : Type 0 where
   pub sets : (k : List ℕ) → find (set_mark k) o.props ≡ None
   pub above : (p : ℕ) → o.proto ≡ Some p → p < first_count
 
-unnamed_open : (i : ℕ) (o : heap.Object) → IsUnnamed o → IsOpen i o
+unnamed_open : (i : ℕ) (o : heap.Object) → IsUnnamed i o → IsOpen i o
 unnamed_open i o is = record { named = λ n e. absurd (name_there n (sym is.untagged ∙ e)); placed = λ n e. absurd (name_there n (sym is.untagged ∙ e)); reads = is.reads; sets = is.sets; above = is.above }
 
-all_unnamed_open : (i : ℕ) (l : List heap.Object) → AllFrom (λ i o. IsUnnamed o) i l → AllFrom IsOpen i l
+all_unnamed_open : (i : ℕ) (l : List heap.Object) → AllFrom IsUnnamed i l → AllFrom IsOpen i l
 unfolding AllFrom
 all_unnamed_open i [] a = tt
 all_unnamed_open i (o ∷ os) a = (unnamed_open i o a.0, all_unnamed_open (suc i) os a.1)
@@ -196,13 +196,13 @@ natives_open i (f ∷ fs) e =
     let y = x.0 in
     (native_open f i (grind (arith, nat_tests)), natives_open (suc i) fs x.1)
 
-common_in_order : in_order 18 common ≡ true
+common_in_order : in_order 20 common ≡ true
 unfolding in_order spot
 common_in_order = refl
 
-later_open : AllFrom IsOpen 16 (tools_object of_cajita ∷ tools_object of_math ∷ native_objects common)
+later_open : AllFrom IsOpen 18 (tools_object of_cajita ∷ tools_object of_math ∷ native_objects common)
 unfolding AllFrom spot
-later_open = (tools_open of_cajita 16 refl, (tools_open of_math 17 refl, natives_open 18 common common_in_order))
+later_open = (tools_open of_cajita 18 refl, (tools_open of_math 19 refl, natives_open 20 common common_in_order))
 
 all_open : AllFrom IsOpen 0 (first_list ++ (tools_object of_cajita ∷ tools_object of_math ∷ native_objects common))
 all_open = both_from IsOpen 0 first_list _ (all_unnamed_open 0 first_list all_unnamed) (subst (λ n. AllFrom IsOpen n (tools_object of_cajita ∷ tools_object of_math ∷ native_objects common)) (let l = first_list_count in omega (arith, l)) later_open)

@@ -6,6 +6,7 @@ use Rattle.std.proofs.lemmas.Bool.Decides.{nat_tests}
 use Rattle.caja_units.specs.Units.{same_units, is_hidden}
 use Rattle.es3_heap.specs.declared.value.Value.TheVariants as es
 use Rattle.es3_heap.specs.declared.value.Class.TheVariants as class
+use Rattle.es3_heap.specs.declared.value.Proto.TheVariants as proto
 use Rattle.es3_heap.specs.declared.value.Tag.TheVariants as tag
 use Rattle.es3_heap.specs.Objects as heap
 use Rattle.es3_heap.specs.Objects.{Property, Objects, object_at, hidden_attrs, plain_attrs, replaced}
@@ -94,7 +95,7 @@ delete_first h i c k there = rw there refl
 above_free : {first : Objects} {places : Native → ℕ} {m : ℕ} {objects : ℕ → List Object} {h : Objects} → IsFirst first → ObjectsAre first places objects h m → (n : ℕ) (k : List ℕ) → may_write (lookup_from n h (Some 0) k) ≡ true
 above_free f o zero k = refl
 above_free {first = first} {h = h} f o (suc n) k =
-    rw (o.opened 0 (omega (arith, f.some)), f.top) (or_none (own first 0 k) (f.free k))
+    rw (o.opened 0 (omega (arith, f.some)), f.above proto.Object) (or_none (own first 0 k) (f.free k))
   where
     or_none : (q : Option Property) → may_write q ≡ true → may_write (or_else q None) ≡ true
     or_none None e = refl

@@ -95,6 +95,7 @@ pub record IsArray (h : Objects) (frozen : Bool) (vs : List Value) (o : heap.Obj
 
 pub record IsFunction (sort : r.Sort) (o : heap.Object) : Type 0 where
   pub class : o.class ≡ class.Function
+  pub proto : o.proto ≡ Some (proto_id proto.Function)
   pub kind : sort_seen (is_some (find simple_mark o.props)) o.callable ≡ r.a_function sort
   pub no_text : find (codes "toString") o.props ≡ None
   pub no_value : find (codes "valueOf") o.props ≡ None

@@ -1,11 +1,14 @@
 -- What it is that a row does the same on both sides.
-use Rattle.std.specs.Prelude.{◌≡◌, ℕ, suc, ◌≤◌, true, List, [], ◌∷◌, length, map, None, Some, codes}
+use Rattle.std.specs.Prelude.{◌≡◌, ℕ, suc, ◌<◌, ◌≤◌, true, List, [], ◌∷◌, length, map, Option, None, Some, codes}
 use Rattle.es3_heap.specs.Objects as heap
 use Rattle.es3_heap.specs.Objects.{Objects, object_at}
-use Rattle.es3_heap.specs.Properties.{own, may_write}
-use Rattle.es3_heap.specs.Making.{array_object}
+use Rattle.es3_heap.specs.Properties.{own, value_of, may_write}
+use Rattle.es3_heap.specs.Making.{proto_id, array_object}
 use Rattle.es3_heap.specs.declared.value.Value.TheVariants as es
+use Rattle.es3_heap.specs.declared.value.Proto.{Proto}
+use Rattle.es3_heap.specs.declared.value.Proto.TheVariants as proto
 use Rattle.es3_convert.specs.Conversions as convert
+use Rattle.es3_convert.specs.Conversions.{to_string, value_of_object, is_built_in}
 use Rattle.es3_convert.specs.Numbers as convert_number
 use Rattle.es3_language.specs.Natives.{Reply, value_reply, throw_reply, invoke_reply, stop_reply}
 use Rattle.rows.specs.Rows.{Row, Ending, Native}
@@ -71,11 +74,20 @@ RowLaw first places by q =
     → Vals h s.values es → ObjectsAre first places w.objects h m → PagesAre h w g → shown z ≡ y
     → CameIs first places h m (direct.does by q s w z) (es3.does places by q es h g y)
 
+-- the prototype of each prototype
+abbrev pub proto_above : Proto → Option ℕ
+proto_above proto.Object = None
+proto_above proto.TypeError = Some (proto_id proto.Error)
+proto_above proto.RangeError = Some (proto_id proto.Error)
+proto_above p = Some (proto_id proto.Object)
+
 -- the prototypes are among the first objects, and that of Object keeps no key from being written
 pub record IsFirst (first : Objects) : Type 0 where
   pub some : 10 ≤ length first.list
-  pub top : heap.proto_of (object_at first 0) ≡ None
+  pub above : (p : Proto) → heap.proto_of (object_at first (proto_id p)) ≡ proto_above p
   pub free : (k : List ℕ) → may_write (own first 0 k) ≡ true
-  -- none of them has a conversion of its own making
-  pub no_text : (i : ℕ) → own first i (codes "toString") ≡ None
-  pub no_value : (i : ℕ) → own first i (codes "valueOf") ≡ None
+  -- that of Object has the built-in conversions, and no other object among them has one
+  pub text : is_built_in to_string first (value_of (own first 0 (codes "toString"))) ≡ true
+  pub value : is_built_in value_of_object first (value_of (own first 0 (codes "valueOf"))) ≡ true
+  pub no_text : (i : ℕ) → 0 < i → own first i (codes "toString") ≡ None
+  pub no_value : (i : ℕ) → 0 < i → own first i (codes "valueOf") ≡ None

@@ -13,13 +13,13 @@ use Rattle.es3_heap.specs.Reading.{property}
 use Rattle.es3_language.specs.Store.{Store}
 use Rattle.es3_language.specs.References.{member, get_member}
 use Rattle.es3_language.specs.Meaning.{Env, Plan, native_call, called, do_call}
-use Rattle.heap_rows.specs.Opening.{first, runtime_id, load_module, initialize_map, read_public}
+use Rattle.heap_rows.specs.Opening.{first, first_count, runtime_id, load_module, initialize_map, read_public}
 use Rattle.cajita_simulation.proofs.Heaps.Opened.{IsOpened, get_first}
 
 -- a member of the runtime's object is the function of a row of the guards, which has no name in the log
 pub record IsGuard (guard : List ℕ) (row : ℕ) : Type 0 where
   pub object : ℕ
-  pub within : object < 16
+  pub within : object < first_count
   pub member : own first runtime_id guard ≡ Some (property guard (Obj object) hidden_attrs)
   pub callable : callable_of (object_at first object) ≡ Some (record { kind = Simple row; maker = 0 })
   pub unnamed : tag_of (object_at first object) ≡ tag.None
