@@ -1,6 +1,6 @@
 -- What the rows of methods of arrays make of their receiver.
-use Rattle.std.proofs.Common.{◌≡◌, ℕ, suc, Bool, true, false, List, [], ◌∷◌, ◌++◌, length, Option, Some, None, Result, Ok, Err, cond, refl, sym, ap, ◌∙◌, subst, append_assoc}
-use Rattle.std.specs.Prelude.{codes, is_some, map, nat_lt}
+use Rattle.std.proofs.Common.{◌≡◌, ℕ, suc, Bool, true, false, List, [], ◌∷◌, ◌++◌, length, Option, Some, None, refl, sym, ap, ◌∙◌}
+use Rattle.std.specs.Prelude.{codes, is_some, map}
 use Rattle.std.proofs.lemmas.List.{length-map}
 use Rattle.es3_heap.specs.declared.value.Value.{Value}
 use Rattle.es3_heap.specs.declared.value.Value.TheVariants as v
@@ -14,12 +14,10 @@ use Rattle.rows.specs.Rows as r
 use Rattle.rows.specs.Rows.{Row, Handle, Sight, Ending, held, handles, ends, looks, most_items}
 use Rattle.rows.specs.Arguments.{array_seen, on_array, open_seen, on_open_array}
 use Rattle.heap_rows.specs.Marks.{is_frozen, simple_mark}
-use Rattle.heap_rows.specs.Doing.{Done, value_in, sort_seen, see, see_object, does}
+use Rattle.heap_rows.specs.Doing.{Done, value_in, sort_seen, see_object, does}
 use Rattle.heap_rows.specs.Opening.{place_of, empty_page}
-use Rattle.row_outcomes.specs.Comes.{throws}
 use Rattle.row_outcomes.specs.Arrays.{changed_array}
-use Rattle.row_outcomes.proofs.Arrays.{Stands, Stand, Leaves, same_count}
-use Rattle.builtin_array.specs.Receivers.{message_of, array_of_class, array_of, unless_frozen, opened, open_array_of, on_receiver}
+use Rattle.builtin_array.specs.Receivers.{array_of_class, array_of, unless_frozen, opened, open_array_of, on_receiver}
 
 -- a row, or the end of one, with a receiver and arguments in hand, and what was seen behind them
 abbrev pub comes : ℕ → Row → Value → List Value → Objects → Done

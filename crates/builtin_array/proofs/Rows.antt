@@ -1,6 +1,6 @@
 -- What the rows of the methods of arrays come to.
-use Rattle.std.proofs.Common.{◌≡◌, ℕ, suc, ◌+◌, ◌-◌, List, [], ◌∷◌, ◌++◌, length, Result, Ok, Err, refl, sym, ap, ◌∙◌, subst, append_assoc, arith}
-use Rattle.std.specs.Prelude.{ℤ, pos, false, map, reverse, take, drop, slice_get, codes, is_some, Option, Some, None}
+use Rattle.std.proofs.Common.{◌≡◌, ℕ, suc, ◌-◌, List, [], ◌∷◌, ◌++◌, length, Result, Ok, Err, refl, sym, ap, ◌∙◌, subst, append_assoc, arith}
+use Rattle.std.specs.Prelude.{ℤ, pos, false, map, reverse, take, drop, slice_get, codes, is_some}
 use Rattle.std.specs.List.{flat_map}
 use Rattle.std.proofs.lemmas.List.{append-nil, map-append, take-map, drop-map}
 use Rattle.std.proofs.lemmas.Grind.{reverse_onto}
@@ -23,10 +23,10 @@ use Rattle.heap_rows.specs.Doing.{Done, value_in, see, see_object, sort_seen, do
 use Rattle.heap_rows.specs.Opening.{place_of, empty_page}
 use Rattle.row_outcomes.specs.Comes.{row_done}
 use Rattle.row_outcomes.specs.Arguments.{argument, number_argument, text_argument, told}
-use Rattle.row_outcomes.specs.Arrays.{after, new_array, changed_array}
+use Rattle.row_outcomes.specs.Arrays.{after, new_array}
 use Rattle.row_outcomes.proofs.Arrays.{Stands, Stand, Leaves, stand_behind, stand_both, items_stand, arguments_stand, argument_stands, number_or_leaves, text_or_leaves, same_count, new_array_leaves}
 use Rattle.builtin_array.specs.Receivers.{array_of, array_of_class, open_array_of, on_receiver}
-use Rattle.builtin_array.specs.Arrays.{items_or, spread, concat, join, places, slice, counted, push, unshift, taken, pop, shift, turn}
+use Rattle.builtin_array.specs.Arrays.{items_or, spread, concat, join, slice, counted, push, unshift, taken, pop, shift, turn}
 use Rattle.builtin_array.proofs.Arrays.{IsNoArray, function_seen, comes, on_array_is, on_open_array_is, IsOpen, changed}
 
 -- nothing more is seen

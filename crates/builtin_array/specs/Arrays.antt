@@ -1,5 +1,5 @@
 -- What the methods of arrays come to, by the array, their arguments and the objects (ES3 15.4.4).
-use Rattle.std.specs.Prelude.{ℕ, ◌-◌, ℤ, pos, List, [], ◌∷◌, ◌++◌, Option, Some, None, Result, Ok, Err, length, slice_get, take, drop, reverse, codes}
+use Rattle.std.specs.Prelude.{ℕ, ◌-◌, pos, List, [], ◌∷◌, ◌++◌, Option, Some, None, Result, Ok, Err, length, slice_get, take, drop, reverse, codes}
 use Rattle.std.specs.List.{flat_map}
 use Rattle.plans.specs.Plans.{Fault}
 use Rattle.es3_heap.specs.declared.value.Value.{Value}

@@ -16,9 +16,9 @@ use std::alloc::Global;
 const MOST_ITEMS: usize = 4_294_967_296;
 
 /// How many items there are, where an array may have as many.
-pub fn count_of(items: &Vec<Value>) -> Option<Whole>
-    ensures some { IfSome result (λ n. n ≡ pos (length items.now.items)) }
-    ensures none { IfNone result (most_items ≤ length items.now.items) }
+pub fn count_of(items: &[Value]) -> Option<Whole>
+    ensures some { IfSome result (λ n. n ≡ pos (length items.now)) }
+    ensures none { IfNone result (most_items ≤ length items.now) }
 {
     let count = items.len();
     if count < MOST_ITEMS {
@@ -32,6 +32,7 @@ pub fn count_of(items: &Vec<Value>) -> Option<Whole>
 pub fn push_copies(alloc: Global, items: &mut Vec<Value>, values: &[Value]) -> Result<(), Memory>
     ensures { OnOk result (items.new.items ≡ items.old.items ++ values.now) }
 {
+    items.reserve(values.len())?;
     for value in values {
         items.push(value.copy(alloc)?)?;
     }

@@ -17,13 +17,8 @@ use row_outcomes::{Outcome, number_or, place};
 use std::alloc::Global;
 
 /// The two places that the arguments of `slice` give in some items.
-fn places(
-    alloc: Global,
-    h: &Heap,
-    items: &Vec<Value>,
-    args: &[Value],
-) -> Result<(usize, usize), Stop>
-    ensures { Answers result (places (length items.now.items) args.now h.now) }
+fn places(alloc: Global, h: &Heap, items: &[Value], args: &[Value]) -> Result<(usize, usize), Stop>
+    ensures { Answers result (places (length items.now) args.now h.now) }
 {
     let count = count_of(items).ok_or(Stop::Memory)?;
     let from = number_or(alloc, h, args, 0, Whole::new(0).unwrap())?;

@@ -1,10 +1,19 @@
-use Rattle.std.proofs.Common.{rules, ◌≡◌, ◌≤◌, ◌++◌, IfOk, length, ℕ, ◌+◌, ◌-◌, ◌*◌, ◌<◌, ◌/◌, ◌%◌, Bool, true, false, nat_eq, nat_lt, List, [], ◌∷◌, slice_index_or, slice_set, bit_and, bit_or, Fits, w8, w32, w64, Bor, MutBor}
-use Rattle.rows.specs.Rows as r
-use Rattle.es3_convert.specs.Conversions.{array_items}
-use Rattle.row_outcomes.specs.Comes.{Comes, row_done}
-use Rattle.builtin_array.specs.Arrays.{counted, push, unshift, pop, shift, turn}
+use Rattle.std.proofs.Common.{◌≡◌, rules}
+use Rattle.builtin_array.specs.Receivers.{open_array_of}
+use Rattle.builtin_array.specs.Arrays.{unshift}
+use Rattle.builtin_array.proofs.Comes.{at_array, at_other}
+use Rattle.builtin_array.proofs.Rows.{unshift-is}
 use Rattle.builtin_array.proofs.ends.unshift.Goals as goal
 
--- src/ends.rt:113:1
 pub returns-in-Ok-clause-outcome : goal.returns-in-Ok-clause-outcome
-returns-in-Ok-clause-outcome c = ?
+returns-in-Ok-clause-outcome c =
+    let found : c.in_ok-array.array ≡ open_array_of c.args.h.now c.args.this.now = search rules in
+    at_array _ (open_array_of c.args.h.now c.args.this.now) c.in_ok-array.array c.in-Ok.o c.args.by c.args.h.now c.unshift_to.new.h (λ o. unshift c.args.args.now o c.args.h.now) c.unshift_to.result (unshift-is c.args.by c.args.this.now c.args.args.now c.args.h.now) found c.in-Ok.is c.unshift_to.ensures.outcome
+
+pub returns-in-Err : goal.returns-in-Err
+returns-in-Err c =
+    let found : c.in_ok-array.array ≡ open_array_of c.args.h.now c.args.this.now = search rules in
+    record {
+      outcome = at_other _ (open_array_of c.args.h.now c.args.this.now) c.in_ok-array.array c.in-Err.why c.args.by c.args.h.now c.refused.new.h (λ o. unshift c.args.args.now o c.args.h.now) c.refused.result (unshift-is c.args.by c.args.this.now c.args.args.now c.args.h.now) found c.in-Err.is c.refused.ensures.outcome;
+      live = c.refused.ensures.live;
+    }
