@@ -2,7 +2,6 @@
 
 ghost use Rattle.std.specs.Prelude.{◌≡◌, ◌≤◌, IfOk, length, pos};
 ghost use Rattle.rows.specs.Rows as r;
-ghost use Rattle.rows.specs.Arguments.{clamped, place};
 ghost use Rattle.rows.specs.Arrays.{part};
 ghost use Rattle.rows.specs.Texts.{between};
 ghost use Rattle.es3_convert.specs.Answers.{Answers};
@@ -13,7 +12,7 @@ use caja_num::Whole;
 use caja_units::{Memory, Units};
 use es3_convert::out_of_memory;
 use es3_heap::{Heap, Stop, Value};
-use row_outcomes::{Outcome, number_or, outcome_of, thrown};
+use row_outcomes::{Outcome, clamped, number_or, outcome_of, place, thrown};
 use std::alloc::Global;
 
 /// How many units a text has (ES3 15.5.5.1).
@@ -21,33 +20,6 @@ fn text_len(text: &Units) -> Whole
     ensures { result ≡ pos (length text.now) }
 {
     Whole::new(text.len() as i64).unwrap()
-}
-
-/// A place in so many units, counted from their end where it is negative.
-fn place(count: usize, n: Whole) -> usize
-    ensures is { result ≡ place count n }
-    ensures within { result ≤ count }
-{
-    let n = n.get();
-    let size = n.unsigned_abs() as usize;
-    if n < 0 {
-        count.saturating_sub(size)
-    } else {
-        size.min(count)
-    }
-}
-
-/// A place in so many units, the first one where it is negative.
-pub fn clamped(count: usize, n: Whole) -> usize
-    ensures is { result ≡ clamped count n }
-    ensures within { result ≤ count }
-{
-    let n = n.get();
-    if n < 0 {
-        0
-    } else {
-        (n.unsigned_abs() as usize).min(count)
-    }
 }
 
 /// The units from a place up to another, none where that is before it.

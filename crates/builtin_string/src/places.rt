@@ -8,12 +8,11 @@ ghost use Rattle.es3_convert.specs.Answers.{Answers};
 ghost use Rattle.row_outcomes.specs.Comes.{Comes, row_done};
 ghost use Rattle.builtin_string.specs.Strings.{place_value, index_of, last_index_of};
 
-use crate::parts::clamped;
 use caja_num::Whole;
 use caja_units::Units;
 use es3_convert::to_text;
 use es3_heap::{Heap, Stop, Value};
-use row_outcomes::{Outcome, number_or, outcome_of, thrown, value_or};
+use row_outcomes::{Outcome, clamped, number_or, outcome_of, thrown, value_or};
 use std::alloc::Global;
 
 /// Whether the units of a text from a place on begin with a part.

@@ -14,7 +14,7 @@ use es3_tree::Program;
 use module_loader::{Opened, PageNatives, open};
 use running::run_among;
 use std::alloc::Global;
-pub use text::{NoNatives, run_text};
+pub use text::run_text;
 
 /// How a page, or a text, ended.
 #[derive(Clone, Copy, Debug, PartialEq, Eq)]

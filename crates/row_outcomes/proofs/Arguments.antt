@@ -55,7 +55,7 @@ yields_behind : (by : ℕ) (this : Value) (args : List Value) (h : Objects) (row
 yields_behind by this args h row d yields more extra = subst (λ l. (does place_of by row (this ∷ l) h empty_page []).done ≡ d) (sym (append_assoc args more extra)) (yields (more ++ extra))
 
 -- what is seen of an object is neither nothing nor a text
-abbrev IsOfObject : Sight → Type 0
+abbrev pub IsOfObject : Sight → Type 0
 IsOfObject r.nothing = ⊥
 IsOfObject (r.a_text us) = ⊥
 IsOfObject s = Unit {0}
@@ -73,14 +73,14 @@ function_seen simple (Some c) =
       | kind.Exophoric n w ↦ tt
     ]
 
-object_seen : (n : ℕ) (h : Objects) (o : ℕ) (c : Class) → IsOfObject (see_object n h o c).sight
+pub object_seen : (n : ℕ) (h : Objects) (o : ℕ) (c : Class) → IsOfObject (see_object n h o c).sight
 object_seen n h o class.Object = tt
 object_seen n h o class.Array = tt
 object_seen n h o class.Function = function_seen (is_some (own h o simple_mark)) (callable_of (object_at h o))
 object_seen n h o class.Error = tt
 object_seen n h o class.Node = tt
 
-unless_object : (default go : Row) (s : Sight) → IsOfObject s → unless_undefined default go s ≡ go
+pub unless_object : (default go : Row) (s : Sight) → IsOfObject s → unless_undefined default go s ≡ go
 unless_object default go r.nothing is = absurd is
 unless_object default go s is = refl
 
@@ -126,7 +126,7 @@ unless_yields by this args h i default go d e f one other at_none at_some = λ m
     subst (λ x. (does place_of by (unless_undefined default go (see h n x).sight) (this ∷ ((args ++ more) ++ (see h n x).values)) h empty_page []).done ≡ f) (sym (argument_held place_of i this args more))
     (unless_done by this args more h default go d e n (argument i args) one other f at_none at_some)
 
-number_at_some : (default : ℤ) (x : Value) (h : Objects) → (x ≡ v.Undefined → ⊥) → number_argument default x h ≡ number_of h x
+pub number_at_some : (default : ℤ) (x : Value) (h : Objects) → (x ≡ v.Undefined → ⊥) → number_argument default x h ≡ number_of h x
 number_at_some default v.Undefined h some = absurd (some refl)
 number_at_some default x h some = refl
 

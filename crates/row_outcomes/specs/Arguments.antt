@@ -5,6 +5,7 @@ use Rattle.es3_heap.specs.declared.value.Value.{Value}
 use Rattle.es3_heap.specs.declared.value.Value.TheVariants as v
 use Rattle.es3_heap.specs.declared.value.Stop.{Stop}
 use Rattle.es3_heap.specs.Objects.{Objects}
+use Rattle.es3_convert.specs.Conversions.{text_of}
 use Rattle.es3_convert.specs.Numbers.{number_of}
 use Rattle.es3_language.specs.Natives.{value_reply, stop_reply}
 use Rattle.heap_rows.specs.Doing.{Done}
@@ -19,6 +20,10 @@ argument i args = unwrap_or (slice_get args i) v.Undefined
 abbrev pub number_argument : ℤ → Value → Objects → Result ℤ Fault
 number_argument default v.Undefined h = Ok default
 number_argument default x h = number_of h x
+
+abbrev pub text_argument : List ℕ → Value → Objects → Result (List ℕ) Fault
+text_argument default v.Undefined h = Ok default
+text_argument default x h = text_of h x
 
 -- a value is answered, or the run stops, and nothing changes
 abbrev pub told : Result Value Fault → Objects → Done

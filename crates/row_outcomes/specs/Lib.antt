@@ -1,4 +1,5 @@
 pub mod Arguments
+pub mod Arrays
 pub mod Comes
 pub mod Lists
 pub mod Numbers

@@ -4,18 +4,21 @@
 //! row touches is told by the natives that the function is among.
 #![tactic(auto)]
 
+mod places;
+
 ghost use Rattle.std.specs.Prelude.{◌≡◌, ◌≤◌, IfOk, OnOk, length, unwrap_or, slice_get};
 ghost use Rattle.es3_heap.specs.Objects.{with_object};
 ghost use Rattle.es3_heap.specs.Making.{error_object, named};
 ghost use Rattle.es3_convert.specs.Answers.{Answers};
 ghost use Rattle.row_outcomes.specs.Comes.{Comes, throws};
-ghost use Rattle.row_outcomes.specs.Arguments.{argument, number_argument, outcome_of};
+ghost use Rattle.row_outcomes.specs.Arguments.{argument, number_argument, text_argument, outcome_of};
 ghost use Rattle.row_outcomes.specs.Lists.{new_array};
 
 use caja_num::Whole;
 use caja_units::{Memory, Units};
-use es3_convert::{out_of_memory, to_number};
+use es3_convert::{out_of_memory, to_number, to_text};
 use es3_heap::{Heap, ObjId, Proto, Stop, Value};
+pub use places::{clamped, place};
 use std::alloc::Global;
 
 /// Arrays have fewer items than this (ES3 15.4).
@@ -57,6 +60,26 @@ pub fn number_or(
     match value_or(args, n, &Value::Undefined) {
         Value::Undefined => Ok(default),
         value => to_number(alloc, h, value),
+    }
+}
+
+/// The text of an argument by its place, from 0, or another one where it is absent or undefined (ES3 9.8).
+///
+/// # Errors
+///
+/// As `to_text`.
+pub fn text_or(
+    alloc: Global,
+    h: &Heap,
+    args: &[Value],
+    n: usize,
+    default: &[u8],
+) -> Result<Units, Stop>
+    ensures { Answers result (text_argument default.now (argument n args.now) h.now) }
+{
+    match value_or(args, n, &Value::Undefined) {
+        Value::Undefined => Units::from_ascii(alloc, default).map_err(out_of_memory),
+        value => to_text(alloc, h, value),
     }
 }
 

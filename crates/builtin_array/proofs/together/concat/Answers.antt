@@ -1,0 +1,15 @@
+use Rattle.builtin_array.specs.Receivers.{array_of}
+use Rattle.builtin_array.specs.Arrays.{concat}
+use Rattle.builtin_array.proofs.Comes.{at_array, at_other}
+use Rattle.builtin_array.proofs.Rows.{concat-is}
+use Rattle.builtin_array.proofs.together.concat.Goals as goal
+
+pub returns-in-Ok-clause-outcome : goal.returns-in-Ok-clause-outcome
+returns-in-Ok-clause-outcome c =
+    at_array _ (array_of c.args.h.now c.args.this.now) c.array_of.result c.in-Ok.o c.args.by c.args.h.now c.concat_to.new.h (λ o. concat c.args.by c.args.args.now o c.args.h.now) c.concat_to.result (concat-is c.args.by c.args.this.now c.args.args.now c.args.h.now) c.array_of.ensures c.in-Ok.is c.concat_to.ensures.outcome
+
+pub returns-in-Err : goal.returns-in-Err
+returns-in-Err c = record {
+  outcome = at_other _ (array_of c.args.h.now c.args.this.now) c.array_of.result c.in-Err.why c.args.by c.args.h.now c.refused.new.h (λ o. concat c.args.by c.args.args.now o c.args.h.now) c.refused.result (concat-is c.args.by c.args.this.now c.args.args.now c.args.h.now) c.array_of.ensures c.in-Err.is c.refused.ensures.outcome;
+  live = c.refused.ensures.live;
+}

@@ -1,0 +1,24 @@
+-- How a built-in function ends in an array: a new one, or other items of one that is there. An array has fewer than 2^32 items (ES3 15.4).
+use Rattle.std.specs.Prelude.{ℕ, List, [], Result, Ok, Err, length, nat_lt, if◌then◌else◌}
+use Rattle.plans.specs.Plans.{Fault, number_fault}
+use Rattle.es3_heap.specs.declared.value.Value.{Value}
+use Rattle.es3_heap.specs.Objects.{Objects}
+use Rattle.es3_heap.specs.Items.{set_items}
+use Rattle.es3_heap.specs.Making.{array_object}
+use Rattle.es3_language.specs.Natives.{value_reply}
+use Rattle.rows.specs.Rows.{most_items}
+use Rattle.heap_rows.specs.Doing.{Done, makes, gives}
+use Rattle.row_outcomes.specs.Arguments.{told}
+
+-- a conversion, and then the rest
+abbrev pub after : {A : Type 0} → Result A Fault → Objects → (A → Done) → Done
+after (Ok x) h go = go x
+after (Err f) h go = told (Err f) h
+
+-- a new array of the running module
+abbrev pub new_array : ℕ → List Value → Objects → Done
+new_array by xs h = if nat_lt (length xs) most_items then makes value_reply by (array_object xs) h [] else told (Err number_fault) h
+
+-- an array gets these items, and a value is answered
+abbrev pub changed_array : ℕ → List Value → Value → Objects → Done
+changed_array o xs x h = if nat_lt (length xs) most_items then gives x (set_items h o xs) [] else told (Err number_fault) h
