@@ -1,2 +1,5 @@
-pub mod Opening
+pub mod Keeps
+pub mod Natives
 pub mod Objects
+pub mod Opening
+pub mod Outcomes

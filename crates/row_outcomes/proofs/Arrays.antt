@@ -1,7 +1,7 @@
 -- What handles stand for among the values in hand, whatever is seen later, and what a row makes of it.
-use Rattle.std.proofs.Common.{◌≡◌, ℕ, zero, suc, ◌+◌, ◌-◌, Bool, true, false, List, [], ◌∷◌, ◌++◌, length, Option, Some, None, Result, Ok, Err, cond, refl, sym, ap, ◌∙◌, subst, append_assoc, arith}
-use Rattle.std.specs.Prelude.{ℤ, slice_get, map, reverse, nat_lt}
-use Rattle.std.proofs.lemmas.List.{length-append, append-nil, map-append, length-map}
+use Rattle.std.proofs.Common.{◌≡◌, ℕ, suc, ◌+◌, ◌-◌, false, List, [], ◌∷◌, ◌++◌, length, Some, Result, Ok, Err, refl, sym, ap, ◌∙◌, subst, append_assoc, arith}
+use Rattle.std.specs.Prelude.{ℤ, slice_get, map}
+use Rattle.std.proofs.lemmas.List.{length-append, map-append, length-map}
 use Rattle.plans.specs.Plans.{Fault}
 use Rattle.es3_heap.specs.declared.value.Value.{Value}
 use Rattle.es3_heap.specs.declared.value.Value.TheVariants as v
@@ -14,7 +14,7 @@ use Rattle.rows.specs.Arguments as rows
 use Rattle.rows.specs.Arguments.{values_from, unless_undefined, number_or, text_or}
 use Rattle.heap_rows.specs.Doing.{Done, value_in, see, see_object, with_result, does}
 use Rattle.heap_rows.specs.Opening.{place_of, empty_page}
-use Rattle.row_outcomes.specs.Arguments.{argument, number_argument, text_argument, told}
+use Rattle.row_outcomes.specs.Arguments.{argument, number_argument, text_argument}
 use Rattle.row_outcomes.specs.Arrays.{after, new_array}
 use Rattle.row_outcomes.proofs.Arguments.{argument_held, object_seen, unless_object, number_at_some}
 

@@ -1,0 +1,123 @@
+-- The natives of a text name live objects alone.
+use Rattle.std.proofs.Common.{ℕ, true, false, List, [], ◌∷◌, All, length, cond, Option, Some, None, Ok, Err}
+use Rattle.std.proofs.Math.Nat.{le_trans}
+use Rattle.std.proofs.lemmas.List.Elements.{All-head}
+use Rattle.std.specs.Prelude.{codes, nat_lt, Result}
+use Rattle.plans.specs.Plans.{Fault}
+use Rattle.es3_heap.specs.declared.value.Value.{Value}
+use Rattle.es3_heap.specs.declared.value.Value.TheVariants as v
+use Rattle.es3_heap.specs.Objects.{Objects}
+use Rattle.es3_heap.specs.Making.{array_object}
+use Rattle.es3_convert.specs.Conversions.{and_then, text_of}
+use Rattle.es3_language.specs.Natives.{value_reply}
+use Rattle.es3_live.specs.Live.{IsLive, AreClosed}
+use Rattle.es3_live.specs.Keeps.{AfterCall, KeepsLive}
+use Rattle.es3_live.proofs.Growth.{later_refl}
+use Rattle.rows.specs.Rows as r
+use Rattle.rows.specs.Rows.{most_items}
+use Rattle.heap_rows.specs.Doing.{makes, too_long}
+use Rattle.heap_rows.specs.Opening.{built_ins_there}
+use Rattle.row_outcomes.specs.Arguments.{argument, told}
+use Rattle.row_outcomes.specs.Lists.{new_array}
+use Rattle.live_rows.specs.Live.{LiveDone}
+use Rattle.live_rows.proofs.Made.{throws_live, array_live, copy_live}
+use Rattle.live_tables.proofs.Among.{built_in_live}
+use Rattle.global_names.specs.declared.natives.Method.{Method}
+use Rattle.global_names.specs.declared.natives.Method.TheVariants as m
+use Rattle.global_names.specs.declared.natives.BuiltIn.{BuiltIn}
+use Rattle.global_names.specs.declared.natives.BuiltIn.TheVariants as b
+use Rattle.global_names.specs.Objects.{object_from, array_from}
+use Rattle.global_names.specs.Natives.{method_done, done_of, built_in, answer_of, text_natives, text_fits}
+
+-- the functions that are no rows
+
+refused : (by : ℕ) (h : Objects) → AreClosed h → LiveDone h (Rattle.row_outcomes.specs.Comes.throws (codes "not allowed") by h)
+refused by h closed = throws_live by (codes "not allowed") h [] closed
+
+object_live : (by : ℕ) (x : Value) (h : Objects) → AreClosed h → IsLive (length h.list) x → LiveDone h (object_from by x h)
+object_live by v.Undefined h closed live = copy_live false by v.Undefined h [] closed
+object_live by v.Null h closed live = copy_live false by v.Undefined h [] closed
+object_live by (v.Bool b) h closed live = refused by h closed
+object_live by (v.Num n) h closed live = refused by h closed
+object_live by (v.Text us) h closed live = refused by h closed
+object_live by (v.Obj o) h closed live = record { later = later_refl h; closed = closed; answer = live }
+
+new_array_live : (by : ℕ) (h : Objects) (vs : List Value) → AreClosed h → All (IsLive (length h.list)) vs → LiveDone h (new_array by h vs)
+new_array_live by h vs closed live = elim (nat_lt (length vs) most_items) as (λ few. LiveDone h (cond few (makes value_reply by (array_object vs) h []) (too_long h []))) [
+  | true ↦ array_live false by vs h [] closed live
+  | false ↦ record { later = later_refl h; closed = closed; answer = tt }
+]
+
+array_from_live : (by : ℕ) (vs : List Value) (h : Objects) → AreClosed h → All (IsLive (length h.list)) vs → LiveDone h (array_from by vs h)
+array_from_live by [] h closed live = new_array_live by h [] closed live
+array_from_live by (v.Num n ∷ []) h closed live = refused by h closed
+array_from_live by (v.Undefined ∷ []) h closed live = new_array_live by h (v.Undefined ∷ []) closed live
+array_from_live by (v.Null ∷ []) h closed live = new_array_live by h (v.Null ∷ []) closed live
+array_from_live by (v.Bool b ∷ []) h closed live = new_array_live by h (v.Bool b ∷ []) closed live
+array_from_live by (v.Text us ∷ []) h closed live = new_array_live by h (v.Text us ∷ []) closed live
+array_from_live by (v.Obj o ∷ []) h closed live = new_array_live by h (v.Obj o ∷ []) closed live
+array_from_live by (v.Num n ∷ y ∷ vs) h closed live = new_array_live by h (v.Num n ∷ y ∷ vs) closed live
+array_from_live by (x ∷ y ∷ vs) h closed live = new_array_live by h (x ∷ y ∷ vs) closed live
+
+text_live : (t : Result (List ℕ) Fault) (h : Objects) → AreClosed h → LiveDone h (told (and_then t (λ us. Ok (v.Text us))) h)
+text_live (Ok us) h closed = record { later = later_refl h; closed = closed; answer = tt }
+text_live (Err f) h closed = record { later = later_refl h; closed = closed; answer = tt }
+
+argument_live : (n : ℕ) (vs : List Value) → All (IsLive n) vs → IsLive n (argument 0 vs)
+argument_live n [] live = tt
+argument_live n (x ∷ vs) live = All-head (IsLive n) x vs live
+
+-- all of them
+
+method_live : (f : Method) (by : ℕ) (this : Value) (args : List Value) (h : Objects) → built_ins_there h → AreClosed h → IsLive (length h.list) this → All (IsLive (length h.list)) args → LiveDone h (method_done f by this args h)
+method_live m.CharAt by this args h there closed a b = built_in_live r.char_at by this args h there closed a b
+method_live m.CharCodeAt by this args h there closed a b = built_in_live r.char_code_at by this args h there closed a b
+method_live m.IndexOf by this args h there closed a b = built_in_live r.index_of by this args h there closed a b
+method_live m.LastIndexOf by this args h there closed a b = built_in_live r.last_index_of by this args h there closed a b
+method_live m.SliceText by this args h there closed a b = built_in_live r.slice_text by this args h there closed a b
+method_live m.Substring by this args h there closed a b = built_in_live r.substring by this args h there closed a b
+method_live m.Split by this args h there closed a b = built_in_live r.split by this args h there closed a b
+method_live m.ConcatText by this args h there closed a b = built_in_live r.concat_text by this args h there closed a b
+method_live m.Concat by this args h there closed a b = built_in_live r.concat by this args h there closed a b
+method_live m.Join by this args h there closed a b = built_in_live r.join by this args h there closed a b
+method_live m.Slice by this args h there closed a b = built_in_live r.slice by this args h there closed a b
+method_live m.Push by this args h there closed a b = built_in_live r.push by this args h there closed a b
+method_live m.Unshift by this args h there closed a b = built_in_live r.unshift by this args h there closed a b
+method_live m.Pop by this args h there closed a b = built_in_live r.pop by this args h there closed a b
+method_live m.Shift by this args h there closed a b = built_in_live r.shift by this args h there closed a b
+method_live m.Reverse by this args h there closed a b = built_in_live r.turn by this args h there closed a b
+
+done_live : (f : BuiltIn) (by : ℕ) (this : Value) (args : List Value) (h : Objects) → built_ins_there h → AreClosed h → IsLive (length h.list) this → All (IsLive (length h.list)) args → LiveDone h (done_of f by this args h)
+done_live b.Abs by this args h there closed a l = built_in_live r.abs by this args h there closed a l
+done_live b.Floor by this args h there closed a l = built_in_live r.floor by this args h there closed a l
+done_live b.Ceil by this args h there closed a l = built_in_live r.ceil by this args h there closed a l
+done_live b.Round by this args h there closed a l = built_in_live r.round by this args h there closed a l
+done_live b.Max by this args h there closed a l = built_in_live r.max by this args h there closed a l
+done_live b.Min by this args h there closed a l = built_in_live r.min by this args h there closed a l
+done_live b.Number by this args h there closed a l = built_in_live r.number_from by this args h there closed a l
+done_live b.String by this args h there closed a l = built_in_live r.text_from by this args h there closed a l
+done_live b.Boolean by this args h there closed a l = built_in_live r.truth_from by this args h there closed a l
+done_live b.Error by this args h there closed a l = built_in_live (r.makes r.error) by this args h there closed a l
+done_live b.TypeError by this args h there closed a l = built_in_live (r.makes r.type_error) by this args h there closed a l
+done_live b.RangeError by this args h there closed a l = built_in_live (r.makes r.range_error) by this args h there closed a l
+done_live b.Call by this args h there closed a l = built_in_live r.call by this args h there closed a l
+done_live b.Apply by this args h there closed a l = built_in_live r.apply by this args h there closed a l
+done_live (b.Method m) by this args h there closed a l = method_live m by this args h there closed a l
+done_live b.Object by this args h there closed a l = object_live by (argument 0 args) h closed (argument_live (length h.list) args l)
+done_live b.Function by this args h there closed a l = refused by h closed
+done_live b.Array by this args h there closed a l = array_from_live by args h closed l
+done_live b.ToString by this args h there closed a l = text_live (text_of h this) h closed
+done_live b.ValueOf by this args h there closed a l = record { later = later_refl h; closed = closed; answer = a }
+
+answer_live : (f : Option BuiltIn) (by : ℕ) (this : Value) (args : List Value) (h : Objects) → built_ins_there h → AreClosed h → IsLive (length h.list) this → All (IsLive (length h.list)) args → AfterCall text_fits h (answer_of f by this args h)
+answer_live (Some f) by this args h there closed a l =
+    let d = done_live f by this args h there closed a l in
+    record { later = d.later; closed = d.closed; answer = d.answer; kept = le_trans there d.later.more }
+answer_live None by this args h there closed a l = record { later = later_refl h; closed = closed; answer = tt; kept = there }
+
+pub text_keeps_live : KeepsLive text_fits text_natives
+text_keeps_live = record {
+  called = λ which by this args h z there closed a l. answer_live (built_in which) by this args h there closed a l;
+  touched = λ i h z there. there;
+  later = λ h g z there later. le_trans there later.more;
+}

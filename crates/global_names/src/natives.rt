@@ -1,0 +1,264 @@
+//! The natives of a text that runs as it stands: the built-in functions (ES3 15), each by its number.
+
+ghost use Rattle.std.specs.Prelude.{◌≡◌, ◌≤◌, ⊤, length, slice_get};
+ghost use Rattle.es3_heap.specs.Objects.{Objects};
+ghost use Rattle.es3_moves.specs.Answers.{Answers};
+ghost use Rattle.row_outcomes.specs.Comes.{Comes};
+ghost use Rattle.global_names.specs.Natives.{method_done, done_of, built_in, answer_of, text_natives, text_fits};
+ghost use Rattle.global_names.specs.Outcomes.{answered};
+ghost use Rattle.global_names.specs.Keeps.{text_keeps_live};
+
+use crate::objects::{array_from, function_from, object_from, to_string, value_of};
+use builtin_array::{concat, join, pop, push, reverse, shift, slice, unshift};
+use builtin_core::{
+    abs, apply_function, call_function, ceil, floor, max, min, new_error, new_range_error,
+    new_type_error, number_from, round, text_from, truth_from,
+};
+use builtin_string::{
+    char_at, char_code_at, concat_text, index_of, last_index_of, slice_text, split, substring,
+};
+use caja_units::{Memory, Units};
+use es3_heap::{Heap, Stop, Tag, Value};
+use es3_language::Touch;
+use es3_moves::natives::{Answer, Natives};
+use row_outcomes::Outcome;
+use std::alloc::Global;
+
+/// A method of texts or of arrays (ES3 15.5.4, 15.4.4).
+#[derive(Clone, Copy, Debug)]
+pub enum Method {
+    CharAt,
+    CharCodeAt,
+    IndexOf,
+    LastIndexOf,
+    SliceText,
+    Substring,
+    Split,
+    ConcatText,
+    Concat,
+    Join,
+    Slice,
+    Push,
+    Unshift,
+    Pop,
+    Shift,
+    Reverse,
+}
+
+/// A built-in function of a text.
+#[derive(Clone, Copy, Debug)]
+pub enum BuiltIn {
+    Abs,
+    Floor,
+    Ceil,
+    Round,
+    Max,
+    Min,
+    Number,
+    String,
+    Boolean,
+    Error,
+    TypeError,
+    RangeError,
+    Call,
+    Apply,
+    Method(Method),
+    Object,
+    Function,
+    Array,
+    ToString,
+    ValueOf,
+}
+
+/// The number of the first of the rows.
+const FIRST_ROW: u32 = 9;
+
+/// The number of the first of the functions that are no rows.
+const FIRST_OBJECT_FUNCTION: u32 = 59;
+
+/// The rows in the order of their numbers.
+const ROWS: [BuiltIn; 30] = [
+    BuiltIn::Abs,
+    BuiltIn::Floor,
+    BuiltIn::Ceil,
+    BuiltIn::Round,
+    BuiltIn::Max,
+    BuiltIn::Min,
+    BuiltIn::Number,
+    BuiltIn::String,
+    BuiltIn::Boolean,
+    BuiltIn::Error,
+    BuiltIn::TypeError,
+    BuiltIn::RangeError,
+    BuiltIn::Call,
+    BuiltIn::Apply,
+    BuiltIn::Method(Method::CharAt),
+    BuiltIn::Method(Method::CharCodeAt),
+    BuiltIn::Method(Method::IndexOf),
+    BuiltIn::Method(Method::LastIndexOf),
+    BuiltIn::Method(Method::SliceText),
+    BuiltIn::Method(Method::Substring),
+    BuiltIn::Method(Method::Split),
+    BuiltIn::Method(Method::ConcatText),
+    BuiltIn::Method(Method::Concat),
+    BuiltIn::Method(Method::Join),
+    BuiltIn::Method(Method::Slice),
+    BuiltIn::Method(Method::Push),
+    BuiltIn::Method(Method::Unshift),
+    BuiltIn::Method(Method::Pop),
+    BuiltIn::Method(Method::Shift),
+    BuiltIn::Method(Method::Reverse),
+];
+
+/// The functions that are no rows, in the order of their numbers.
+const OBJECT_FUNCTIONS: [BuiltIn; 5] = [
+    BuiltIn::Object,
+    BuiltIn::Function,
+    BuiltIn::Array,
+    BuiltIn::ToString,
+    BuiltIn::ValueOf,
+];
+
+/// The function at a place, where there is one.
+fn function_at(functions: &[BuiltIn], place: u32) -> Option<BuiltIn>
+    ensures { result ≡ slice_get functions.now place }
+{
+    functions.get(place as usize).copied()
+}
+
+/// The built-in function of a number, where a text has it.
+fn built_in(which: u32) -> Option<BuiltIn>
+    ensures { result ≡ built_in which }
+{
+    if which < FIRST_ROW {
+        None
+    } else if which < FIRST_OBJECT_FUNCTION {
+        function_at(&ROWS, which - FIRST_ROW)
+    } else {
+        function_at(&OBJECT_FUNCTIONS, which - FIRST_OBJECT_FUNCTION)
+    }
+}
+
+/// What a method of a text or an array comes to.
+fn method_done(
+    alloc: Global,
+    h: &mut Heap,
+    method: Method,
+    by: u32,
+    this: &Value,
+    args: &[Value],
+) -> Result<Outcome, Stop>
+    ensures outcome { Comes (method_done method by this.now args.now h.old) result h.new }
+    ensures live { length h.old.list ≤ length h.new.list }
+{
+    match method {
+        Method::CharAt => char_at(alloc, h, by, this, args),
+        Method::CharCodeAt => char_code_at(alloc, h, by, this, args),
+        Method::IndexOf => index_of(alloc, h, by, this, args),
+        Method::LastIndexOf => last_index_of(alloc, h, by, this, args),
+        Method::SliceText => slice_text(alloc, h, by, this, args),
+        Method::Substring => substring(alloc, h, by, this, args),
+        Method::Split => split(alloc, h, by, this, args),
+        Method::ConcatText => concat_text(alloc, h, by, this, args),
+        Method::Concat => concat(alloc, h, by, this, args),
+        Method::Join => join(alloc, h, by, this, args),
+        Method::Slice => slice(alloc, h, by, this, args),
+        Method::Push => push(alloc, h, by, this, args),
+        Method::Unshift => unshift(alloc, h, by, this, args),
+        Method::Pop => pop(alloc, h, by, this, args),
+        Method::Shift => shift(alloc, h, by, this, args),
+        Method::Reverse => reverse(alloc, h, by, this, args),
+    }
+}
+
+/// What a built-in function comes to.
+fn done(
+    alloc: Global,
+    h: &mut Heap,
+    function: BuiltIn,
+    by: u32,
+    this: &Value,
+    args: &[Value],
+) -> Result<Outcome, Stop>
+    ensures outcome { Comes (done_of function by this.now args.now h.old) result h.new }
+    ensures live { length h.old.list ≤ length h.new.list }
+{
+    match function {
+        BuiltIn::Abs => abs(alloc, h, by, this, args),
+        BuiltIn::Floor => floor(alloc, h, by, this, args),
+        BuiltIn::Ceil => ceil(alloc, h, by, this, args),
+        BuiltIn::Round => round(alloc, h, by, this, args),
+        BuiltIn::Max => max(alloc, h, by, this, args),
+        BuiltIn::Min => min(alloc, h, by, this, args),
+        BuiltIn::Number => number_from(alloc, h, by, this, args),
+        BuiltIn::String => text_from(alloc, h, by, this, args),
+        BuiltIn::Boolean => truth_from(h, by, this, args),
+        BuiltIn::Error => new_error(alloc, h, by, this, args),
+        BuiltIn::TypeError => new_type_error(alloc, h, by, this, args),
+        BuiltIn::RangeError => new_range_error(alloc, h, by, this, args),
+        BuiltIn::Call => call_function(alloc, h, by, this, args),
+        BuiltIn::Apply => apply_function(alloc, h, by, this, args),
+        BuiltIn::Object => object_from(alloc, h, by, args),
+        BuiltIn::Function => function_from(alloc, h, by),
+        BuiltIn::Array => array_from(alloc, h, by, args),
+        BuiltIn::ToString => to_string(alloc, h, this),
+        BuiltIn::ValueOf => value_of(alloc, h, this),
+        BuiltIn::Method(method) => method_done(alloc, h, method, by, this, args),
+    }
+}
+
+/// The answer of a native that comes to this.
+fn answer_of(outcome: Result<Outcome, Stop>) -> Answer
+    ensures { result ≡ answered outcome }
+{
+    match outcome {
+        Ok(Outcome::Value(value)) => Answer::Value(value),
+        Ok(Outcome::Throw(value)) => Answer::Throw(value),
+        Ok(Outcome::Invoke(recorded, function, this, args)) => {
+            Answer::Invoke(recorded, function, this, args)
+        }
+        Err(stop) => Answer::Stop(stop),
+    }
+}
+
+/// The natives of a text.
+#[derive(Drop)]
+pub struct TextNatives;
+
+impl Natives for TextNatives {
+    ghost State = { ⊤ };
+
+    ghost state = { λ _. tt };
+
+    ghost table = { text_natives };
+
+    ghost fits = { text_fits };
+
+    fn call(
+        &mut self,
+        alloc: Global,
+        h: &mut Heap,
+        which: u32,
+        by: u32,
+        this: &Value,
+        args: &[Value],
+    ) -> Answer {
+        match built_in(which) {
+            Some(function) => answer_of(done(alloc, h, function, by, this, args)),
+            None => Answer::Throw(Value::Undefined),
+        }
+    }
+
+    fn touch(
+        &mut self,
+        _alloc: Global,
+        _by: u32,
+        _what: Touch,
+        _on: Tag,
+        _key: Option<&Units>,
+    ) -> Result<(), Memory> {
+        Ok(())
+    }
+
+    ghost keeps_live = { text_keeps_live };
+}
