@@ -7,7 +7,6 @@ use Rattle.es3_heap.specs.declared.value.Stop.TheVariants as stop
 use Rattle.es3_heap.specs.Objects.{Objects}
 use Rattle.es3_convert.specs.Answers.{Answers}
 use Rattle.row_outcomes.specs.declared.Outcome.{Outcome}
-use Rattle.row_outcomes.specs.declared.Outcome.TheVariants as outcome
 use Rattle.row_outcomes.specs.Comes.{Comes}
 use Rattle.row_outcomes.specs.Arguments.{told, outcome_of}
 
