@@ -1,12 +1,11 @@
 -- What the rows of methods of arrays make of their receiver.
-use Rattle.std.proofs.Common.{◌≡◌, ℕ, suc, Bool, true, false, List, [], ◌∷◌, ◌++◌, length, Option, Some, None, refl, sym, ap, ◌∙◌}
+use Rattle.std.proofs.Common.{◌≡◌, ℕ, suc, Bool, true, false, List, [], ◌∷◌, ◌++◌, length, Option, refl, sym, ap, ◌∙◌}
 use Rattle.std.specs.Prelude.{codes, is_some, map}
 use Rattle.std.proofs.lemmas.List.{length-map}
 use Rattle.es3_heap.specs.declared.value.Value.{Value}
 use Rattle.es3_heap.specs.declared.value.Value.TheVariants as v
 use Rattle.es3_heap.specs.declared.value.Class.{Class}
 use Rattle.es3_heap.specs.declared.value.Class.TheVariants as class
-use Rattle.es3_heap.specs.declared.value.FuncKind.TheVariants as kind
 use Rattle.es3_heap.specs.Objects.{Objects, Callable, object_at, class_of, callable_of}
 use Rattle.es3_heap.specs.Properties.{own}
 use Rattle.es3_convert.specs.Conversions.{array_items}
@@ -17,29 +16,20 @@ use Rattle.heap_rows.specs.Marks.{is_frozen, simple_mark}
 use Rattle.heap_rows.specs.Doing.{Done, value_in, sort_seen, see_object, does}
 use Rattle.heap_rows.specs.Opening.{place_of, empty_page}
 use Rattle.row_outcomes.specs.Arrays.{changed_array}
+use Rattle.row_outcomes.proofs.Arguments.{function_sight}
 use Rattle.builtin_array.specs.Receivers.{array_of_class, array_of, unless_frozen, opened, open_array_of, on_receiver}
 
 -- a row, or the end of one, with a receiver and arguments in hand, and what was seen behind them
 abbrev pub comes : ℕ → Row → Value → List Value → Objects → Done
 comes by row this vs h = (does place_of by row (this ∷ vs) h empty_page []).done
 
--- what is seen of a function is no array
+-- what is no array
 abbrev pub IsNoArray : Sight → Type 0
 IsNoArray (r.an_array frozen xs) = ⊥
 IsNoArray s = Unit {0}
 
 pub function_seen : (simple : Bool) (c : Option Callable) → IsNoArray (sort_seen simple c)
-function_seen simple None = tt
-function_seen simple (Some c) =
-    elim c.kind as (λ q. let d : Callable = record { kind = q; maker = c.maker } in IsNoArray (sort_seen simple (Some d))) [
-      | kind.Code n ↦ elim simple as (λ b. let d : Callable = record { kind = kind.Code n; maker = c.maker } in IsNoArray (sort_seen b (Some d))) [
-        | true ↦ tt
-        | false ↦ tt
-      ]
-      | kind.Simple n ↦ tt
-      | kind.Constructor n ↦ tt
-      | kind.Exophoric n w ↦ tt
-    ]
+function_seen simple c = function_sight IsNoArray (λ q. tt) (λ b. tt) simple c
 
 no_array : (go : List Handle → Row) (s : Sight) → IsNoArray s → array_seen go s ≡ ends (r.throws (codes "bad receiver"))
 no_array go (r.an_array frozen xs) is = absurd is

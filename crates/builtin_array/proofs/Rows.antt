@@ -22,9 +22,10 @@ use Rattle.heap_rows.specs.Marks.{simple_mark}
 use Rattle.heap_rows.specs.Doing.{Done, value_in, see, see_object, sort_seen, does, with_result, joined_of}
 use Rattle.heap_rows.specs.Opening.{place_of, empty_page}
 use Rattle.row_outcomes.specs.Comes.{row_done}
-use Rattle.row_outcomes.specs.Arguments.{argument, number_argument, text_argument, told}
-use Rattle.row_outcomes.specs.Arrays.{after, new_array}
-use Rattle.row_outcomes.proofs.Arrays.{Stands, Stand, Leaves, stand_behind, stand_both, items_stand, arguments_stand, argument_stands, number_or_leaves, text_or_leaves, same_count, new_array_leaves}
+use Rattle.row_outcomes.specs.Arguments.{argument, number_argument, text_argument, told, after}
+use Rattle.row_outcomes.specs.Arrays.{new_array}
+use Rattle.row_outcomes.proofs.Arguments.{told_after, Stands, Leaves, number_or_leaves, text_or_leaves}
+use Rattle.row_outcomes.proofs.Arrays.{Stand, stand_behind, stand_both, items_stand, arguments_stand, argument_stands, same_count, new_array_leaves}
 use Rattle.builtin_array.specs.Receivers.{array_of, array_of_class, open_array_of, on_receiver}
 use Rattle.builtin_array.specs.Arrays.{items_or, spread, concat, join, slice, counted, push, unshift, taken, pop, shift, turn}
 use Rattle.builtin_array.proofs.Arrays.{IsNoArray, function_seen, comes, on_array_is, on_open_array_is, IsOpen, changed}
@@ -111,10 +112,6 @@ joined_after : (by : ℕ) (vs : List Value) (h : Objects) (t : Result (List ℕ)
 joined_after by vs h (Ok us) = refl
 joined_after by vs h (Err f) = refl
 
-text_told : (t : Result (List ℕ) Fault) (h : Objects) (answer : List ℕ → Result Value Fault) → after t h (λ us. told (answer us) h) ≡ told (and_then t answer) h
-text_told (Ok us) h answer = refl
-text_told (Err f) h answer = refl
-
 pub join-is : (by : ℕ) (this : Value) (args : List Value) (h : Objects) → row_done r.join by this args h ≡ on_receiver (array_of h this) by h (λ o. told (join args o h) h)
 join-is by this args h =
     let n = suc (length args) in
@@ -123,7 +120,7 @@ join-is by this args h =
     now by (this ∷ (args ++ array_items h o)) h (rows.text_or (codes ",") (rows.argument 0 n) (λ s. r.as_joined (held 0) s (λ us. ends (r.answers (r.text us))))) (after (text_argument (codes ",") (argument 0 args) h) h (λ s. told (answer s) h))
     (text_or_leaves by (this ∷ (args ++ array_items h o)) h (codes ",") (rows.argument 0 n) (argument 0 args) (λ s. r.as_joined (held 0) s (λ us. ends (r.answers (r.text us)))) (λ s. told (answer s) h) (argument_stands this args (array_items h o) 0)
     (λ s more. rw (joined_array h this o s is array) (joined_after by (this ∷ ((args ++ array_items h o) ++ more)) h (joined (text_within 31 h) s (array_items h o)))))
-    ∙ text_told (text_argument (codes ",") (argument 0 args) h) h answer)
+    ∙ told_after (text_argument (codes ",") (argument 0 args) h) h answer)
 
 -- slice
 

@@ -9,8 +9,8 @@ use Rattle.es3_convert.specs.Conversions.{and_then, array_items, text_within, jo
 use Rattle.rows.specs.Arguments.{place}
 use Rattle.rows.specs.Arrays.{part}
 use Rattle.heap_rows.specs.Doing.{Done}
-use Rattle.row_outcomes.specs.Arguments.{argument, number_argument, text_argument, told}
-use Rattle.row_outcomes.specs.Arrays.{after, new_array, changed_array}
+use Rattle.row_outcomes.specs.Arguments.{argument, number_argument, text_argument, told, after}
+use Rattle.row_outcomes.specs.Arrays.{new_array, changed_array}
 use Rattle.builtin_array.specs.declared.receivers.Unfit.{Unfit}
 use Rattle.builtin_array.specs.Receivers.{array_of}
 

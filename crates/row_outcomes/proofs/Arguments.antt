@@ -13,14 +13,18 @@ use Rattle.es3_heap.specs.Properties.{own}
 use Rattle.es3_convert.specs.Conversions.{and_then, text_of}
 use Rattle.es3_convert.specs.Numbers.{number_of}
 use Rattle.rows.specs.Rows as r
-use Rattle.rows.specs.Rows.{Native, Row, Sight, held, undefined, ends, looks, as_text, as_number}
+use Rattle.rows.specs.Rows.{Native, Row, Handle, Sight, Sort, held, undefined, ends, looks, as_text, as_number}
 use Rattle.rows.specs.Arguments as rows
-use Rattle.rows.specs.Arguments.{value, unless_undefined, text_seen, on_text, number_or}
+use Rattle.rows.specs.Arguments.{value, unless_undefined, text_seen, on_text, number_or, text_or}
 use Rattle.heap_rows.specs.Marks.{simple_mark}
 use Rattle.heap_rows.specs.Doing.{Done, value_in, see, see_object, sort_seen, with_result, does}
 use Rattle.heap_rows.specs.Opening.{place_of, empty_page}
 use Rattle.row_outcomes.specs.Comes.{throws}
+<<<<<<< HEAD
 use Rattle.row_outcomes.specs.Arguments.{argument, number_argument, told, at_text, text_method}
+=======
+use Rattle.row_outcomes.specs.Arguments.{argument, number_argument, text_argument, told, after, text_method}
+>>>>>>> 189ea4b52f83e2305ef2586226363920d45f0f3b
 
 no_less : (j : ℕ) → nat_lt j 0 ≡ false
 no_less j = grind (arith, nat_tests)
@@ -47,40 +51,45 @@ argument_held fs i this args more =
     let e : i + 1 ≡ suc i = omega arith in
     rw (e, next_less i (length args)) (next_held fs i this (args ++ more) (nat_lt i (length args)) ∙ value_held fs i args more)
 
--- what a row comes to, whatever else was seen
-abbrev pub Yields : ℕ → Value → List Value → Objects → Row → Done → Type 0
-Yields by this args h row d = (more : List Value) → (does place_of by row (this ∷ (args ++ more)) h empty_page []).done ≡ d
+-- a handle stands for a value, also when more is seen
+abbrev pub Stands : List Value → Handle → Value → Type 0
+Stands vs x z = (more : List Value) → value_in place_of (vs ++ more) x ≡ z
 
-yields_behind : (by : ℕ) (this : Value) (args : List Value) (h : Objects) (row : Row) (d : Done) → Yields by this args h row d → (more extra : List Value) → (does place_of by row (this ∷ ((args ++ more) ++ extra)) h empty_page []).done ≡ d
-yields_behind by this args h row d yields more extra = subst (λ l. (does place_of by row (this ∷ l) h empty_page []).done ≡ d) (sym (append_assoc args more extra)) (yields (more ++ extra))
+-- what a row comes to with these values in hand, whatever else was seen
+abbrev pub Leaves : ℕ → List Value → Objects → Row → Done → Type 0
+Leaves by vs h row d = (more : List Value) → (does place_of by row (vs ++ more) h empty_page []).done ≡ d
+
+pub leaves_behind : (by : ℕ) (vs : List Value) (h : Objects) (row : Row) (d : Done) → Leaves by vs h row d → (more extra : List Value) → (does place_of by row ((vs ++ more) ++ extra) h empty_page []).done ≡ d
+leaves_behind by vs h row d leaves more extra = subst (λ l. (does place_of by row l h empty_page []).done ≡ d) (sym (append_assoc vs more extra)) (leaves (more ++ extra))
+
+-- what is seen of a function: one of a sort, or a stranger
+pub function_sight : (P : Sight → Type 0) → ((q : Sort) → P (r.a_function q)) → ((b : Bool) → P (r.a_stranger b)) → (simple : Bool) (c : Option Callable) → P (sort_seen simple c)
+function_sight P some other simple None = other true
+function_sight P some other simple (Some c) =
+    elim c.kind as (λ q. let d : Callable = record { kind = q; maker = c.maker } in P (sort_seen simple (Some d))) [
+      | kind.Code n ↦ elim simple as (λ b. let d : Callable = record { kind = kind.Code n; maker = c.maker } in P (sort_seen b (Some d))) [
+        | true ↦ some r.closure
+        | false ↦ other true
+      ]
+      | kind.Simple n ↦ some r.simple
+      | kind.Constructor n ↦ some _
+      | kind.Exophoric n w ↦ some _
+    ]
 
 -- what is seen of an object is neither nothing nor a text
-abbrev pub IsOfObject : Sight → Type 0
+abbrev IsOfObject : Sight → Type 0
 IsOfObject r.nothing = ⊥
 IsOfObject (r.a_text us) = ⊥
 IsOfObject s = Unit {0}
 
-function_seen : (simple : Bool) (c : Option Callable) → IsOfObject (sort_seen simple c)
-function_seen simple None = tt
-function_seen simple (Some c) =
-    elim c.kind as (λ q. let d : Callable = record { kind = q; maker = c.maker } in IsOfObject (sort_seen simple (Some d))) [
-      | kind.Code n ↦ elim simple as (λ b. let d : Callable = record { kind = kind.Code n; maker = c.maker } in IsOfObject (sort_seen b (Some d))) [
-        | true ↦ tt
-        | false ↦ tt
-      ]
-      | kind.Simple n ↦ tt
-      | kind.Constructor n ↦ tt
-      | kind.Exophoric n w ↦ tt
-    ]
-
-pub object_seen : (n : ℕ) (h : Objects) (o : ℕ) (c : Class) → IsOfObject (see_object n h o c).sight
+object_seen : (n : ℕ) (h : Objects) (o : ℕ) (c : Class) → IsOfObject (see_object n h o c).sight
 object_seen n h o class.Object = tt
 object_seen n h o class.Array = tt
-object_seen n h o class.Function = function_seen (is_some (own h o simple_mark)) (callable_of (object_at h o))
+object_seen n h o class.Function = function_sight IsOfObject (λ q. tt) (λ b. tt) (is_some (own h o simple_mark)) (callable_of (object_at h o))
 object_seen n h o class.Error = tt
 object_seen n h o class.Node = tt
 
-pub unless_object : (default go : Row) (s : Sight) → IsOfObject s → unless_undefined default go s ≡ go
+unless_object : (default go : Row) (s : Sight) → IsOfObject s → unless_undefined default go s ≡ go
 unless_object default go r.nothing is = absurd is
 unless_object default go s is = refl
 
@@ -88,6 +97,7 @@ no_text : (go : List ℕ → Row) (s : Sight) → IsOfObject s → text_seen go 
 no_text go (r.a_text us) is = absurd is
 no_text go s is = refl
 
+<<<<<<< HEAD
 -- a conversion, and then the rest
 pub number_told : (by : ℕ) (vs : List Value) (h : Objects) (go : ℤ → Row) (answer : ℤ → Result Value Fault) (n : Result ℤ Fault) → ((i : ℤ) → (does place_of by (go i) vs h empty_page []).done ≡ told (answer i) h)
     → (with_result n h empty_page [] (λ i. does place_of by (go i) vs h empty_page [])).done ≡ told (and_then n answer) h
@@ -107,35 +117,95 @@ pub as_text_yields : (by : ℕ) (this : Value) (args : List Value) (h : Objects)
     → Yields by this args h (as_text (rows.argument i (suc (length args))) go) (told (and_then (text_of h (argument i args)) answer) h)
 as_text_yields by this args h i go answer yields = λ more. rw (argument_held place_of i this args more) (text_told by (this ∷ (args ++ more)) h go answer (text_of h (argument i args)) (λ us. yields us more))
 
+=======
+>>>>>>> 189ea4b52f83e2305ef2586226363920d45f0f3b
 -- a row that does one thing at an undefined value and another at others, by the value
-unless_done : (by : ℕ) (this : Value) (args more : List Value) (h : Objects) (default go : Row) (d e : Done) (n : ℕ) (x : Value) → Yields by this args h default d → Yields by this args h go e → (f : Done) → (x ≡ v.Undefined → f ≡ d) → ((x ≡ v.Undefined → ⊥) → f ≡ e)
-    → (does place_of by (unless_undefined default go (see h n x).sight) (this ∷ ((args ++ more) ++ (see h n x).values)) h empty_page []).done ≡ f
-unless_done by this args more h default go d e n v.Undefined one other f at_none at_some = yields_behind by this args h default d one more [] ∙ sym (at_none refl)
-unless_done by this args more h default go d e n v.Null one other f at_none at_some = yields_behind by this args h go e other more [] ∙ sym (at_some (λ q. cc))
-unless_done by this args more h default go d e n (v.Bool b) one other f at_none at_some = yields_behind by this args h go e other more [] ∙ sym (at_some (λ q. cc))
-unless_done by this args more h default go d e n (v.Num i) one other f at_none at_some = yields_behind by this args h go e other more [] ∙ sym (at_some (λ q. cc))
-unless_done by this args more h default go d e n (v.Text us) one other f at_none at_some = yields_behind by this args h go e other more [] ∙ sym (at_some (λ q. cc))
-unless_done by this args more h default go d e n (v.Obj o) one other f at_none at_some =
+
+at_value : (by : ℕ) (vs more : List Value) (h : Objects) (default go : Row) (d e : Done) (n : ℕ) (x : Value) → Leaves by vs h default d → Leaves by vs h go e → (f : Done) → (x ≡ v.Undefined → f ≡ d) → ((x ≡ v.Undefined → ⊥) → f ≡ e)
+    → (does place_of by (unless_undefined default go (see h n x).sight) ((vs ++ more) ++ (see h n x).values) h empty_page []).done ≡ f
+at_value by vs more h default go d e n v.Undefined one other f at_none at_some = leaves_behind by vs h default d one more [] ∙ sym (at_none refl)
+at_value by vs more h default go d e n v.Null one other f at_none at_some = leaves_behind by vs h go e other more [] ∙ sym (at_some (λ q. cc))
+at_value by vs more h default go d e n (v.Bool b) one other f at_none at_some = leaves_behind by vs h go e other more [] ∙ sym (at_some (λ q. cc))
+at_value by vs more h default go d e n (v.Num i) one other f at_none at_some = leaves_behind by vs h go e other more [] ∙ sym (at_some (λ q. cc))
+at_value by vs more h default go d e n (v.Text us) one other f at_none at_some = leaves_behind by vs h go e other more [] ∙ sym (at_some (λ q. cc))
+at_value by vs more h default go d e n (v.Obj o) one other f at_none at_some =
     let seen = see_object n h o (class_of (object_at h o)) in
-    rw (unless_object default go seen.sight (object_seen n h o (class_of (object_at h o)))) (yields_behind by this args h go e other more seen.values ∙ sym (at_some (λ q. cc)))
+    rw (unless_object default go seen.sight (object_seen n h o (class_of (object_at h o)))) (leaves_behind by vs h go e other more seen.values ∙ sym (at_some (λ q. cc)))
 
-pub unless_yields : (by : ℕ) (this : Value) (args : List Value) (h : Objects) (i : ℕ) (default go : Row) (d e f : Done) → Yields by this args h default d → Yields by this args h go e → (argument i args ≡ v.Undefined → f ≡ d) → ((argument i args ≡ v.Undefined → ⊥) → f ≡ e)
-    → Yields by this args h (looks (rows.argument i (suc (length args))) (unless_undefined default go)) f
-unless_yields by this args h i default go d e f one other at_none at_some = λ more.
-    let n = length (this ∷ (args ++ more)) in
-    subst (λ x. (does place_of by (unless_undefined default go (see h n x).sight) (this ∷ ((args ++ more) ++ (see h n x).values)) h empty_page []).done ≡ f) (sym (argument_held place_of i this args more))
-    (unless_done by this args more h default go d e n (argument i args) one other f at_none at_some)
+unless_leaves : (by : ℕ) (vs : List Value) (h : Objects) (x : Handle) (z : Value) (default go : Row) (d e f : Done) → Stands vs x z → Leaves by vs h default d → Leaves by vs h go e → (z ≡ v.Undefined → f ≡ d) → ((z ≡ v.Undefined → ⊥) → f ≡ e)
+    → Leaves by vs h (looks x (unless_undefined default go)) f
+unless_leaves by vs h x z default go d e f stands one other at_none at_some = λ more.
+    let n = length (vs ++ more) in
+    subst (λ w. (does place_of by (unless_undefined default go (see h n w).sight) ((vs ++ more) ++ (see h n w).values) h empty_page []).done ≡ f) (sym (stands more))
+    (at_value by vs more h default go d e n z one other f at_none at_some)
 
-pub number_at_some : (default : ℤ) (x : Value) (h : Objects) → (x ≡ v.Undefined → ⊥) → number_argument default x h ≡ number_of h x
+-- a conversion, and then the rest
+
+number_after : (by : ℕ) (vs : List Value) (h : Objects) (go : ℤ → Row) (answer : ℤ → Done) (n : Result ℤ Fault) → ((i : ℤ) → (does place_of by (go i) vs h empty_page []).done ≡ answer i)
+    → (with_result n h empty_page [] (λ i. does place_of by (go i) vs h empty_page [])).done ≡ after n h answer
+number_after by vs h go answer (Ok i) leaves = leaves i
+number_after by vs h go answer (Err f) leaves = refl
+
+text_after : (by : ℕ) (vs : List Value) (h : Objects) (go : List ℕ → Row) (answer : List ℕ → Done) (t : Result (List ℕ) Fault) → ((us : List ℕ) → (does place_of by (go us) vs h empty_page []).done ≡ answer us)
+    → (with_result t h empty_page [] (λ us. does place_of by (go us) vs h empty_page [])).done ≡ after t h answer
+text_after by vs h go answer (Ok us) leaves = leaves us
+text_after by vs h go answer (Err f) leaves = refl
+
+number_leaves : (by : ℕ) (vs : List Value) (h : Objects) (x : Handle) (z : Value) (go : ℤ → Row) (answer : ℤ → Done) → Stands vs x z → ((n : ℤ) → Leaves by vs h (go n) (answer n))
+    → Leaves by vs h (as_number x go) (after (number_of h z) h answer)
+number_leaves by vs h x z go answer stands leaves = λ more. rw (stands more) (number_after by (vs ++ more) h go answer (number_of h z) (λ n. leaves n more))
+
+text_leaves : (by : ℕ) (vs : List Value) (h : Objects) (x : Handle) (z : Value) (go : List ℕ → Row) (answer : List ℕ → Done) → Stands vs x z → ((us : List ℕ) → Leaves by vs h (go us) (answer us))
+    → Leaves by vs h (as_text x go) (after (text_of h z) h answer)
+text_leaves by vs h x z go answer stands leaves = λ more. rw (stands more) (text_after by (vs ++ more) h go answer (text_of h z) (λ us. leaves us more))
+
+number_at_some : (default : ℤ) (x : Value) (h : Objects) → (x ≡ v.Undefined → ⊥) → number_argument default x h ≡ number_of h x
 number_at_some default v.Undefined h some = absurd (some refl)
 number_at_some default x h some = refl
 
+pub number_or_leaves : (by : ℕ) (vs : List Value) (h : Objects) (default : ℤ) (x : Handle) (z : Value) (go : ℤ → Row) (answer : ℤ → Done) → Stands vs x z → ((n : ℤ) → Leaves by vs h (go n) (answer n))
+    → Leaves by vs h (number_or default x go) (after (number_argument default z h) h answer)
+number_or_leaves by vs h default x z go answer stands leaves =
+    unless_leaves by vs h x z (go default) (as_number x go) (answer default) (after (number_of h z) h answer) (after (number_argument default z h) h answer) stands
+    (leaves default) (number_leaves by vs h x z go answer stands leaves)
+    (λ none. rw none refl) (λ some. rw (number_at_some default z h some) refl)
+
+text_at_some : (default : List ℕ) (x : Value) (h : Objects) → (x ≡ v.Undefined → ⊥) → text_argument default x h ≡ text_of h x
+text_at_some default v.Undefined h some = absurd (some refl)
+text_at_some default x h some = refl
+
+pub text_or_leaves : (by : ℕ) (vs : List Value) (h : Objects) (default : List ℕ) (x : Handle) (z : Value) (go : List ℕ → Row) (answer : List ℕ → Done) → Stands vs x z → ((us : List ℕ) → Leaves by vs h (go us) (answer us))
+    → Leaves by vs h (text_or default x go) (after (text_argument default z h) h answer)
+text_or_leaves by vs h default x z go answer stands leaves =
+    unless_leaves by vs h x z (go default) (as_text x go) (answer default) (after (text_of h z) h answer) (after (text_argument default z h) h answer) stands
+    (leaves default) (text_leaves by vs h x z go answer stands leaves)
+    (λ none. rw none refl) (λ some. rw (text_at_some default z h some) refl)
+
+-- the same where the answer is a value or a fault, with the receiver and the arguments in hand
+
+abbrev pub Yields : ℕ → Value → List Value → Objects → Row → Done → Type 0
+Yields by this args h row d = Leaves by (this ∷ args) h row d
+
+pub told_after : {A : Type 0} (r : Result A Fault) (h : Objects) (answer : A → Result Value Fault) → after r h (λ x. told (answer x) h) ≡ told (and_then r answer) h
+told_after (Ok x) h answer = refl
+told_after (Err f) h answer = refl
+
+pub as_text_yields : (by : ℕ) (this : Value) (args : List Value) (h : Objects) (i : ℕ) (go : List ℕ → Row) (answer : List ℕ → Result Value Fault) → ((us : List ℕ) → Yields by this args h (go us) (told (answer us) h))
+    → Yields by this args h (as_text (rows.argument i (suc (length args))) go) (told (and_then (text_of h (argument i args)) answer) h)
+as_text_yields by this args h i go answer yields = λ more.
+    text_leaves by (this ∷ args) h (rows.argument i (suc (length args))) (argument i args) go (λ us. told (answer us) h) (argument_held place_of i this args) yields more
+    ∙ told_after (text_of h (argument i args)) h answer
+
+pub unless_yields : (by : ℕ) (this : Value) (args : List Value) (h : Objects) (i : ℕ) (default go : Row) (d e f : Done) → Yields by this args h default d → Yields by this args h go e → (argument i args ≡ v.Undefined → f ≡ d) → ((argument i args ≡ v.Undefined → ⊥) → f ≡ e)
+    → Yields by this args h (looks (rows.argument i (suc (length args))) (unless_undefined default go)) f
+unless_yields by this args h i default go d e f one other at_none at_some =
+    unless_leaves by (this ∷ args) h (rows.argument i (suc (length args))) (argument i args) default go d e f (argument_held place_of i this args) one other at_none at_some
+
 pub number_or_yields : (by : ℕ) (this : Value) (args : List Value) (h : Objects) (default : ℤ) (i : ℕ) (go : ℤ → Row) (answer : ℤ → Result Value Fault) → ((n : ℤ) → Yields by this args h (go n) (told (answer n) h))
     → Yields by this args h (number_or default (rows.argument i (suc (length args))) go) (told (and_then (number_argument default (argument i args) h) answer) h)
-number_or_yields by this args h default i go answer yields =
-    unless_yields by this args h i (go default) (as_number (rows.argument i (suc (length args))) go) (told (answer default) h) (told (and_then (number_of h (argument i args)) answer) h) (told (and_then (number_argument default (argument i args) h) answer) h)
-    (yields default) (as_number_yields by this args h i go answer yields)
-    (λ none. rw none refl) (λ some. rw (number_at_some default (argument i args) h some) refl)
+number_or_yields by this args h default i go answer yields = λ more.
+    number_or_leaves by (this ∷ args) h default (rows.argument i (suc (length args))) (argument i args) go (λ n. told (answer n) h) (argument_held place_of i this args) yields more
+    ∙ told_after (number_argument default (argument i args) h) h answer
 
 -- a method of texts
 pub on_text_does : (by : ℕ) (this : Value) (args : List Value) (h : Objects) (go : List ℕ → Row) (done : List ℕ → Done) → ((us : List ℕ) → Yields by this args h (go us) (done us))

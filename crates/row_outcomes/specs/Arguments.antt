@@ -30,6 +30,11 @@ abbrev pub told : Result Value Fault → Objects → Done
 told (Ok x) h = record { reply = value_reply x; heap = h; items = [] }
 told (Err f) h = record { reply = stop_reply f; heap = h; items = [] }
 
+-- a conversion, and then the rest
+abbrev pub after : {A : Type 0} → Result A Fault → Objects → (A → Done) → Done
+after (Ok x) h go = go x
+after (Err f) h go = told (Err f) h
+
 -- what a value is to a caller, or the stop in its place
 abbrev pub outcome_of : Result Value Stop → Result Outcome Stop
 outcome_of (Ok x) = Ok (outcome.Value x)

@@ -1,6 +1,6 @@
 -- How a built-in function ends in an array: a new one, or other items of one that is there. An array has fewer than 2^32 items (ES3 15.4).
-use Rattle.std.specs.Prelude.{ℕ, List, [], Result, Ok, Err, length, nat_lt, if◌then◌else◌}
-use Rattle.plans.specs.Plans.{Fault, number_fault}
+use Rattle.std.specs.Prelude.{ℕ, List, [], Err, length, nat_lt, if◌then◌else◌}
+use Rattle.plans.specs.Plans.{number_fault}
 use Rattle.es3_heap.specs.declared.value.Value.{Value}
 use Rattle.es3_heap.specs.Objects.{Objects}
 use Rattle.es3_heap.specs.Items.{set_items}
@@ -9,11 +9,6 @@ use Rattle.es3_language.specs.Natives.{value_reply}
 use Rattle.rows.specs.Rows.{most_items}
 use Rattle.heap_rows.specs.Doing.{Done, makes, gives}
 use Rattle.row_outcomes.specs.Arguments.{told}
-
--- a conversion, and then the rest
-abbrev pub after : {A : Type 0} → Result A Fault → Objects → (A → Done) → Done
-after (Ok x) h go = go x
-after (Err f) h go = told (Err f) h
 
 -- a new array of the running module
 abbrev pub new_array : ℕ → List Value → Objects → Done
