@@ -1,37 +1,18 @@
 -- What handles stand for among the values in hand, whatever is seen later, and what a row makes of it.
-<<<<<<< HEAD
-use Rattle.std.proofs.Common.{◌≡◌, ℕ, suc, ◌+◌, ◌-◌, false, List, [], ◌∷◌, ◌++◌, length, Some, Result, Ok, Err, refl, sym, ap, ◌∙◌, subst, append_assoc, arith}
-use Rattle.std.specs.Prelude.{ℤ, slice_get, map}
-use Rattle.std.proofs.lemmas.List.{length-append, map-append, length-map}
-use Rattle.plans.specs.Plans.{Fault}
-=======
 use Rattle.std.proofs.Common.{◌≡◌, ℕ, suc, ◌+◌, ◌-◌, false, List, [], ◌∷◌, ◌++◌, length, Some, refl, sym, ap, ◌∙◌, subst, append_assoc, arith}
 use Rattle.std.specs.Prelude.{slice_get, map}
 use Rattle.std.proofs.lemmas.List.{length-append, map-append, length-map}
->>>>>>> 189ea4b52f83e2305ef2586226363920d45f0f3b
 use Rattle.es3_heap.specs.declared.value.Value.{Value}
 use Rattle.es3_heap.specs.Objects.{Objects}
 use Rattle.rows.specs.Rows as r
 use Rattle.rows.specs.Rows.{Row, Handle, held, handles, ends, looks, as_text, as_number, most_items}
 use Rattle.rows.specs.Arguments as rows
 use Rattle.rows.specs.Arguments.{values_from, unless_undefined, number_or, text_or}
-<<<<<<< HEAD
-use Rattle.heap_rows.specs.Doing.{Done, value_in, see, see_object, with_result, does}
-use Rattle.heap_rows.specs.Opening.{place_of, empty_page}
-use Rattle.row_outcomes.specs.Arguments.{argument, number_argument, text_argument}
-use Rattle.row_outcomes.specs.Arrays.{after, new_array}
-use Rattle.row_outcomes.proofs.Arguments.{argument_held, object_seen, unless_object, number_at_some}
-
--- a handle stands for a value, handles stand for values: also when more is seen
-abbrev pub Stands : List Value → Handle → Value → Type 0
-Stands vs x z = (more : List Value) → value_in place_of (vs ++ more) x ≡ z
-=======
 use Rattle.heap_rows.specs.Doing.{value_in}
 use Rattle.heap_rows.specs.Opening.{place_of}
 use Rattle.row_outcomes.specs.Arguments.{argument}
 use Rattle.row_outcomes.specs.Arrays.{new_array}
 use Rattle.row_outcomes.proofs.Arguments.{argument_held, Stands, Leaves}
->>>>>>> 189ea4b52f83e2305ef2586226363920d45f0f3b
 
 -- handles stand for values, also when more is seen
 abbrev pub Stand : List Value → List Handle → List Value → Type 0
