@@ -14,10 +14,10 @@ use Rattle.rows.specs.Texts.{unit_at, code_end, first_place, last_place, or_minu
 use Rattle.heap_rows.specs.Doing.{value_in, does}
 use Rattle.heap_rows.specs.Opening.{place_of, empty_page}
 use Rattle.row_outcomes.specs.Comes.{row_done}
-use Rattle.row_outcomes.specs.Arguments.{argument, number_argument, told, at_text, text_method}
-use Rattle.row_outcomes.specs.Lists.{texts_of, done_with, new_array}
+use Rattle.row_outcomes.specs.Arguments.{argument, number_argument, told, at_text, text_method, after}
+use Rattle.row_outcomes.specs.Lists.{texts_of, new_array}
 use Rattle.row_outcomes.proofs.Arguments.{Yields, as_text_yields, unless_yields, number_or_yields, on_text_does, on_text_is}
-use Rattle.row_outcomes.proofs.Lists.{done_with-then, as_text_does, as_texts_does, array_made}
+use Rattle.row_outcomes.proofs.Lists.{after-then, as_text_does, as_texts_does, array_made}
 use Rattle.builtin_string.specs.Strings.{char_at, code_of, char_code_at, place_value, index_of, last_index_of, slice_text, substring, split, split_done, concat_text}
 
 pub char_at-is : (by : ℕ) (this : Value) (args : List Value) (h : Objects) → row_done r.char_at by this args h ≡ text_method this by h (λ us. char_at us args h)
@@ -84,17 +84,17 @@ split_at_some us x h some = refl
 pub split-is : (by : ℕ) (this : Value) (args : List Value) (h : Objects) → row_done r.split by this args h ≡ at_text this by h (λ us. split_done by us args h)
 split-is by this args h =
     on_text_does by this args h (λ us. r.looks (rows.argument 0 (suc (length args))) (rows.unless_undefined (r.ends (texts (us ∷ []))) (r.as_text (rows.argument 0 (suc (length args))) (λ s. r.ends (texts (split_by s us)))))) (λ us. split_done by us args h)
-    (λ us. unless_yields by this args h 0 (r.ends (texts (us ∷ []))) (r.as_text (rows.argument 0 (suc (length args))) (λ s. r.ends (texts (split_by s us)))) (new_array by h (v.Text us ∷ [])) (done_with (text_of h (argument 0 args)) h (λ s. new_array by h (map v.Text (split_by s us)))) (split_done by us args h)
+    (λ us. unless_yields by this args h 0 (r.ends (texts (us ∷ []))) (r.as_text (rows.argument 0 (suc (length args))) (λ s. r.ends (texts (split_by s us)))) (new_array by h (v.Text us ∷ [])) (after (text_of h (argument 0 args)) h (λ s. new_array by h (map v.Text (split_by s us)))) (split_done by us args h)
     (λ more. texts_made by (this ∷ (args ++ more)) h (us ∷ []))
     (as_text_does by this args h 0 (λ s. r.ends (texts (split_by s us))) (λ s. new_array by h (map v.Text (split_by s us))) (λ s more. texts_made by (this ∷ (args ++ more)) h (split_by s us)))
     (λ none. rw none refl)
-    (λ some. rw (split_at_some us (argument 0 args) h some) (done_with-then (text_of h (argument 0 args)) (λ s. Ok (map v.Text (split_by s us))) h (new_array by h))))
+    (λ some. rw (split_at_some us (argument 0 args) h some) (after-then (text_of h (argument 0 args)) (λ s. Ok (map v.Text (split_by s us))) h (new_array by h))))
 
 pub concat_text-is : (by : ℕ) (this : Value) (args : List Value) (h : Objects) → row_done r.concat_text by this args h ≡ text_method this by h (λ us. concat_text us args h)
 concat_text-is by this args h =
     on_text_is by this args h (λ us. rows.as_texts (rows.arguments (suc (length args))) (λ uss. r.ends (r.answers (r.text (us ++ joined uss))))) (λ us. concat_text us args h)
     (λ us more. as_texts_does by this args h (λ uss. r.ends (r.answers (r.text (us ++ joined uss)))) (λ uss. told (Ok (v.Text (us ++ joined uss))) h) (λ uss more. refl) more ∙ sym (told_with (texts_of h args) h (λ uss. v.Text (us ++ joined uss))))
   where
-    told_with : {A : Type 0} (r : Result A Fault) (h : Objects) (value : A → Value) → told (and_then r (λ x. Ok (value x))) h ≡ done_with r h (λ x. told (Ok (value x)) h)
+    told_with : {A : Type 0} (r : Result A Fault) (h : Objects) (value : A → Value) → told (and_then r (λ x. Ok (value x))) h ≡ after r h (λ x. told (Ok (value x)) h)
     told_with (Ok x) h value = refl
     told_with (Err f) h value = refl

@@ -11,8 +11,8 @@ use Rattle.rows.specs.Arguments.{clamped, place}
 use Rattle.rows.specs.Arrays.{part}
 use Rattle.rows.specs.Texts.{unit_at, first_place, last_place, between, split_by, joined}
 use Rattle.heap_rows.specs.Doing.{Done}
-use Rattle.row_outcomes.specs.Arguments.{argument, number_argument}
-use Rattle.row_outcomes.specs.Lists.{texts_of, done_with, new_array}
+use Rattle.row_outcomes.specs.Arguments.{argument, number_argument, after}
+use Rattle.row_outcomes.specs.Lists.{texts_of, new_array}
 
 -- the units of an option
 abbrev pub listed : Option ℕ → List ℕ
@@ -63,7 +63,7 @@ split us v.Undefined h = Ok (v.Text us ∷ [])
 split us x h = and_then (text_of h x) (λ s. Ok (map v.Text (split_by s us)))
 
 abbrev pub split_done : ℕ → List ℕ → List Value → Objects → Done
-split_done by us args h = done_with (split us (argument 0 args) h) h (new_array by h)
+split_done by us args h = after (split us (argument 0 args) h) h (new_array by h)
 
 -- the items of a list that was made
 abbrev pub items_in : Result (Vec Value) Stop → Result (List Value) Stop

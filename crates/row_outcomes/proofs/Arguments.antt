@@ -20,11 +20,7 @@ use Rattle.heap_rows.specs.Marks.{simple_mark}
 use Rattle.heap_rows.specs.Doing.{Done, value_in, see, see_object, sort_seen, with_result, does}
 use Rattle.heap_rows.specs.Opening.{place_of, empty_page}
 use Rattle.row_outcomes.specs.Comes.{throws}
-<<<<<<< HEAD
-use Rattle.row_outcomes.specs.Arguments.{argument, number_argument, told, at_text, text_method}
-=======
-use Rattle.row_outcomes.specs.Arguments.{argument, number_argument, text_argument, told, after, text_method}
->>>>>>> 189ea4b52f83e2305ef2586226363920d45f0f3b
+use Rattle.row_outcomes.specs.Arguments.{argument, number_argument, text_argument, told, after, at_text, text_method}
 
 no_less : (j : ℕ) → nat_lt j 0 ≡ false
 no_less j = grind (arith, nat_tests)
@@ -97,28 +93,6 @@ no_text : (go : List ℕ → Row) (s : Sight) → IsOfObject s → text_seen go 
 no_text go (r.a_text us) is = absurd is
 no_text go s is = refl
 
-<<<<<<< HEAD
--- a conversion, and then the rest
-pub number_told : (by : ℕ) (vs : List Value) (h : Objects) (go : ℤ → Row) (answer : ℤ → Result Value Fault) (n : Result ℤ Fault) → ((i : ℤ) → (does place_of by (go i) vs h empty_page []).done ≡ told (answer i) h)
-    → (with_result n h empty_page [] (λ i. does place_of by (go i) vs h empty_page [])).done ≡ told (and_then n answer) h
-number_told by vs h go answer (Ok i) yields = yields i
-number_told by vs h go answer (Err f) yields = refl
-
-text_told : (by : ℕ) (vs : List Value) (h : Objects) (go : List ℕ → Row) (answer : List ℕ → Result Value Fault) (t : Result (List ℕ) Fault) → ((us : List ℕ) → (does place_of by (go us) vs h empty_page []).done ≡ told (answer us) h)
-    → (with_result t h empty_page [] (λ us. does place_of by (go us) vs h empty_page [])).done ≡ told (and_then t answer) h
-text_told by vs h go answer (Ok us) yields = yields us
-text_told by vs h go answer (Err f) yields = refl
-
-pub as_number_yields : (by : ℕ) (this : Value) (args : List Value) (h : Objects) (i : ℕ) (go : ℤ → Row) (answer : ℤ → Result Value Fault) → ((n : ℤ) → Yields by this args h (go n) (told (answer n) h))
-    → Yields by this args h (as_number (rows.argument i (suc (length args))) go) (told (and_then (number_of h (argument i args)) answer) h)
-as_number_yields by this args h i go answer yields = λ more. rw (argument_held place_of i this args more) (number_told by (this ∷ (args ++ more)) h go answer (number_of h (argument i args)) (λ n. yields n more))
-
-pub as_text_yields : (by : ℕ) (this : Value) (args : List Value) (h : Objects) (i : ℕ) (go : List ℕ → Row) (answer : List ℕ → Result Value Fault) → ((us : List ℕ) → Yields by this args h (go us) (told (answer us) h))
-    → Yields by this args h (as_text (rows.argument i (suc (length args))) go) (told (and_then (text_of h (argument i args)) answer) h)
-as_text_yields by this args h i go answer yields = λ more. rw (argument_held place_of i this args more) (text_told by (this ∷ (args ++ more)) h go answer (text_of h (argument i args)) (λ us. yields us more))
-
-=======
->>>>>>> 189ea4b52f83e2305ef2586226363920d45f0f3b
 -- a row that does one thing at an undefined value and another at others, by the value
 
 at_value : (by : ℕ) (vs more : List Value) (h : Objects) (default go : Row) (d e : Done) (n : ℕ) (x : Value) → Leaves by vs h default d → Leaves by vs h go e → (f : Done) → (x ≡ v.Undefined → f ≡ d) → ((x ≡ v.Undefined → ⊥) → f ≡ e)
@@ -141,12 +115,12 @@ unless_leaves by vs h x z default go d e f stands one other at_none at_some = λ
 
 -- a conversion, and then the rest
 
-number_after : (by : ℕ) (vs : List Value) (h : Objects) (go : ℤ → Row) (answer : ℤ → Done) (n : Result ℤ Fault) → ((i : ℤ) → (does place_of by (go i) vs h empty_page []).done ≡ answer i)
+pub number_after : (by : ℕ) (vs : List Value) (h : Objects) (go : ℤ → Row) (answer : ℤ → Done) (n : Result ℤ Fault) → ((i : ℤ) → (does place_of by (go i) vs h empty_page []).done ≡ answer i)
     → (with_result n h empty_page [] (λ i. does place_of by (go i) vs h empty_page [])).done ≡ after n h answer
 number_after by vs h go answer (Ok i) leaves = leaves i
 number_after by vs h go answer (Err f) leaves = refl
 
-text_after : (by : ℕ) (vs : List Value) (h : Objects) (go : List ℕ → Row) (answer : List ℕ → Done) (t : Result (List ℕ) Fault) → ((us : List ℕ) → (does place_of by (go us) vs h empty_page []).done ≡ answer us)
+pub text_after : (by : ℕ) (vs : List Value) (h : Objects) (go : List ℕ → Row) (answer : List ℕ → Done) (t : Result (List ℕ) Fault) → ((us : List ℕ) → (does place_of by (go us) vs h empty_page []).done ≡ answer us)
     → (with_result t h empty_page [] (λ us. does place_of by (go us) vs h empty_page [])).done ≡ after t h answer
 text_after by vs h go answer (Ok us) leaves = leaves us
 text_after by vs h go answer (Err f) leaves = refl
@@ -195,6 +169,12 @@ pub as_text_yields : (by : ℕ) (this : Value) (args : List Value) (h : Objects)
 as_text_yields by this args h i go answer yields = λ more.
     text_leaves by (this ∷ args) h (rows.argument i (suc (length args))) (argument i args) go (λ us. told (answer us) h) (argument_held place_of i this args) yields more
     ∙ told_after (text_of h (argument i args)) h answer
+
+pub as_number_yields : (by : ℕ) (this : Value) (args : List Value) (h : Objects) (i : ℕ) (go : ℤ → Row) (answer : ℤ → Result Value Fault) → ((n : ℤ) → Yields by this args h (go n) (told (answer n) h))
+    → Yields by this args h (as_number (rows.argument i (suc (length args))) go) (told (and_then (number_of h (argument i args)) answer) h)
+as_number_yields by this args h i go answer yields = λ more.
+    number_leaves by (this ∷ args) h (rows.argument i (suc (length args))) (argument i args) go (λ n. told (answer n) h) (argument_held place_of i this args) yields more
+    ∙ told_after (number_of h (argument i args)) h answer
 
 pub unless_yields : (by : ℕ) (this : Value) (args : List Value) (h : Objects) (i : ℕ) (default go : Row) (d e f : Done) → Yields by this args h default d → Yields by this args h go e → (argument i args ≡ v.Undefined → f ≡ d) → ((argument i args ≡ v.Undefined → ⊥) → f ≡ e)
     → Yields by this args h (looks (rows.argument i (suc (length args))) (unless_undefined default go)) f

@@ -9,25 +9,20 @@ use Rattle.es3_convert.specs.Conversions.{and_then, text_of}
 use Rattle.rows.specs.Rows.{Row, Handle, makes_array, as_text}
 use Rattle.rows.specs.Arguments as rows
 use Rattle.rows.specs.Arguments.{values_from, arguments, as_texts}
-use Rattle.heap_rows.specs.Doing.{Done, value_in, finish, with_result, does}
+use Rattle.heap_rows.specs.Doing.{Done, value_in, finish, does}
 use Rattle.heap_rows.specs.Opening.{place_of, empty_page}
-use Rattle.row_outcomes.specs.Arguments.{argument}
-use Rattle.row_outcomes.specs.Lists.{texts_of, done_with, new_array}
-use Rattle.row_outcomes.proofs.Arguments.{Yields, argument_held}
+use Rattle.row_outcomes.specs.Arguments.{argument, after}
+use Rattle.row_outcomes.specs.Lists.{texts_of, new_array}
+use Rattle.row_outcomes.proofs.Arguments.{Yields, argument_held, text_after}
 
--- a conversion, and then the rest
-with_is : {A : Type 0} (by : ℕ) (vs : List Value) (h : Objects) (go : A → Row) (done : A → Done) (r : Result A Fault) → ((x : A) → (does place_of by (go x) vs h empty_page []).done ≡ done x)
-    → (with_result r h empty_page [] (λ x. does place_of by (go x) vs h empty_page [])).done ≡ done_with r h done
-with_is by vs h go done (Ok x) yields = yields x
-with_is by vs h go done (Err f) yields = refl
-
-pub done_with-then : {A B : Type 0} (first : Result A Fault) (next : A → Result B Fault) (h : Objects) (done : B → Done) → done_with (and_then first next) h done ≡ done_with first h (λ x. done_with (next x) h done)
-done_with-then (Ok x) next h done = refl
-done_with-then (Err f) next h done = refl
+-- a conversion, and then another one
+pub after-then : {A B : Type 0} (first : Result A Fault) (next : A → Result B Fault) (h : Objects) (done : B → Done) → after (and_then first next) h done ≡ after first h (λ x. after (next x) h done)
+after-then (Ok x) next h done = refl
+after-then (Err f) next h done = refl
 
 pub as_text_does : (by : ℕ) (this : Value) (args : List Value) (h : Objects) (i : ℕ) (go : List ℕ → Row) (done : List ℕ → Done) → ((us : List ℕ) → Yields by this args h (go us) (done us))
-    → Yields by this args h (as_text (rows.argument i (suc (length args))) go) (done_with (text_of h (argument i args)) h done)
-as_text_does by this args h i go done yields = λ more. rw (argument_held place_of i this args more) (with_is by (this ∷ (args ++ more)) h go done (text_of h (argument i args)) (λ us. yields us more))
+    → Yields by this args h (as_text (rows.argument i (suc (length args))) go) (after (text_of h (argument i args)) h done)
+as_text_does by this args h i go done yields = λ more. rw (argument_held place_of i this args more) (text_after by (this ∷ (args ++ more)) h go done (text_of h (argument i args)) (λ us. yields us more))
 
 -- the values from a place on
 here : (xs rest : List Value) (x : Value) (i : ℕ) → drop i xs ≡ x ∷ rest → slice_get xs i ≡ Some x
@@ -43,17 +38,17 @@ behind (y ∷ ys) rest x zero e = cc
 behind (y ∷ ys) rest x (suc i) e = behind ys rest x i e
 
 texts_from : (by : ℕ) (vs : List Value) (h : Objects) (i : ℕ) (xs more : List Value) → drop i vs ≡ xs ++ more → (go : List (List ℕ) → Row) (done : List (List ℕ) → Done) → ((uss : List (List ℕ)) → (does place_of by (go uss) vs h empty_page []).done ≡ done uss)
-    → (does place_of by (as_texts (values_from i (length xs)) go) vs h empty_page []).done ≡ done_with (texts_of h xs) h done
+    → (does place_of by (as_texts (values_from i (length xs)) go) vs h empty_page []).done ≡ after (texts_of h xs) h done
 texts_from by vs h i [] more there go done yields = yields []
 texts_from by vs h i (x ∷ xs) more there go done yields =
     rw (here vs (xs ++ more) x i there)
-    (with_is by vs h (λ us. as_texts (values_from (i + 1) (length xs)) (λ r. go (us ∷ r))) (λ us. done_with (and_then (texts_of h xs) (λ r. Ok (us ∷ r))) h done) (text_of h x)
-    (λ us. texts_from by vs h (i + 1) xs more (rw add-one (behind vs (xs ++ more) x i there)) (λ r. go (us ∷ r)) (λ r. done (us ∷ r)) (λ r. yields (us ∷ r)) ∙ sym (done_with-then (texts_of h xs) (λ r. Ok (us ∷ r)) h done))
-    ∙ sym (done_with-then (text_of h x) (λ us. and_then (texts_of h xs) (λ r. Ok (us ∷ r))) h done))
+    (text_after by vs h (λ us. as_texts (values_from (i + 1) (length xs)) (λ r. go (us ∷ r))) (λ us. after (and_then (texts_of h xs) (λ r. Ok (us ∷ r))) h done) (text_of h x)
+    (λ us. texts_from by vs h (i + 1) xs more (rw add-one (behind vs (xs ++ more) x i there)) (λ r. go (us ∷ r)) (λ r. done (us ∷ r)) (λ r. yields (us ∷ r)) ∙ sym (after-then (texts_of h xs) (λ r. Ok (us ∷ r)) h done))
+    ∙ sym (after-then (text_of h x) (λ us. and_then (texts_of h xs) (λ r. Ok (us ∷ r))) h done))
 
 -- all the arguments
 pub as_texts_does : (by : ℕ) (this : Value) (args : List Value) (h : Objects) (go : List (List ℕ) → Row) (done : List (List ℕ) → Done) → ((uss : List (List ℕ)) → Yields by this args h (go uss) (done uss))
-    → Yields by this args h (as_texts (arguments (suc (length args))) go) (done_with (texts_of h args) h done)
+    → Yields by this args h (as_texts (arguments (suc (length args))) go) (after (texts_of h args) h done)
 as_texts_does by this args h go done yields = λ more.
     let count : suc (length args) - 1 ≡ length args = omega arith in
     rw count (texts_from by (this ∷ (args ++ more)) h 1 args more refl go done (λ uss. yields uss more))

@@ -9,11 +9,11 @@ use Rattle.es3_convert.specs.Numbers.{number_of}
 use Rattle.rows.specs.Rows.{Native, Row, Handle, held}
 use Rattle.rows.specs.Arguments as rows
 use Rattle.rows.specs.Arguments.{values_from, as_numbers}
-use Rattle.heap_rows.specs.Doing.{value_in, does}
+use Rattle.heap_rows.specs.Doing.{value_in, with_result, does}
 use Rattle.heap_rows.specs.Opening.{place_of, empty_page}
 use Rattle.row_outcomes.specs.Arguments.{told}
 use Rattle.row_outcomes.specs.Numbers.{numbers_of}
-use Rattle.row_outcomes.proofs.Arguments.{Yields, number_told}
+use Rattle.row_outcomes.proofs.Arguments.{Yields, number_after, told_after}
 
 -- one more value in front
 pub next_values : (fs : Native → ℕ) (x : Value) (xs : List Value) (i n : ℕ) → map (value_in fs (x ∷ xs)) (values_from (suc i) n) ≡ map (value_in fs xs) (values_from i n)
@@ -38,6 +38,10 @@ regrouped : (first : Result ℤ Fault) (others : Result (List ℤ) Fault) (answe
 regrouped (Ok n) (Ok ns) answer = refl
 regrouped (Ok n) (Err f) answer = refl
 regrouped (Err f) others answer = refl
+
+number_told : (by : ℕ) (vs : List Value) (h : Objects) (go : ℤ → Row) (answer : ℤ → Result Value Fault) (n : Result ℤ Fault) → ((i : ℤ) → (does place_of by (go i) vs h empty_page []).done ≡ told (answer i) h)
+    → (with_result n h empty_page [] (λ i. does place_of by (go i) vs h empty_page [])).done ≡ told (and_then n answer) h
+number_told by vs h go answer n yields = number_after by vs h go (λ i. told (answer i) h) n yields ∙ told_after n h answer
 
 numbers_told : (by : ℕ) (vs : List Value) (h : Objects) (xs : List Handle) (go : List ℤ → Row) (answer : List ℤ → Result Value Fault) → ((ns : List ℤ) → (does place_of by (go ns) vs h empty_page []).done ≡ told (answer ns) h)
     → (does place_of by (as_numbers xs go) vs h empty_page []).done ≡ told (and_then (numbers_of h (map (value_in place_of vs) xs)) answer) h

@@ -1,11 +1,11 @@
 -- Several values at once: their texts, and a new array of them.
-use Rattle.std.specs.Prelude.{ℕ, List, [], ◌∷◌, length, nat_lt, Result, Ok, Err, if◌then◌else◌}
+use Rattle.std.specs.Prelude.{ℕ, List, [], ◌∷◌, length, nat_lt, Result, Ok, if◌then◌else◌}
 use Rattle.plans.specs.Plans.{Fault}
 use Rattle.es3_heap.specs.declared.value.Value.{Value}
 use Rattle.es3_heap.specs.Objects.{Objects}
 use Rattle.es3_heap.specs.Making.{array_object}
 use Rattle.es3_convert.specs.Conversions.{and_then, text_of}
-use Rattle.es3_language.specs.Natives.{value_reply, stop_reply}
+use Rattle.es3_language.specs.Natives.{value_reply}
 use Rattle.rows.specs.Rows.{most_items}
 use Rattle.heap_rows.specs.Doing.{Done, makes, too_long}
 
@@ -13,11 +13,6 @@ use Rattle.heap_rows.specs.Doing.{Done, makes, too_long}
 abbrev pub texts_of : Objects → List Value → Result (List (List ℕ)) Fault
 texts_of h [] = Ok []
 texts_of h (x ∷ xs) = and_then (text_of h x) (λ us. and_then (texts_of h xs) (λ rest. Ok (us ∷ rest)))
-
--- what is done with what was converted, or the run stops, and nothing changes
-abbrev pub done_with : {A : Type 0} → Result A Fault → Objects → (A → Done) → Done
-done_with (Ok x) h done = done x
-done_with (Err f) h done = record { reply = stop_reply f; heap = h; items = [] }
 
 -- a new array of these items, which has the next name of the module; so many that no array has them have no number
 abbrev pub new_array : ℕ → Objects → List Value → Done
