@@ -1,6 +1,6 @@
 //! The items that a method gives an array, or a new one.
 
-ghost use Rattle.std.specs.Prelude.{◌≡◌, ◌≤◌, ◌++◌, IfOk, OnOk, IfSome, IfNone, length, pos, vec_len};
+ghost use Rattle.std.specs.Prelude.{◌≡◌, ◌≤◌, ◌++◌, OnOk, IfSome, IfNone, length, pos};
 ghost use Rattle.rows.specs.Rows.{most_items};
 ghost use Rattle.row_outcomes.specs.Comes.{Comes};
 ghost use Rattle.row_outcomes.specs.Arrays.{new_array, changed_array};

@@ -1,6 +1,6 @@
 //! The part of an array between two places.
 
-ghost use Rattle.std.specs.Prelude.{◌≡◌, ◌≤◌, IfOk, OnOk, length, vec_len};
+ghost use Rattle.std.specs.Prelude.{◌≡◌, ◌≤◌, IfOk, length};
 ghost use Rattle.rows.specs.Rows as r;
 ghost use Rattle.rows.specs.Arrays.{part};
 ghost use Rattle.es3_convert.specs.Answers.{Answers};
