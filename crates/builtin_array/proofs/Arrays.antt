@@ -29,7 +29,7 @@ IsNoArray (r.an_array frozen xs) = ⊥
 IsNoArray s = Unit {0}
 
 pub function_seen : (simple : Bool) (c : Option Callable) → IsNoArray (sort_seen simple c)
-function_seen simple c = function_sight IsNoArray (λ q. tt) (λ b. tt) simple c
+function_seen simple c = function_sight IsNoArray (λ q. tt) tt simple c
 
 no_array : (go : List Handle → Row) (s : Sight) → IsNoArray s → array_seen go s ≡ ends (r.throws (codes "bad receiver"))
 no_array go (r.an_array frozen xs) is = absurd is

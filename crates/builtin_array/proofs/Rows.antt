@@ -24,18 +24,11 @@ use Rattle.heap_rows.specs.Opening.{place_of, empty_page}
 use Rattle.row_outcomes.specs.Comes.{row_done}
 use Rattle.row_outcomes.specs.Arguments.{argument, number_argument, text_argument, told, after}
 use Rattle.row_outcomes.specs.Arrays.{new_array}
-use Rattle.row_outcomes.proofs.Arguments.{told_after, Stands, Leaves, number_or_leaves, text_or_leaves}
-use Rattle.row_outcomes.proofs.Arrays.{Stand, stand_behind, stand_both, items_stand, arguments_stand, argument_stands, same_count, new_array_leaves}
+use Rattle.row_outcomes.proofs.Arguments.{handle_now, now, told_after, Stands, Leaves, number_or_leaves, text_or_leaves}
+use Rattle.row_outcomes.proofs.Arrays.{Stand, stand_now, stand_behind, stand_both, items_stand, arguments_stand, argument_stands, same_count, new_array_leaves}
 use Rattle.builtin_array.specs.Receivers.{array_of, array_of_class, open_array_of, on_receiver}
 use Rattle.builtin_array.specs.Arrays.{items_or, spread, concat, join, slice, counted, push, unshift, taken, pop, shift, turn}
 use Rattle.builtin_array.proofs.Arrays.{IsNoArray, function_seen, comes, on_array_is, on_open_array_is, IsOpen, changed}
-
--- nothing more is seen
-now : (by : ℕ) (vs : List Value) (h : Objects) (row : Row) (d : Done) → Leaves by vs h row d → (does place_of by row vs h empty_page []).done ≡ d
-now by vs h row d leaves = subst (λ l. (does place_of by row l h empty_page []).done ≡ d) (append-nil vs) (leaves [])
-
-stand_now : (vs : List Value) (xs : List Handle) (zs : List Value) → Stand vs xs zs → map (value_in place_of vs) xs ≡ zs
-stand_now vs xs zs stand = subst (λ l. map (value_in place_of l) xs ≡ zs) (append-nil vs) (stand [])
 
 -- the items of the receiver, and the arguments before them
 own_items : (this : Value) (args : List Value) (h : Objects) (o : ℕ) → Stand (this ∷ (args ++ array_items h o)) (handles (suc (length args)) (array_items h o)) (array_items h o)
@@ -82,8 +75,7 @@ gathered_is by h vs (x ∷ xs) (z ∷ zs) go d stand each =
     let first : Stands vs x z = λ more. cc (stand more) in
     let others : Stand vs xs zs = λ more. cc (stand more) in
     let seen = see h (length vs) z in
-    let here : value_in place_of vs x ≡ z = subst (λ l. value_in place_of l x ≡ z) (append-nil vs) (first []) in
-    subst (λ w. (does place_of by (gathered xs (λ ys. go (items_or_it x (see h (length vs) w).sight ++ ys))) (vs ++ (see h (length vs) w).values) h empty_page []).done ≡ d) (sym here)
+    subst (λ w. (does place_of by (gathered xs (λ ys. go (items_or_it x (see h (length vs) w).sight ++ ys))) (vs ++ (see h (length vs) w).values) h empty_page []).done ≡ d) (sym (handle_now vs x z first))
     (gathered_is by h (vs ++ seen.values) xs zs (λ ys. go (items_or_it x seen.sight ++ ys)) d (stand_behind vs seen.values xs zs others) (λ ys more rest.
     let own = stand_behind (vs ++ seen.values) more (items_or_it x seen.sight) (spread h z) (value_stands vs x h z first) in
     let both = stand_both ((vs ++ seen.values) ++ more) (items_or_it x seen.sight) ys (spread h z) (flat_map (spread h) zs) own rest in
@@ -128,20 +120,20 @@ part_stands : (vs : List Value) (a b : ℕ) (xs : List Handle) (zs : List Value)
 part_stands vs a b xs zs stand = λ more. sym (take-map (value_in place_of (vs ++ more)) (b - a) (drop a xs)) ∙ ap (take (b - a)) (sym (drop-map (value_in place_of (vs ++ more)) a xs) ∙ ap (drop a) (stand more))
 
 places_after : (by n : ℕ) (xs : List Value) (h : Objects) (a b : Result ℤ Fault)
-    → after a h (λ i. after b h (λ j. new_array by (part (place n i) (place n j) xs) h)) ≡ after {A = ℕ × ℕ} (and_then {B = ℕ × ℕ} a (λ i. and_then {B = ℕ × ℕ} b (λ j. Ok (place n i, place n j)))) h (λ p. new_array by (part p.0 p.1 xs) h)
+    → after a h (λ i. after b h (λ j. new_array by h (part (place n i) (place n j) xs))) ≡ after {A = ℕ × ℕ} (and_then {B = ℕ × ℕ} a (λ i. and_then {B = ℕ × ℕ} b (λ j. Ok (place n i, place n j)))) h (λ p. new_array by h (part p.0 p.1 xs))
 places_after by n xs h (Ok i) (Ok j) = refl
 places_after by n xs h (Ok i) (Err f) = refl
 places_after by n xs h (Err f) b = refl
 
 slice_leaves : (by : ℕ) (this : Value) (args items : List Value) (h : Objects) (xs : List Handle) → Stand (this ∷ (args ++ items)) xs items
     → Leaves by (this ∷ (args ++ items)) h (rows.number_or (pos 0) (rows.argument 0 (suc (length args))) (λ a. rows.number_or (pos (length items)) (rows.argument 1 (suc (length args))) (λ b. ends (r.makes_array false (part (place (length items) a) (place (length items) b) xs)))))
-    (after (number_argument (pos 0) (argument 0 args) h) h (λ a. after (number_argument (pos (length items)) (argument 1 args) h) h (λ b. new_array by (part (place (length items) a) (place (length items) b) items) h)))
+    (after (number_argument (pos 0) (argument 0 args) h) h (λ a. after (number_argument (pos (length items)) (argument 1 args) h) h (λ b. new_array by h (part (place (length items) a) (place (length items) b) items))))
 slice_leaves by this args items h xs stand =
     let n = suc (length args) in
     let l = length items in
     let vs = this ∷ (args ++ items) in
-    number_or_leaves by vs h (pos 0) (rows.argument 0 n) (argument 0 args) (λ a. rows.number_or (pos l) (rows.argument 1 n) (λ b. ends (r.makes_array false (part (place l a) (place l b) xs)))) (λ a. after (number_argument (pos l) (argument 1 args) h) h (λ b. new_array by (part (place l a) (place l b) items) h)) (argument_stands this args items 0) (λ a.
-    number_or_leaves by vs h (pos l) (rows.argument 1 n) (argument 1 args) (λ b. ends (r.makes_array false (part (place l a) (place l b) xs))) (λ b. new_array by (part (place l a) (place l b) items) h) (argument_stands this args items 1) (λ b.
+    number_or_leaves by vs h (pos 0) (rows.argument 0 n) (argument 0 args) (λ a. rows.number_or (pos l) (rows.argument 1 n) (λ b. ends (r.makes_array false (part (place l a) (place l b) xs)))) (λ a. after (number_argument (pos l) (argument 1 args) h) h (λ b. new_array by h (part (place l a) (place l b) items))) (argument_stands this args items 0) (λ a.
+    number_or_leaves by vs h (pos l) (rows.argument 1 n) (argument 1 args) (λ b. ends (r.makes_array false (part (place l a) (place l b) xs))) (λ b. new_array by h (part (place l a) (place l b) items)) (argument_stands this args items 1) (λ b.
     new_array_leaves by vs h (part (place l a) (place l b) xs) (part (place l a) (place l b) items) (part_stands vs (place l a) (place l b) xs items stand)))
 
 pub slice-is : (by : ℕ) (this : Value) (args : List Value) (h : Objects) → row_done r.slice by this args h ≡ on_receiver (array_of h this) by h (λ o. slice by args o h)
@@ -154,7 +146,7 @@ slice-is by this args h =
     let stand = own_items this args h o in
     subst (λ l. (does place_of by (rows.number_or (pos 0) (rows.argument 0 n) (λ a. rows.number_or (pos l) (rows.argument 1 n) (λ b. ends (r.makes_array false (part (place l a) (place l b) xs))))) vs h empty_page []).done ≡ slice by args o h) (sym (same_count vs xs items stand))
     (now by vs h (rows.number_or (pos 0) (rows.argument 0 n) (λ a. rows.number_or (pos (length items)) (rows.argument 1 n) (λ b. ends (r.makes_array false (part (place (length items) a) (place (length items) b) xs)))))
-    (after (number_argument (pos 0) (argument 0 args) h) h (λ a. after (number_argument (pos (length items)) (argument 1 args) h) h (λ b. new_array by (part (place (length items) a) (place (length items) b) items) h)))
+    (after (number_argument (pos 0) (argument 0 args) h) h (λ a. after (number_argument (pos (length items)) (argument 1 args) h) h (λ b. new_array by h (part (place (length items) a) (place (length items) b) items))))
     (slice_leaves by this args items h xs stand)
     ∙ places_after by (length items) items h (number_argument (pos 0) (argument 0 args) h) (number_argument (pos (length items)) (argument 1 args) h)))
 

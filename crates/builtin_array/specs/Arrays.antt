@@ -23,7 +23,7 @@ abbrev pub spread : Objects → Value → List Value
 spread h x = items_or h x (array_of h x)
 
 abbrev pub concat : ℕ → List Value → ℕ → Objects → Done
-concat by args o h = new_array by (array_items h o ++ flat_map (spread h) args) h
+concat by args o h = new_array by h (array_items h o ++ flat_map (spread h) args)
 
 -- 15.4.4.5: join(s = ",")
 abbrev pub join : List Value → ℕ → Objects → Result Value Fault
@@ -34,7 +34,7 @@ abbrev pub places : ℕ → List Value → Objects → Result (ℕ × ℕ) Fault
 places n args h = and_then (number_argument (pos 0) (argument 0 args) h) (λ a. and_then (number_argument (pos n) (argument 1 args) h) (λ b. Ok (place n a, place n b)))
 
 abbrev pub slice : ℕ → List Value → ℕ → Objects → Done
-slice by args o h = after (places (length (array_items h o)) args h) h (λ p. new_array by (part p.0 p.1 (array_items h o)) h)
+slice by args o h = after (places (length (array_items h o)) args h) h (λ p. new_array by h (part p.0 p.1 (array_items h o)))
 
 -- 15.4.4.7, 15.4.4.13: push(..) and unshift(..) answer the new length
 abbrev pub counted : ℕ → List Value → Objects → Done

@@ -6,12 +6,12 @@ ghost use Rattle.es3_convert.specs.Conversions.{array_items};
 ghost use Rattle.row_outcomes.specs.Comes.{Comes, row_done};
 ghost use Rattle.builtin_array.specs.Arrays.{counted, push, unshift, pop, shift, turn};
 
-use crate::items::{change_array, count_of, push_copies};
+use crate::items::{change_array, count_of};
 use crate::receivers::{open_array_of, refused};
 use caja_units::Memory;
 use es3_convert::{array_items, out_of_memory};
 use es3_heap::{Heap, ObjId, Stop, Value};
-use row_outcomes::Outcome;
+use row_outcomes::{Outcome, copied};
 use std::alloc::Global;
 
 /// Gives an array these items and answers how many they are; the run stops where they are 2^32 or more.
@@ -23,13 +23,21 @@ fn change_counted(h: &mut Heap, o: ObjId, items: Vec<Value>) -> Result<Outcome, 
     change_array(h, o, items, Value::Num(count))
 }
 
+/// The items of an array and then the arguments.
+fn before_args(alloc: Global, h: &Heap, o: ObjId, args: &[Value]) -> Result<Vec<Value>, Memory>
+    ensures { IfOk result (λ v. v.items ≡ array_items h.now o ++ args.now) }
+{
+    let mut items = array_items(alloc, h, o)?;
+    items.append(&mut copied(alloc, args)?)?;
+    Ok(items)
+}
+
 /// What `push` comes to at an array.
 fn push_to(alloc: Global, h: &mut Heap, o: ObjId, args: &[Value]) -> Result<Outcome, Stop>
     ensures outcome { Comes (push args.now o h.old) result h.new }
     ensures live { length h.old.list ≤ length h.new.list }
 {
-    let mut items = array_items(alloc, h, o).map_err(out_of_memory)?;
-    push_copies(alloc, &mut items, args).map_err(out_of_memory)?;
+    let items = before_args(alloc, h, o, args).map_err(out_of_memory)?;
     change_counted(h, o, items)
 }
 
@@ -37,8 +45,7 @@ fn push_to(alloc: Global, h: &mut Heap, o: ObjId, args: &[Value]) -> Result<Outc
 fn after_args(alloc: Global, h: &Heap, o: ObjId, args: &[Value]) -> Result<Vec<Value>, Memory>
     ensures { IfOk result (λ v. v.items ≡ args.now ++ array_items h.now o) }
 {
-    let mut items = Vec::new(alloc);
-    push_copies(alloc, &mut items, args)?;
+    let mut items = copied(alloc, args)?;
     items.append(&mut array_items(alloc, h, o)?)?;
     Ok(items)
 }

@@ -7,13 +7,13 @@ ghost use Rattle.es3_convert.specs.Answers.{Answers};
 ghost use Rattle.row_outcomes.specs.Comes.{Comes, row_done};
 ghost use Rattle.builtin_array.specs.Arrays.{places, slice};
 
-use crate::items::{count_of, new_array};
+use crate::items::count_of;
 use crate::receivers::{array_of, refused};
 use caja_num::Whole;
 use caja_units::Memory;
 use es3_convert::{array_items, out_of_memory};
 use es3_heap::{Heap, ObjId, Stop, Value};
-use row_outcomes::{Outcome, number_or, place};
+use row_outcomes::{Outcome, new_array, number_or, place};
 use std::alloc::Global;
 
 /// The two places that the arguments of `slice` give in some items.

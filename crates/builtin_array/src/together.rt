@@ -6,12 +6,11 @@ ghost use Rattle.rows.specs.Rows as r;
 ghost use Rattle.row_outcomes.specs.Comes.{Comes, row_done};
 ghost use Rattle.builtin_array.specs.Arrays.{spread, concat};
 
-use crate::items::new_array;
 use crate::receivers::{array_of, refused};
 use caja_units::Memory;
 use es3_convert::{array_items, out_of_memory};
 use es3_heap::{Heap, ObjId, Stop, Value};
-use row_outcomes::Outcome;
+use row_outcomes::{Outcome, new_array};
 use std::alloc::Global;
 
 /// Appends the items of a value that is an array, and another value itself.

@@ -1,5 +1,5 @@
 -- What the rows of the methods of functions come to.
-use Rattle.std.proofs.Common.{◌≡◌, ℕ, suc, ◌+◌, ◌-◌, ◌≤◌, Bool, true, false, List, [], ◌∷◌, ◌++◌, length, map, take, drop, get_or, Result, Some, None, refl, ap, sym, ◌∙◌, subst, append_assoc, if◌then◌else◌, arith}
+use Rattle.std.proofs.Common.{◌≡◌, ℕ, suc, ◌-◌, ◌≤◌, Bool, true, false, List, [], ◌∷◌, ◌++◌, length, map, take, drop, get_or, Result, Some, None, refl, ap, sym, ◌∙◌, subst, append_assoc, if◌then◌else◌, arith}
 use Rattle.std.specs.Prelude.{codes, is_some}
 use Rattle.std.proofs.Math.Seq.{take-length}
 use Rattle.es3_heap.specs.declared.value.Stop.{Stop}
@@ -21,11 +21,12 @@ use Rattle.heap_rows.specs.Opening.{place_of, empty_page}
 use Rattle.row_outcomes.specs.declared.Outcome.{Outcome}
 use Rattle.row_outcomes.specs.Comes.{Comes, row_done, throws}
 use Rattle.row_outcomes.specs.Arguments.{argument}
-use Rattle.row_outcomes.proofs.Arguments.{argument_held}
+use Rattle.row_outcomes.proofs.Arguments.{argument_held, function_sight}
 use Rattle.row_outcomes.proofs.Numbers.{next_values, first_values}
+use Rattle.row_outcomes.proofs.Arrays.{stand_now, items_stand}
 use Rattle.builtin_core.specs.Seeing.{is_class_array, has_class_function}
 use Rattle.builtin_core.specs.Calls.{invokes, items_if, arguments_in, invokes_with, on_function}
-use Rattle.builtin_core.proofs.Sights.{function_seen, callable_seen}
+use Rattle.builtin_core.proofs.Sights.{callable_seen}
 
 -- the values behind the first argument
 others_held : (fs : Native → ℕ) (this : Value) (args more : List Value) → map (value_in fs (this ∷ (args ++ more))) (values_from 2 (suc (length args) - 2)) ≡ drop 1 args
@@ -49,26 +50,14 @@ call-is by this args h =
     rw (callable_seen (suc (length args)) h this) (called (has_class_function h this) by this args seen.values h)
 
 -- the items of an array, which stand behind the values that are there
-next_handles : (fs : Native → ℕ) (x : Value) (xs : List Value) (n : ℕ) (items : List Value) → map (value_in fs (x ∷ xs)) (handles (suc n) items) ≡ map (value_in fs xs) (handles n items)
-next_handles fs x xs n [] = refl
-next_handles fs x xs n (y ∷ items) =
-    let e : suc n + 1 ≡ suc (n + 1) = omega arith in
-    rw e (ap (λ l. value_in fs xs (held n) ∷ l) (next_handles fs x xs (n + 1) items))
-
-first_handles : (fs : Native → ℕ) (items : List Value) → map (value_in fs items) (handles 0 items) ≡ items
-first_handles fs [] = refl
-first_handles fs (y ∷ items) = ap (λ l. y ∷ l) (next_handles fs y items 0 items ∙ first_handles fs items)
-
-items_held : (fs : Native → ℕ) (vs items : List Value) → map (value_in fs (vs ++ items)) (handles (length vs) items) ≡ items
-items_held fs [] items = first_handles fs items
-items_held fs (x ∷ vs) items = next_handles fs x (vs ++ items) (length vs) items ∙ items_held fs vs items
-
 items_called : (by : ℕ) (this : Value) (args more items : List Value) (h : Objects)
     → finish place_of by (r.calls true (held 0) (rows.argument 0 (suc (length args))) (handles (suc (length (args ++ more))) items)) (this ∷ ((args ++ more) ++ items)) h [] ≡ invokes this (argument 0 args) items h
 items_called by this args more items h =
-    let first : value_in place_of (this ∷ ((args ++ more) ++ items)) (rows.argument 0 (suc (length args))) ≡ argument 0 args =
+    let vs = this ∷ ((args ++ more) ++ items) in
+    let n = suc (length (args ++ more)) in
+    let first : value_in place_of vs (rows.argument 0 (suc (length args))) ≡ argument 0 args =
     subst (λ l. value_in place_of (this ∷ l) (rows.argument 0 (suc (length args))) ≡ argument 0 args) (sym (append_assoc args more items)) (argument_held place_of 0 this args (more ++ items)) in
-    rw (first, items_held place_of (this ∷ (args ++ more)) items) refl
+    rw (first, stand_now vs (handles n items) items (items_stand (this ∷ (args ++ more)) items n refl)) refl
 
 object_called : (by : ℕ) (this : Value) (args more : List Value) (h : Objects) (o : ℕ) (c : Class) →
     let vs = this ∷ (args ++ more) in
@@ -77,7 +66,7 @@ object_called : (by : ℕ) (this : Value) (args more : List Value) (h : Objects)
 object_called by this args more h o class.Object = refl
 object_called by this args more h o class.Array = items_called by this args more (array_items h o) h
 object_called by this args more h o class.Function =
-    function_seen (λ s. finish place_of by (apply_list (rows.argument 0 (suc (length args))) s) ((this ∷ (args ++ more)) ++ []) h [] ≡ throws (codes "bad argument") by h) (λ q. refl) refl (is_some (own h o simple_mark)) (callable_of (object_at h o))
+    function_sight (λ s. finish place_of by (apply_list (rows.argument 0 (suc (length args))) s) ((this ∷ (args ++ more)) ++ []) h [] ≡ throws (codes "bad argument") by h) (λ q. refl) refl (is_some (own h o simple_mark)) (callable_of (object_at h o))
 object_called by this args more h o class.Error = refl
 object_called by this args more h o class.Node = refl
 

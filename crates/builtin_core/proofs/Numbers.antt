@@ -1,5 +1,5 @@
 -- What the rows of `Math`, `Number` and `String` come to.
-use Rattle.std.proofs.Common.{◌≡◌, ℕ, suc, List, [], ◌∷◌, ◌++◌, length, drop, get_or, ◌<◌, Result, Ok, Err, refl, sym, subst, append-nil, drop-cons, arith}
+use Rattle.std.proofs.Common.{◌≡◌, ℕ, suc, List, [], ◌∷◌, ◌++◌, length, drop, get_or, ◌<◌, Result, Ok, Err, refl, sym, subst, drop-cons, arith}
 use Rattle.std.specs.Prelude.{ℤ, pos, Bool, false, nat_eq, unsigned_abs}
 use Rattle.std.proofs.lemmas.Bool.Decides.{nat_tests}
 use Rattle.plans.specs.Plans.{Fault}
@@ -24,7 +24,7 @@ use Rattle.row_outcomes.specs.declared.Outcome.{Outcome}
 use Rattle.row_outcomes.specs.Comes.{Comes, row_done}
 use Rattle.row_outcomes.specs.Arguments.{argument, told, outcome_of}
 use Rattle.row_outcomes.specs.Numbers.{numbers_of}
-use Rattle.row_outcomes.proofs.Arguments.{Yields, as_number_yields, as_text_yields}
+use Rattle.row_outcomes.proofs.Arguments.{now, Yields, as_number_yields, as_text_yields}
 use Rattle.row_outcomes.proofs.Numbers.{as_numbers_yields}
 use Rattle.row_outcomes.proofs.Told.{told_comes}
 use Rattle.builtin_core.specs.declared.math.Best.{Best}
@@ -33,7 +33,7 @@ use Rattle.builtin_core.specs.Numbers.{abs, its_number, better, best, best_from,
 
 -- a row that comes to something whatever stands behind the arguments
 pub done_by : (f : Native) (by : ℕ) (this : Value) (args : List Value) (h : Objects) (d : Done) → Yields by this args h (row_of no_rules f (suc (length args))) d → row_done f by this args h ≡ d
-done_by f by this args h d yields = subst (λ l. (does place_of by (row_of no_rules f (suc (length args))) (this ∷ l) h empty_page []).done ≡ d) (append-nil args) (yields [])
+done_by f by this args h d yields = now by (this ∷ args) h (row_of no_rules f (suc (length args))) d yields
 
 pub abs-is : (by : ℕ) (this : Value) (args : List Value) (h : Objects) → row_done r.abs by this args h ≡ told (abs args h) h
 abs-is by this args h =

@@ -1,7 +1,6 @@
 -- What the rows of the methods of texts come to.
-use Rattle.std.proofs.Common.{◌≡◌, ℕ, suc, List, [], ◌∷◌, ◌++◌, map, length, drop, Option, Some, None, Result, Ok, Err, refl, sym, ap, ◌∙◌}
+use Rattle.std.proofs.Common.{◌≡◌, ℕ, suc, List, [], ◌∷◌, ◌++◌, map, length, drop, Option, Some, None, Ok, refl, ap, ◌∙◌}
 use Rattle.std.specs.Prelude.{ℤ, pos}
-use Rattle.plans.specs.Plans.{Fault}
 use Rattle.es3_heap.specs.declared.value.Value.{Value}
 use Rattle.es3_heap.specs.declared.value.Value.TheVariants as v
 use Rattle.es3_heap.specs.Objects.{Objects}
@@ -15,9 +14,11 @@ use Rattle.heap_rows.specs.Doing.{value_in, does}
 use Rattle.heap_rows.specs.Opening.{place_of, empty_page}
 use Rattle.row_outcomes.specs.Comes.{row_done}
 use Rattle.row_outcomes.specs.Arguments.{argument, number_argument, told, at_text, text_method, after}
-use Rattle.row_outcomes.specs.Lists.{texts_of, new_array}
-use Rattle.row_outcomes.proofs.Arguments.{Yields, as_text_yields, unless_yields, number_or_yields, on_text_does, on_text_is}
-use Rattle.row_outcomes.proofs.Lists.{after-then, as_text_does, as_texts_does, array_made}
+use Rattle.row_outcomes.specs.Lists.{texts_of}
+use Rattle.row_outcomes.specs.Arrays.{new_array}
+use Rattle.row_outcomes.proofs.Arguments.{argument_held, Leaves, text_leaves, Yields, told_after, as_text_yields, unless_yields, number_or_yields, on_text_does, on_text_is}
+use Rattle.row_outcomes.proofs.Lists.{after-then, as_texts_does}
+use Rattle.row_outcomes.proofs.Arrays.{new_array_leaves}
 use Rattle.builtin_string.specs.Strings.{char_at, code_of, char_code_at, place_value, index_of, last_index_of, slice_text, substring, split, split_done, concat_text}
 
 pub char_at-is : (by : ℕ) (this : Value) (args : List Value) (h : Objects) → row_done r.char_at by this args h ≡ text_method this by h (λ us. char_at us args h)
@@ -74,8 +75,8 @@ texts_in : (vs : List Value) (uss : List (List ℕ)) → map (value_in place_of 
 texts_in vs [] = refl
 texts_in vs (us ∷ uss) = ap (λ xs. v.Text us ∷ xs) (texts_in vs uss)
 
-texts_made : (by : ℕ) (vs : List Value) (h : Objects) (uss : List (List ℕ)) → (does place_of by (r.ends (texts uss)) vs h empty_page []).done ≡ new_array by h (map v.Text uss)
-texts_made by vs h uss = array_made by vs h (map r.text uss) ∙ ap (new_array by h) (texts_in vs uss)
+texts_leave : (by : ℕ) (vs : List Value) (h : Objects) (uss : List (List ℕ)) → Leaves by vs h (r.ends (texts uss)) (new_array by h (map v.Text uss))
+texts_leave by vs h uss = new_array_leaves by vs h (map r.text uss) (map v.Text uss) (λ more. texts_in (vs ++ more) uss)
 
 split_at_some : (us : List ℕ) (x : Value) (h : Objects) → (x ≡ v.Undefined → ⊥) → split us x h ≡ and_then (text_of h x) (λ s. Ok (map v.Text (split_by s us)))
 split_at_some us v.Undefined h some = absurd (some refl)
@@ -85,16 +86,12 @@ pub split-is : (by : ℕ) (this : Value) (args : List Value) (h : Objects) → r
 split-is by this args h =
     on_text_does by this args h (λ us. r.looks (rows.argument 0 (suc (length args))) (rows.unless_undefined (r.ends (texts (us ∷ []))) (r.as_text (rows.argument 0 (suc (length args))) (λ s. r.ends (texts (split_by s us)))))) (λ us. split_done by us args h)
     (λ us. unless_yields by this args h 0 (r.ends (texts (us ∷ []))) (r.as_text (rows.argument 0 (suc (length args))) (λ s. r.ends (texts (split_by s us)))) (new_array by h (v.Text us ∷ [])) (after (text_of h (argument 0 args)) h (λ s. new_array by h (map v.Text (split_by s us)))) (split_done by us args h)
-    (λ more. texts_made by (this ∷ (args ++ more)) h (us ∷ []))
-    (as_text_does by this args h 0 (λ s. r.ends (texts (split_by s us))) (λ s. new_array by h (map v.Text (split_by s us))) (λ s more. texts_made by (this ∷ (args ++ more)) h (split_by s us)))
+    (texts_leave by (this ∷ args) h (us ∷ []))
+    (text_leaves by (this ∷ args) h (rows.argument 0 (suc (length args))) (argument 0 args) (λ s. r.ends (texts (split_by s us))) (λ s. new_array by h (map v.Text (split_by s us))) (argument_held place_of 0 this args) (λ s. texts_leave by (this ∷ args) h (split_by s us)))
     (λ none. rw none refl)
     (λ some. rw (split_at_some us (argument 0 args) h some) (after-then (text_of h (argument 0 args)) (λ s. Ok (map v.Text (split_by s us))) h (new_array by h))))
 
 pub concat_text-is : (by : ℕ) (this : Value) (args : List Value) (h : Objects) → row_done r.concat_text by this args h ≡ text_method this by h (λ us. concat_text us args h)
 concat_text-is by this args h =
     on_text_is by this args h (λ us. rows.as_texts (rows.arguments (suc (length args))) (λ uss. r.ends (r.answers (r.text (us ++ joined uss))))) (λ us. concat_text us args h)
-    (λ us more. as_texts_does by this args h (λ uss. r.ends (r.answers (r.text (us ++ joined uss)))) (λ uss. told (Ok (v.Text (us ++ joined uss))) h) (λ uss more. refl) more ∙ sym (told_with (texts_of h args) h (λ uss. v.Text (us ++ joined uss))))
-  where
-    told_with : {A : Type 0} (r : Result A Fault) (h : Objects) (value : A → Value) → told (and_then r (λ x. Ok (value x))) h ≡ after r h (λ x. told (Ok (value x)) h)
-    told_with (Ok x) h value = refl
-    told_with (Err f) h value = refl
+    (λ us more. as_texts_does by this args h (λ uss. r.ends (r.answers (r.text (us ++ joined uss)))) (λ uss. told (Ok (v.Text (us ++ joined uss))) h) (λ uss more. refl) more ∙ told_after (texts_of h args) h (λ uss. Ok (v.Text (us ++ joined uss))))

@@ -12,7 +12,8 @@ use Rattle.rows.specs.Arrays.{part}
 use Rattle.rows.specs.Texts.{unit_at, first_place, last_place, between, split_by, joined}
 use Rattle.heap_rows.specs.Doing.{Done}
 use Rattle.row_outcomes.specs.Arguments.{argument, number_argument, after}
-use Rattle.row_outcomes.specs.Lists.{texts_of, new_array}
+use Rattle.row_outcomes.specs.Lists.{texts_of}
+use Rattle.row_outcomes.specs.Arrays.{new_array}
 
 -- the units of an option
 abbrev pub listed : Option ℕ → List ℕ

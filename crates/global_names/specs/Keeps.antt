@@ -18,7 +18,7 @@ use Rattle.rows.specs.Rows.{most_items}
 use Rattle.heap_rows.specs.Doing.{makes, too_long}
 use Rattle.heap_rows.specs.Opening.{built_ins_there}
 use Rattle.row_outcomes.specs.Arguments.{argument, told}
-use Rattle.row_outcomes.specs.Lists.{new_array}
+use Rattle.row_outcomes.specs.Arrays.{new_array}
 use Rattle.live_rows.specs.Live.{LiveDone}
 use Rattle.live_rows.proofs.Made.{throws_live, array_live, copy_live}
 use Rattle.live_tables.proofs.Among.{built_in_live}

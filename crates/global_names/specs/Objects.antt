@@ -11,7 +11,7 @@ use Rattle.es3_language.specs.Natives.{value_reply}
 use Rattle.heap_rows.specs.Doing.{Done, makes, gives}
 use Rattle.row_outcomes.specs.Comes.{throws}
 use Rattle.row_outcomes.specs.Arguments.{told}
-use Rattle.row_outcomes.specs.Lists.{new_array}
+use Rattle.row_outcomes.specs.Arrays.{new_array}
 
 -- 15.2.1.1, 15.2.2.1: `Object(v)`, with and without `new`: a new object for nothing, an object itself; wrappers of other values aren't made
 abbrev pub new_object : ℕ → Objects → Done

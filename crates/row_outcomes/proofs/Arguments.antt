@@ -1,5 +1,5 @@
 -- What the rows of built-in functions make of their arguments, as values: a row is carried out with the receiver and the arguments in hand, and more behind them.
-use Rattle.std.proofs.Common.{◌≡◌, ℕ, zero, suc, ◌+◌, Bool, true, false, List, [], ◌∷◌, ◌++◌, length, Option, Some, None, Result, Ok, Err, cond, refl, sym, ◌∙◌, subst, append_assoc, arith}
+use Rattle.std.proofs.Common.{◌≡◌, ℕ, zero, suc, ◌+◌, Bool, true, false, List, [], ◌∷◌, ◌++◌, length, Option, Some, None, Result, Ok, Err, cond, refl, sym, ◌∙◌, subst, append_assoc, append-nil, arith}
 use Rattle.std.specs.Prelude.{ℤ, nat_lt, codes, is_some}
 use Rattle.std.proofs.lemmas.Bool.Decides.{nat_tests}
 use Rattle.plans.specs.Plans.{Fault}
@@ -51,21 +51,28 @@ argument_held fs i this args more =
 abbrev pub Stands : List Value → Handle → Value → Type 0
 Stands vs x z = (more : List Value) → value_in place_of (vs ++ more) x ≡ z
 
+-- nothing more is seen
+pub handle_now : (vs : List Value) (x : Handle) (z : Value) → Stands vs x z → value_in place_of vs x ≡ z
+handle_now vs x z stands = subst (λ l. value_in place_of l x ≡ z) (append-nil vs) (stands [])
+
 -- what a row comes to with these values in hand, whatever else was seen
 abbrev pub Leaves : ℕ → List Value → Objects → Row → Done → Type 0
 Leaves by vs h row d = (more : List Value) → (does place_of by row (vs ++ more) h empty_page []).done ≡ d
+
+pub now : (by : ℕ) (vs : List Value) (h : Objects) (row : Row) (d : Done) → Leaves by vs h row d → (does place_of by row vs h empty_page []).done ≡ d
+now by vs h row d leaves = subst (λ l. (does place_of by row l h empty_page []).done ≡ d) (append-nil vs) (leaves [])
 
 pub leaves_behind : (by : ℕ) (vs : List Value) (h : Objects) (row : Row) (d : Done) → Leaves by vs h row d → (more extra : List Value) → (does place_of by row ((vs ++ more) ++ extra) h empty_page []).done ≡ d
 leaves_behind by vs h row d leaves more extra = subst (λ l. (does place_of by row l h empty_page []).done ≡ d) (sym (append_assoc vs more extra)) (leaves (more ++ extra))
 
 -- what is seen of a function: one of a sort, or a stranger
-pub function_sight : (P : Sight → Type 0) → ((q : Sort) → P (r.a_function q)) → ((b : Bool) → P (r.a_stranger b)) → (simple : Bool) (c : Option Callable) → P (sort_seen simple c)
-function_sight P some other simple None = other true
+pub function_sight : (P : Sight → Type 0) → ((q : Sort) → P (r.a_function q)) → P (r.a_stranger true) → (simple : Bool) (c : Option Callable) → P (sort_seen simple c)
+function_sight P some other simple None = other
 function_sight P some other simple (Some c) =
     elim c.kind as (λ q. let d : Callable = record { kind = q; maker = c.maker } in P (sort_seen simple (Some d))) [
       | kind.Code n ↦ elim simple as (λ b. let d : Callable = record { kind = kind.Code n; maker = c.maker } in P (sort_seen b (Some d))) [
         | true ↦ some r.closure
-        | false ↦ other true
+        | false ↦ other
       ]
       | kind.Simple n ↦ some r.simple
       | kind.Constructor n ↦ some _
@@ -81,7 +88,7 @@ IsOfObject s = Unit {0}
 object_seen : (n : ℕ) (h : Objects) (o : ℕ) (c : Class) → IsOfObject (see_object n h o c).sight
 object_seen n h o class.Object = tt
 object_seen n h o class.Array = tt
-object_seen n h o class.Function = function_sight IsOfObject (λ q. tt) (λ b. tt) (is_some (own h o simple_mark)) (callable_of (object_at h o))
+object_seen n h o class.Function = function_sight IsOfObject (λ q. tt) tt (is_some (own h o simple_mark)) (callable_of (object_at h o))
 object_seen n h o class.Error = tt
 object_seen n h o class.Node = tt
 
@@ -129,7 +136,7 @@ number_leaves : (by : ℕ) (vs : List Value) (h : Objects) (x : Handle) (z : Val
     → Leaves by vs h (as_number x go) (after (number_of h z) h answer)
 number_leaves by vs h x z go answer stands leaves = λ more. rw (stands more) (number_after by (vs ++ more) h go answer (number_of h z) (λ n. leaves n more))
 
-text_leaves : (by : ℕ) (vs : List Value) (h : Objects) (x : Handle) (z : Value) (go : List ℕ → Row) (answer : List ℕ → Done) → Stands vs x z → ((us : List ℕ) → Leaves by vs h (go us) (answer us))
+pub text_leaves : (by : ℕ) (vs : List Value) (h : Objects) (x : Handle) (z : Value) (go : List ℕ → Row) (answer : List ℕ → Done) → Stands vs x z → ((us : List ℕ) → Leaves by vs h (go us) (answer us))
     → Leaves by vs h (as_text x go) (after (text_of h z) h answer)
 text_leaves by vs h x z go answer stands leaves = λ more. rw (stands more) (text_after by (vs ++ more) h go answer (text_of h z) (λ us. leaves us more))
 

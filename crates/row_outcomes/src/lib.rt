@@ -12,7 +12,7 @@ ghost use Rattle.es3_heap.specs.Making.{error_object, named};
 ghost use Rattle.es3_convert.specs.Answers.{Answers};
 ghost use Rattle.row_outcomes.specs.Comes.{Comes, throws};
 ghost use Rattle.row_outcomes.specs.Arguments.{argument, number_argument, text_argument, outcome_of};
-ghost use Rattle.row_outcomes.specs.Lists.{new_array};
+ghost use Rattle.row_outcomes.specs.Arrays.{new_array};
 
 use caja_num::Whole;
 use caja_units::{Memory, Units};
@@ -22,7 +22,7 @@ pub use places::{clamped, place};
 use std::alloc::Global;
 
 /// Arrays have fewer items than this (ES3 15.4).
-const MOST_ITEMS: usize = 4_294_967_296;
+pub const MOST_ITEMS: usize = 4_294_967_296;
 
 /// What a built-in function comes to, where the run does not stop.
 #[derive(Debug, Drop)]
@@ -101,17 +101,37 @@ pub fn copied(alloc: Global, values: &[Value]) -> Result<Vec<Value>, Memory>
     Ok(copies)
 }
 
+/// A new error (ES3 15.11), made by the running module, which then has that module's next name.
+///
+/// # Errors
+///
+/// Where memory is wanting.
+pub fn named_error(
+    alloc: Global,
+    h: &mut Heap,
+    by: u32,
+    proto: Proto,
+    name: &[u8],
+    message: Units,
+) -> Result<ObjId, Memory>
+    ensures id { IfOk result (λ o. o ≡ length h.old.list) }
+    ensures store { OnOk result (h.new ≡ named (with_object h.old (error_object proto name.now message)) (length h.old.list) by) }
+    ensures live { length h.old.list ≤ length h.new.list }
+{
+    let name = Units::from_ascii(alloc, name)?;
+    let error = h.make_error(proto, name, message)?;
+    h.name_next(error, by);
+    Ok(error)
+}
+
 /// A new TypeError with this message (ES3 15.11.6.5), made by the running module.
 fn type_error(alloc: Global, h: &mut Heap, by: u32, message: &[u8]) -> Result<ObjId, Memory>
     ensures id { IfOk result (λ o. o ≡ length h.old.list) }
     ensures store { OnOk result (h.new ≡ (throws message.now by h.old).heap) }
     ensures live { length h.old.list ≤ length h.new.list }
 {
-    let name = Units::from_ascii(alloc, b"TypeError")?;
     let message = Units::from_ascii(alloc, message)?;
-    let error = h.make_error(Proto::TypeError, name, message)?;
-    h.name_next(error, by);
-    Ok(error)
+    named_error(alloc, h, by, Proto::TypeError, b"TypeError", message)
 }
 
 /// Throws a new TypeError with this message, made by the running module, which then has that module's next name.

@@ -2,7 +2,7 @@ use Rattle.std.proofs.Common.{◌≡◌, ℕ, List, length, refl, ◌∙◌}
 use Rattle.es3_heap.specs.declared.value.Proto.{Proto}
 use Rattle.es3_heap.specs.Objects.{Objects, with_object}
 use Rattle.es3_heap.specs.Making.{error_object, named}
-use Rattle.builtin_core.proofs.errors.named_error.Goals as goal
+use Rattle.row_outcomes.proofs.named_error.Goals as goal
 
 -- the error that was made, with its name as it was passed
 named-error : (h g : Objects) (o by : ℕ) (p : Proto) (name kind message : List ℕ) → g ≡ with_object h (error_object p name message) → o ≡ length h.list → name ≡ kind
