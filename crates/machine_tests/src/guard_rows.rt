@@ -6,6 +6,7 @@ use caja_units::{Memory, Units};
 use es3_convert::out_of_memory;
 use es3_heap::{Heap, Stop, Tag, Value};
 use guard_runtime::{Guarded, guard_row, initialize_map, read_public};
+use module_loader::open;
 use std::alloc::Global;
 use std::test::Fail;
 
@@ -186,7 +187,7 @@ fn a_key_with_a_conversion_of_its_own_stops_the_run(rt: HostRuntime) -> Result<(
 
 #[test]
 fn a_key_of_arrays_that_nest_too_deep_stops_the_run(rt: HostRuntime) -> Result<(), Fail> {
-    let mut heap = Heap::new(rt.alloc())?;
+    let mut heap = open(rt.alloc())?.heap;
     let key = nested(rt.alloc(), &mut heap, 33)?;
     let (read, record) = stops_of(rt.alloc(), &mut heap, &key)?;
     assert_eq!(rt; read, Some(Stop::Depth));

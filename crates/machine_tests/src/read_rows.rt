@@ -24,12 +24,12 @@ static PLAIN: [(&str, &str, &str); 10] = [
 
 /// A value, a key, and the place of the built-in function that is read.
 static METHODS: [(&str, &str, u32); 6] = [
-    ("'abc'", "charAt", 39),
-    ("'abc'", "concat", 46),
-    ("''", "slice", 43),
-    ("[7,8]", "concat", 47),
-    ("[7,8]", "push", 50),
-    ("[]", "reverse", 54),
+    ("'abc'", "charAt", 41),
+    ("'abc'", "concat", 48),
+    ("''", "slice", 45),
+    ("[7,8]", "concat", 49),
+    ("[7,8]", "push", 52),
+    ("[]", "reverse", 56),
 ];
 
 /// What a guard answers.
@@ -82,8 +82,8 @@ fn a_method_is_the_function_at_its_place(rt: HostRuntime) -> Result<(), Fail> {
         );
     }
     let function = Value::Obj(heap.make_func(FuncKind::Simple(9), 0)?);
-    assert!(rt; has_method(rt.alloc(), &mut heap, &function, "call", 37)?);
-    assert!(rt; has_method(rt.alloc(), &mut heap, &function, "apply", 38)?);
+    assert!(rt; has_method(rt.alloc(), &mut heap, &function, "call", 39)?);
+    assert!(rt; has_method(rt.alloc(), &mut heap, &function, "apply", 40)?);
     Ok(())
 }
 
