@@ -26,7 +26,8 @@ run ⇒ (function f(a, b) {}).length; ⇒ return 2
 run ⇒ function f() {} f; ⇒ return function ?
 run ⇒ var g = function f() { return f; }; g() === g; ⇒ return true
 run ⇒ var g = function f() {}; f; ⇒ throw error ? TypeError \"unbound\"
-run ⇒ typeof Object; ⇒ return \"undefined\"
+run ⇒ typeof Object; ⇒ return \"function\"
+run ⇒ typeof Absent; ⇒ return \"undefined\"
 ";
 
 /// Members of objects and of values that are none (11.2.1, 8.6.2, 15.4.5.1, 15.5.5.1).
@@ -34,7 +35,8 @@ pub static MEMBERS: &str = "
 run ⇒ var o = {a: {b: 1}}; o.a.b; ⇒ return 1
 run ⇒ var o = {a: 1}, k = 'a'; o[k]; ⇒ return 1
 run ⇒ ({}).a; ⇒ return undefined
-run ⇒ ({}).toString; ⇒ return undefined
+run ⇒ ({}).toString; ⇒ return function ?
+run ⇒ ({}).absent; ⇒ return undefined
 run ⇒ 'abc'.length; ⇒ return 3
 run ⇒ 'abc'['length']; ⇒ return 3
 run ⇒ 'abc'[0]; ⇒ return undefined
@@ -230,7 +232,8 @@ run ⇒ 'a' in {a: undefined}; ⇒ return true
 run ⇒ 1 in [5, 6]; ⇒ return true
 run ⇒ 2 in [5, 6]; ⇒ return false
 run ⇒ 'length' in []; ⇒ return true
-run ⇒ 'toString' in {}; ⇒ return false
+run ⇒ 'toString' in {}; ⇒ return true
+run ⇒ 'absent' in {}; ⇒ return false
 run ⇒ function F() {} 'constructor' in new F(); ⇒ return true
 run ⇒ 'a' in 1; ⇒ throw error ? TypeError \"no object\"
 run ⇒ 'length' in 'abc'; ⇒ throw error ? TypeError \"no object\"
