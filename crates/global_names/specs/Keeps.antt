@@ -116,6 +116,7 @@ answer_live (Some f) by this args h there closed a l =
 answer_live None by this args h there closed a l = record { later = later_refl h; closed = closed; answer = tt; kept = there }
 
 pub text_keeps_live : KeepsLive text_fits text_natives
+unfolding text_natives
 text_keeps_live = record {
   called = λ which by this args h z there closed a l. answer_live (built_in which) by this args h there closed a l;
   touched = λ i h z there. there;

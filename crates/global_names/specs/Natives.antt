@@ -68,7 +68,7 @@ answer_of (Some f) by this args h = let d = done_of f by this args h in record {
 answer_of None by this args h = record { reply = throw_reply v.Undefined; heap = h; state = tt }
 
 -- no touch is kept yet
-abbrev pub text_natives : Table ⊤
+unfoldable pub text_natives : Table ⊤
 text_natives = record { answer = λ which by this args h z. answer_of (built_in which) by this args h; touch = λ i z. z }
 
 -- all functions that rows name are there

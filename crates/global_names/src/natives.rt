@@ -234,6 +234,7 @@ impl Natives for TextNatives {
 
     ghost fits = { text_fits };
 
+    #[tactic(auto, unfolding(crate::specs::Natives::text_natives))]
     fn call(
         &mut self,
         alloc: Global,
@@ -249,6 +250,7 @@ impl Natives for TextNatives {
         }
     }
 
+    #[tactic(auto, unfolding(crate::specs::Natives::text_natives))]
     fn touch(
         &mut self,
         _alloc: Global,
