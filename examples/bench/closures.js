@@ -25,7 +25,7 @@ var change = adder(0), total = 0;
 for (var i = 1; i <= 12; i++) {
   change = compose(change, adder(i));
 }
-for (var turn = 0; turn < 1500; turn++) {
+for (var turn = 0; turn < 3000; turn++) {
   total += change(byThree()) % 7 + byFive() % 4;
 }
 total + " " + byThree() + " " + byFive();

@@ -17,7 +17,7 @@ function deep(n, levels) {
 }
 
 var caught = {both: 0, five: 0, three: 0, "no object": 0}, good = 0, tries = 0;
-for (var n = 1; n <= 3000; n++) {
+for (var n = 1; n <= 5000; n++) {
   try {
     deep(n, 4);
     good++;

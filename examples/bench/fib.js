@@ -1,4 +1,4 @@
-// Recursion: the 20th number of Fibonacci, and how many calls it takes.
+// Recursion: the 21st number of Fibonacci, and how many calls it takes.
 // ./caja run --steps 10000000 < examples/bench/fib.js
 var calls = 0;
 
@@ -7,4 +7,4 @@ function fib(n) {
   return n < 2 ? n : fib(n - 1) + fib(n - 2);
 }
 
-fib(20) + " by " + calls + " calls";
+fib(21) + " by " + calls + " calls";

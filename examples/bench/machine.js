@@ -2,7 +2,7 @@
 // ./caja run --steps 10000000 < examples/bench/machine.js
 var PUSH = 0, LOAD = 1, STORE = 2, ADD = 3, MULTIPLY = 4, SUBTRACT = 5, JUMP_IF = 6, HALT = 7;
 var code = [
-  PUSH, 700, STORE, 0,
+  PUSH, 1500, STORE, 0,
   LOAD, 0, LOAD, 0, MULTIPLY, LOAD, 1, ADD, STORE, 1,
   LOAD, 0, PUSH, 1, SUBTRACT, STORE, 0,
   LOAD, 0, JUMP_IF, 4,
