@@ -23,7 +23,7 @@ function sort(a, low, high) {
 }
 
 var first = 0, middle = 0, last = 0;
-for (var turn = 0; turn < 24; turn++) {
+for (var turn = 0; turn < 36; turn++) {
   var a = [];
   for (var n = 0; n < 60; n++) a[n] = random();
   sort(a, 0, 59);

@@ -2,10 +2,6 @@
 // ./caja run --steps 10000000 < examples/bench/scanner.js
 var source, at;
 
-function skip() {
-  while (source.charAt(at) === " ") at++;
-}
-
 function number() {
   var value = 0, code = source.charCodeAt(at);
   while (code >= 48 && code <= 57) {
@@ -17,7 +13,6 @@ function number() {
 }
 
 function factor() {
-  skip();
   if (source.charAt(at) !== "(") return number();
   at++;
   var value = sum();
@@ -26,17 +21,13 @@ function factor() {
 }
 
 function term() {
-  var value = factor();
-  for (skip(); source.charAt(at) === "*"; skip()) {
-    at++;
-    value *= factor();
-  }
+  for (var value = factor(); source.charAt(at) === "*"; value *= factor()) at++;
   return value;
 }
 
 function sum() {
   var value = term(), sign;
-  for (skip(); (sign = source.charAt(at)) === "+" || sign === "-"; skip()) {
+  while ((sign = source.charAt(at)) === "+" || sign === "-") {
     at++;
     value += sign === "+" ? term() : -term();
   }
@@ -44,8 +35,8 @@ function sum() {
 }
 
 var total = 0;
-for (var turn = 0; turn < 260; turn++) {
-  source = "12 * (3 + " + turn + ") - (4 - 2 * (15 + 1)) * 3 + 1024";
+for (var turn = 0; turn < 300; turn++) {
+  source = "12*(3+" + turn + ")-(4-2*(15+1))*3+1024";
   at = 0;
   total += sum();
 }

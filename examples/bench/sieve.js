@@ -17,7 +17,7 @@ function sieve(crossed, limit) {
 }
 
 var crossed = [false, false], counts = [];
-for (var turn = 0; turn < 50; turn++) {
+for (var turn = 0; turn < 60; turn++) {
   counts[turn % 10] = sieve(crossed, 100 + 10 * (turn % 10));
 }
 counts.join(" ");
