@@ -106,8 +106,11 @@ seventy = refl
 opened_objects : opened ≡ stored (replicate 64 0) (first_list ++ later_objects)
 opened_objects = opened_is ∙ ap (λ h. stored h.counts (h.list ++ later_objects)) first_list_is
 
+pub opened_long : length opened.list ≡ 70
+opened_long = ap (λ h. length h.list) opened_objects ∙ seventy
+
 pub opened_there : built_ins_there opened
-opened_there = let long : length opened.list ≡ 70 = ap (λ h. length h.list) opened_objects ∙ seventy in omega (arith, long)
+opened_there = let long = opened_long in omega (arith, long)
 
 pub opened_closed : AreClosed opened
 opened_closed = subst AreClosed (sym opened_objects) (record {
