@@ -15,7 +15,7 @@ use module_loader::{Opened, open};
 use std::alloc::Global;
 
 /// The store that a text begins in, and the global object in it (ES3 15.1).
-#[tactic(auto, using(live_openings::proofs::Page::opened_long), unfolding(global_names::specs::Opening::text_objects))]
+#[tactic(auto, using(live_openings::proofs::Page::opened_long))]
 fn open_text(alloc: Global) -> Result<(Heap, ObjId), Memory>
     ensures heap { IfOk result (λ o. o.0 ≡ text_objects) }
     ensures globals { IfOk result (λ o. o.1 ≡ text_globals) }
