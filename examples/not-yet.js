@@ -1,1 +1,1 @@
-if (1) ;
+for (var k in {}) ;

@@ -6,12 +6,12 @@ ghost use Rattle.es3_convert.specs.Conversions.{array_items};
 ghost use Rattle.row_outcomes.specs.Comes.{Comes, row_done};
 ghost use Rattle.builtin_array.specs.Arrays.{counted, push, unshift, pop, shift, turn};
 
-use crate::items::{change_array, count_of};
+use crate::items::count_of;
 use crate::receivers::{open_array_of, refused};
 use caja_units::Memory;
 use es3_convert::{array_items, out_of_memory};
 use es3_heap::{Heap, ObjId, Stop, Value};
-use row_outcomes::{Outcome, copied};
+use row_outcomes::{Outcome, change_array, copied};
 use std::alloc::Global;
 
 /// Gives an array these items and answers how many they are; the run stops where they are 2^32 or more.

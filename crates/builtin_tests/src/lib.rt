@@ -12,6 +12,8 @@ mod number_rows;
 #[cfg(test)]
 mod object_rows;
 #[cfg(test)]
+mod runtime_rows;
+#[cfg(test)]
 mod specified_rows;
 #[cfg(test)]
 mod text_rows;

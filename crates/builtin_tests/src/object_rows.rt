@@ -208,6 +208,8 @@ run ⇒ var o = Object(), p = Object(); o.p = p; o; ⇒ return record main#0
 static GLOBALS: &str = "
 run ⇒ [typeof Object, typeof Function, typeof Array, typeof String, typeof Number, typeof Boolean].join(); ⇒ return \"function,function,function,function,function,function\"
 run ⇒ [typeof Error, typeof TypeError, typeof RangeError, typeof Math, typeof undefined].join(); ⇒ return \"function,function,function,object,undefined\"
+run ⇒ typeof ___; ⇒ return \"object\"
+run ⇒ this.___ === ___; ⇒ return true
 run ⇒ (function (g) { var s = ''; for (var k in g) s += k; return s; })(this); ⇒ return \"\"
 run ⇒ this.Math === Math; ⇒ return true
 run ⇒ 'Math' in this; ⇒ return true
@@ -227,7 +229,6 @@ run ⇒ NaN; ⇒ throw error ? TypeError \"unbound\"
 run ⇒ parseInt('1'); ⇒ throw error ? TypeError \"unbound\"
 run ⇒ eval('1'); ⇒ throw error ? TypeError \"unbound\"
 run ⇒ cajita; ⇒ throw error ? TypeError \"unbound\"
-run ⇒ ___; ⇒ throw error ? TypeError \"unbound\"
 ";
 
 /// The prototypes: `prototype` is fixed, and what prototypes have may be written and deleted, unseen by `for in` (15.2.3.1, 15).

@@ -19,17 +19,17 @@ own = numerals_by_value _ (search rules)
 number_digits : (w : List ℕ) → list_all is_ascii_digit w ≡ true → length w ≤ 8 → number_of w ≡ within (digits_value 10 w)
 number_digits w digits short = rw (digits, le-leb (length w) 8 short) refl
 
-within_far : (n : ℕ) → 2 ^ 64 ≤ n → within n ≡ None
+within_far : (n : ℕ) → 2 ^ 32 ≤ n → within n ≡ None
 within_far n far = grind (arith, nat_tests)
 
--- of a text that is no number below 2^64
-none_within : (w : List ℕ) → ((0 < length w) × (digits_value 10 w < 2 ^ 64) → ⊥) → within (digits_value 10 w) ≡ None
+-- of a text that is no number below 2^32
+none_within : (w : List ℕ) → ((0 < length w) × (digits_value 10 w < 2 ^ 32) → ⊥) → within (digits_value 10 w) ≡ None
 none_within [] none = refl
 none_within (c ∷ cs) none = within_far (digits_value 10 (c ∷ cs)) (grind (arith, none))
 
-pub number_unread : (E : Type 0) (w : List ℕ) (e : E) → ParsesUnsigned 64 10 w (Err e) → list_all is_ascii_digit w ≡ true → length w ≤ 8 → None ≡ number_of w
+pub number_unread : (E : Type 0) (w : List ℕ) (e : E) → ParsesUnsigned 32 10 w (Err e) → list_all is_ascii_digit w ≡ true → length w ≤ 8 → None ≡ number_of w
 number_unread E w e parses digits short =
-    let none = parse_digits own {E = E} 64 w (Err e) parses digits in sym (number_digits w digits short ∙ none_within w none)
+    let none = parse_digits own {E = E} 32 w (Err e) parses digits in sym (number_digits w digits short ∙ none_within w none)
 
 -- of a word that doesn't begin so
 pub no_steps : (w : List ℕ) → ((rest : List ℕ) → w ≡ codes "--steps=" ++ rest → ⊥) → None ≡ steps_in w

@@ -1,5 +1,5 @@
 -- What the program writes for its words and its input, and the status that it ends with.
-use Rattle.std.specs.Prelude.{ℕ, ◌+◌, ◌++◌, Bool, true, false, List, Option, Some, None, length, nat_lt, codes, if◌then◌else◌}
+use Rattle.std.specs.Prelude.{ℕ, ◌+◌, ◌*◌, ◌++◌, Bool, true, false, List, Option, Some, None, length, nat_lt, codes, if◌then◌else◌}
 use Rattle.caja_units.specs.Index.{number_units}
 use Rattle.es3_tree.specs.Tree as t
 use Rattle.es3_printed.specs.Tokens.{printed}
@@ -14,7 +14,7 @@ use Rattle.page_runner.specs.Log.{main_name, line_end, page_log, page_end}
 use Rattle.page_runner.specs.Text.{text_log, text_end}
 use Rattle.caja_cli.specs.Words.{command_of}
 use Rattle.caja_cli.specs.declared.command.Command.{Command}
-use Rattle.caja_cli.specs.declared.command.Command.TheVariants.{Solo, Format, Run}
+use Rattle.caja_cli.specs.declared.command.Command.TheVariants.{Solo, Cajole, Format, Run}
 use Rattle.caja_cli.specs.declared.status.Status.{Status}
 use Rattle.caja_cli.specs.declared.status.Status.TheVariants as status
 
@@ -23,9 +23,9 @@ abbrev pub longest_input : Command → ℕ
 longest_input (Run n) = 67108864
 longest_input c = 4194304
 
--- the steps of a page: 64 ES3 steps for each of 1,000,000 direct ones
-abbrev pub page_steps : ℕ
-page_steps = 64000000
+-- the steps of a page: 64 of ECMAScript 3 for each of so many direct ones
+abbrev pub page_steps : ℕ → ℕ
+page_steps n = 64 * n
 
 -- the most bytes that are read for the words: one more than the longest input of their command, and none where they are no command
 abbrev pub most_of : Option Command → ℕ
@@ -68,15 +68,20 @@ end_status the_end.Depth = status.Depth
 end_status the_end.Convert = status.Convert
 end_status the_end.Steps = status.Steps
 
--- the printed program, the log of the interpreter's meaning of that program, and how that ends
-abbrev pub solo_parts : t.Tree t.program → List ℕ
-solo_parts p = module_part (printed p) ++ page_log p page_steps ++ end_line (page_end p page_steps)
+-- the printed program, the log of the interpreter's meaning of that program with the steps for n direct ones, and how that ends; and the status
+abbrev pub solo_parts : ℕ → t.Tree t.program → List ℕ × Status
+solo_parts n p = (module_part (printed p) ++ page_log p (page_steps n) ++ end_line (page_end p (page_steps n)), end_status (page_end p (page_steps n)))
 
-abbrev pub source_output : Outcome → List ℕ × Status
-source_output (uncut number place) = (refusal (codes "lex") number place, status.Refused)
-source_output (unread number place) = (refusal (codes "read") number place, status.Refused)
-source_output (broken number place) = (refusal (codes "rule") number place, status.Refused)
-source_output (cajoled p) = (solo_parts p, end_status (page_end p page_steps))
+-- the printed program and a line end
+abbrev pub cajoled_line : t.Tree t.program → List ℕ × Status
+cajoled_line p = (printed p ++ line_end, status.Done)
+
+-- what is made of the program that stands for a source, or the refusal
+abbrev pub source_output : (t.Tree t.program → List ℕ × Status) → Outcome → List ℕ × Status
+source_output make (uncut number place) = (refusal (codes "lex") number place, status.Refused)
+source_output make (unread number place) = (refusal (codes "read") number place, status.Refused)
+source_output make (broken number place) = (refusal (codes "rule") number place, status.Refused)
+source_output make (cajoled p) = make p
 
 -- the printed text of the program that the source spells, and a line end
 abbrev pub format_output : Formatted → List ℕ × Status
@@ -96,7 +101,8 @@ run_output n (x.runs p) = (run_parts p n, end_status (text_end p n))
 
 -- what a command makes of an input that isn't too long
 abbrev pub command_output : Command → List ℕ → List ℕ × Status
-command_output Solo input = source_output (outcome input)
+command_output (Solo n) input = source_output (solo_parts n) (outcome input)
+command_output Cajole input = source_output cajoled_line (outcome input)
 command_output Format input = format_output (formatted input)
 command_output (Run n) input = run_output n (text_outcome input)
 

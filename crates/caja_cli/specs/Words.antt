@@ -5,9 +5,9 @@ use Rattle.std.specs.List.{list_all}
 use Rattle.std.specs.Str.{bytes_eq}
 use Rattle.std.specs.Str.Parse.{digits_value}
 use Rattle.caja_cli.specs.declared.command.Command.{Command}
-use Rattle.caja_cli.specs.declared.command.Command.TheVariants.{Solo, Format, Run}
+use Rattle.caja_cli.specs.declared.command.Command.TheVariants.{Solo, Cajole, Format, Run}
 
--- the steps of `run` where the words give none, and the most that they may give
+-- the steps where the words give none, and the most that they may give
 abbrev pub default_steps : ℕ
 default_steps = 1000000
 
@@ -26,7 +26,7 @@ number_of w = if list_all is_ascii_digit w && nat_le (length w) 8 then within (d
 abbrev pub steps_in : List ℕ → Option ℕ
 steps_in w = if bytes_eq (take 8 w) (codes "--steps=") then number_of (drop 8 w) else None
 
--- the steps that the words behind `run` give: one such word, or `--steps` and the number, or nothing
+-- the steps that the words behind a command give: one such word, or `--steps` and the number, or nothing
 abbrev pub steps_of : List (List ℕ) → Option ℕ
 steps_of [] = Some default_steps
 steps_of (w ∷ []) = steps_in w
@@ -41,7 +41,8 @@ alone c (w ∷ ws) = None
 abbrev pub command_of : List (List ℕ) → Option Command
 command_of [] = None
 command_of (w ∷ ws) =
-    if bytes_eq w (codes "solo") then alone Solo ws
+    if bytes_eq w (codes "solo") then option_map Solo (steps_of ws)
+    else if bytes_eq w (codes "cajole") then alone Cajole ws
     else if bytes_eq w (codes "format") then alone Format ws
     else if bytes_eq w (codes "run") then option_map Run (steps_of ws)
     else None

@@ -6,11 +6,11 @@ ghost use Rattle.std.specs.List.{list_all};
 ghost use Rattle.caja_cli.specs.Words.{within, number_of, steps_in, steps_of, alone, command_of};
 ghost use Rattle.caja_cli.specs.Output.{longest_input};
 
-/// The steps of `run` where the words give none.
-const DEFAULT_STEPS: u64 = 1_000_000;
+/// The steps where the words give none.
+const DEFAULT_STEPS: u32 = 1_000_000;
 
 /// The most steps that the words may give.
-const MOST_STEPS: u64 = 10_000_000;
+const MOST_STEPS: u32 = 10_000_000;
 
 /// The most digits of a number.
 const MOST_DIGITS: usize = 8;
@@ -18,12 +18,14 @@ const MOST_DIGITS: usize = 8;
 /// A command of the program.
 #[derive(Clone, Copy)]
 pub enum Command {
-    /// Cajoles and runs a module.
-    Solo,
+    /// Cajoles and runs a module, with 64 steps of ECMAScript 3 for each of so many direct ones.
+    Solo(u32),
+    /// Cajoles a module.
+    Cajole,
     /// Prints a source of ECMAScript 3.
     Format,
     /// Runs a text of ECMAScript 3 as it stands, with so many steps.
-    Run(u64),
+    Run(u32),
 }
 
 impl Command {
@@ -32,14 +34,14 @@ impl Command {
         ensures { result ≡ longest_input self }
     {
         match self {
-            Command::Solo | Command::Format => 4_194_304,
-            Command::Run(_steps) => 67_108_864,
+            Command::Solo(_) | Command::Cajole | Command::Format => 4_194_304,
+            Command::Run(_) => 67_108_864,
         }
     }
 }
 
 /// A number of steps, where it is from 1 to the most.
-fn within(number: u64) -> Option<u64>
+fn within(number: u32) -> Option<u32>
     ensures { result ≡ within number }
 {
     if 1 <= number && number <= MOST_STEPS {
@@ -62,7 +64,7 @@ fn are_digits(word: &str) -> bool
 }
 
 /// The number of steps that a word gives, in one to eight decimal digits.
-fn number_of(word: &str) -> Option<u64>
+fn number_of(word: &str) -> Option<u32>
     ensures { result ≡ number_of word.now }
 {
     if word.len() > MOST_DIGITS {
@@ -71,14 +73,14 @@ fn number_of(word: &str) -> Option<u64>
     if !are_digits(word) {
         return None;
     }
-    match word.parse::<u64>() {
+    match word.parse::<u32>() {
         Ok(number) => within(number),
         Err(_error) => None,
     }
 }
 
 /// The steps that a word by itself gives.
-fn steps_in(word: &str) -> Option<u64>
+fn steps_in(word: &str) -> Option<u32>
     ensures { result ≡ steps_in word.now }
 {
     match word.strip_prefix("--steps=") {
@@ -87,8 +89,8 @@ fn steps_in(word: &str) -> Option<u64>
     }
 }
 
-/// The steps that the words behind `run` give.
-fn steps_of(words: &[String]) -> Option<u64>
+/// The steps that the words behind a command give.
+fn steps_of(words: &[String]) -> Option<u32>
     ensures { result ≡ steps_of (map string_bytes words.now) }
 {
     match words {
@@ -116,7 +118,8 @@ pub fn command_of(words: &[String]) -> Option<Command>
     match words {
         [] => None,
         [word, options @ ..] => match word.as_str() {
-            "solo" => alone(Command::Solo, options),
+            "solo" => steps_of(options).map(Command::Solo),
+            "cajole" => alone(Command::Cajole, options),
             "format" => alone(Command::Format, options),
             "run" => steps_of(options).map(Command::Run),
             _ => None,

@@ -24,7 +24,7 @@ pub fn format_source(alloc: Global, input: &[u8]) -> Result<(Vec<u8>, Status), M
 }
 
 /// The text and a line end.
-fn line_of(text: Vec<u8>) -> Result<(Vec<u8>, Status), Memory>
+pub fn line_of(text: Vec<u8>) -> Result<(Vec<u8>, Status), Memory>
     ensures text { IfOk result (λ r. r.0.items ≡ text.items ++ line_end) }
     ensures status { IfOk result (λ r. r.1 ≡ Status.Done) }
 {

@@ -10,8 +10,9 @@ ghost use Rattle.page_cajole.specs.Formatted.{IsFormatted};
 ghost use Rattle.page_meaning.specs.Meant.{IsMeant};
 ghost use Rattle.caja_cli.specs.Answered.{IsAnswer, Wrote, WrotePart};
 ghost use Rattle.caja_cli.specs.Run.{IsRun};
-ghost use Rattle.caja_cli.specs.Solo.{IsSolo};
+ghost use Rattle.caja_cli.specs.Solo.{IsSolo, IsCajole};
 
+mod cajoling;
 mod command;
 mod ending;
 mod formatting;
@@ -29,10 +30,10 @@ use std::alloc::Global;
 /// Reads the words and then the whole input, does what the words say, and gives all that is written to the sink at once.
 ///
 /// The words are those behind the program's name. With `solo` the input is the source of a module, and the output is its cajoled
-/// text and the log of its load. With `format` the input is a source of ECMAScript 3, and the output its printed text and a line
+/// text and the log of its load. With `cajole` the output is the cajoled text alone, and a line end. With `format` the input is a source of ECMAScript 3, and the output its printed text and a line
 /// end. With `run` it is a text of ECMAScript 3 that runs as it stands, and the output its log. Where the words are no command, nothing is read, and the
 /// line `usage` is written.
-#[tactic(auto, using(page_meaning::proofs::Meant::is_meant, crate::proofs::Solos::is_solo, page_cajole::proofs::Formats::is_formatted, crate::proofs::Runs::is_run))]
+#[tactic(auto, using(page_meaning::proofs::Meant::is_meant, crate::proofs::Solos::is_solo, crate::proofs::Solos::is_cajole, page_cajole::proofs::Formats::is_formatted, crate::proofs::Runs::is_run))]
 pub fn caja<S: Source, K: Sink>(
     words: &[String],
     source: &mut S,
@@ -43,12 +44,13 @@ pub fn caja<S: Source, K: Sink>(
     ensures answer { IsAnswer result
         → Wrote (map string_bytes words.now) result (S.left source.old) (S.left source.new) (K.written sink.old) (K.written sink.new) }
 
-    // What becomes of an input of `solo`: the one program that it spells is cajoled, and its log is what it means, just where it breaks no rule; each refusal
+    // What becomes of the source of a module: the one program that it spells is cajoled, and its log is what it means, just where it breaks no rule; each refusal
     // comes just where it is so.
     ensures meant { (input : List ℕ) → IsMeant input }
 
-    // What is written for each of these.
-    ensures solo { (input : List ℕ) → IsSolo input }
+    // What `solo` with so many steps, and `cajole`, write for each of these.
+    ensures solo { (n : ℕ) (input : List ℕ) → IsSolo n input }
+    ensures cajole { (input : List ℕ) → IsCajole input }
 
     // What is formatted is the one program that the input spells, and the text is read as it again; each refusal comes just where it is so.
     ensures formatted { (input : List ℕ) → IsFormatted input }
@@ -92,7 +94,8 @@ fn perform(alloc: Global, command: Command, input: &[u8]) -> Result<(Vec<u8>, St
     ensures answer { IfOk result (λ r. IsAnswer r.1) }
 {
     match command {
-        Command::Solo => solo::solo(alloc, input),
+        Command::Solo(steps) => solo::solo(alloc, input, steps),
+        Command::Cajole => cajoling::cajole_source(alloc, input),
         Command::Format => formatting::format_source(alloc, input),
         Command::Run(steps) => run::run(alloc, input, steps),
     }

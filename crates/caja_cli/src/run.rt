@@ -19,7 +19,7 @@ use std::alloc::Global;
 const BAD_LABEL: u8 = 1;
 
 /// What is written for an input that runs with so many steps, and the status.
-pub fn run(alloc: Global, input: &[u8], steps: u64) -> Result<(Vec<u8>, Status), Memory>
+pub fn run(alloc: Global, input: &[u8], steps: u32) -> Result<(Vec<u8>, Status), Memory>
     ensures text { IfOk result (λ r. r.0.items ≡ (run_output steps (text_outcome input.now)).0) }
     ensures status { IfOk result (λ r. r.1 ≡ (run_output steps (text_outcome input.now)).1) }
 {
@@ -32,11 +32,11 @@ pub fn run(alloc: Global, input: &[u8], steps: u64) -> Result<(Vec<u8>, Status),
 }
 
 /// The log of a program, and how it ended.
-fn show(alloc: Global, program: Program, steps: u64) -> Result<(Vec<u8>, Status), Memory>
+fn show(alloc: Global, program: Program, steps: u32) -> Result<(Vec<u8>, Status), Memory>
     ensures text { IfOk result (λ r. r.0.items ≡ run_parts (program_view program) steps) }
     ensures status { IfOk result (λ r. r.1 ≡ end_status_of (text_end (program_view program) steps)) }
 {
-    let Outcome { log, end } = run_text(alloc, program, steps)?;
+    let Outcome { log, end } = run_text(alloc, program, u64::from(steps))?;
     let mut output = log;
     output.extend_from_slice(end_line(end))?;
     Ok((output, end_status(end)))

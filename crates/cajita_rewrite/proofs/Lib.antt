@@ -1,2 +1,7 @@
-pub mod Joined
-pub mod Parts
+pub mod Direct
+pub mod Forms
+pub mod Front
+pub mod Grown
+pub mod Heads
+pub mod Names
+pub mod Steps

@@ -5,13 +5,15 @@
 ghost use Rattle.std.specs.Prelude.{◌≡◌, IfOk};
 ghost use Rattle.es3_tree.specs.View.{program};
 ghost use Rattle.cajita_tree.specs.View.{module_view};
-ghost use Rattle.cajita_tree.specs.Tree as source;
 ghost use Rattle.cajita_rewrite.specs.Rewrite.{program_of};
-ghost use Rattle.cajita_rewrite.specs.Given.{IsGiven};
 
-mod forms;
+mod bodies;
+mod declared;
+mod expressions;
+mod functions;
 mod load;
-mod walk;
+mod members;
+mod statements;
 
 use caja_units::Memory;
 use cajita_tree::Module;
@@ -21,7 +23,6 @@ use std::alloc::Global;
 /// The guarded program that stands for the module (ES3 14). An error says that memory is wanting.
 #[tactic(auto, unfolding(crate::specs::Rewrite::rewritten))]
 pub fn rewrite(alloc: Global, m: &Module) -> Result<Program, Memory>
-    requires { IsGiven source.program (module_view m.now) }
     ensures { IfOk result (λ p. program p ≡ program_of (module_view m.now)) }
 {
     let body = load::module_body(alloc, m)?;

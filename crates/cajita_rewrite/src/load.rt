@@ -1,26 +1,27 @@
-ghost use Rattle.std.specs.Prelude.{◌≡◌, [], ◌∷◌, IfOk, OnOk};
-ghost use Rattle.es3_tree.specs.Tree as tree;
-ghost use Rattle.es3_tree.specs.View.{stmt, of_stmts, of_maybe_expr};
-ghost use Rattle.cajita_tree.specs.Tree as source;
-ghost use Rattle.cajita_tree.specs.View.{body as body_view};
-ghost use Rattle.cajita_rewrite.specs.Rewrite.{declares, import_stmts, joined, load_stmt, result_name, rewritten};
-ghost use Rattle.cajita_rewrite.specs.Given.{IsGiven};
+//! The program of a module (ES3 14). Each function fails with `Memory` where memory is wanting.
 
-use crate::forms::{
+ghost use Rattle.std.specs.Prelude.{◌≡◌, ◌+◌, ◌∷◌, [], true, IfOk, OnOk};
+ghost use Rattle.es3_tree.specs.Tree as tree;
+ghost use Rattle.es3_tree.specs.View.{stmt, of_stmts};
+ghost use Rattle.cajita_tree.specs.Tree as source;
+ghost use Rattle.cajita_tree.specs.View as view;
+ghost use Rattle.cajita_rewrite.specs.Rewrite.{import_stmts, joined, load_stmt, result_name, result_stmts, head_items, rewritten, temps};
+
+use crate::bodies::{add_marks, add_names};
+use crate::expressions::rewrite_expr;
+use crate::functions::rewrite_functions;
+use crate::statements::rewrite_stmt;
+use caja_units::{Memory, Units};
+use cajita_tree::{CStmt, Module};
+use es3_tree::{
+    Expr, Func, Stmt, VarItem, boxed, make_assign, make_function, make_return, make_var,
+};
+use rewrite_parts::heads::{add_temporaries, declaration};
+use rewrite_parts::names::{
     IMPORTS, NOWHERE, RESULT, RUNTIME, copied_name, own_name, own_variable, runtime_call,
 };
-use crate::walk::add_stmts;
-use caja_units::{Memory, Units};
-use cajita_tree::Module;
-use es3_tree::{Expr, Func, Name, Stmt, VarItem, boxed, make_function, make_return, make_var};
+use rewrite_parts::temporaries::Temporaries;
 use std::alloc::Global;
-
-// `var NAME=VALUE;` (ES3 12.2).
-fn declaration(alloc: Global, name: Name, value: Option<Expr>) -> Result<Stmt, Memory>
-    ensures { IfOk result (λ s. stmt s ≡ tree.var (tree.more_items name.text (of_maybe_expr value) tree.no_items)) }
-{
-    Ok(make_var(Vec::from_array(alloc, [VarItem { name, value }])?))
-}
 
 // What the module imports by the name, under that name.
 fn import(alloc: Global, name: &Units) -> Result<Stmt, Memory>
@@ -41,20 +42,66 @@ fn add_imports(alloc: Global, out: &mut Vec<Stmt>, imports: &[Units]) -> Result<
     Ok(())
 }
 
-/// What the function of the module does: it declares the result and the imports, does the module's statements, and
-/// returns the result.
+// The statement as it is rewritten directly in the module: the value of an expression is the module's result so far.
+#[tactic(auto, unfolding(crate::specs::Rewrite::rewritten), using(cajita_tree::proofs::Rows::views))]
+fn rewrite_direct(
+    alloc: Global,
+    temporaries: &mut Temporaries,
+    statement: &CStmt,
+) -> Result<Stmt, Memory>
+    ensures form { IfOk result (λ s. stmt s ≡ rewritten true source.stmt temporaries.old.taken (view.stmt statement.now)) }
+    ensures count { OnOk result (temporaries.new.taken ≡ temporaries.old.taken + temps source.stmt (view.stmt statement.now)) }
+{
+    match statement {
+        CStmt::Expr(e) => {
+            let value = boxed(alloc, rewrite_expr(alloc, temporaries, e)?)?;
+            let result = boxed(alloc, own_variable(alloc, RESULT)?)?;
+            Ok(Stmt::Expr(make_assign(None, result, value)))
+        }
+        _ => rewrite_stmt(alloc, temporaries, statement),
+    }
+}
+
+// The statements that stand directly in the module.
+#[tactic(auto, unfolding(crate::specs::Rewrite::rewritten))]
+fn rewrite_list(
+    alloc: Global,
+    temporaries: &mut Temporaries,
+    list: &[CStmt],
+) -> Result<Vec<Stmt>, Memory>
+    ensures form { IfOk result (λ v. of_stmts v.items ≡ rewritten true source.stmts temporaries.old.taken (view.of_stmts list.now)) }
+    ensures count { OnOk result (temporaries.new.taken ≡ temporaries.old.taken + temps source.stmts (view.of_stmts list.now)) }
+{
+    let mut done = Vec::new(alloc);
+    for statement in list {
+        done.push(rewrite_direct(alloc, temporaries, statement)?)?;
+    }
+    Ok(done)
+}
+
+/// What the function of the module does: it declares the result, its temporaries and the variables of its loops, then the imports and its
+/// functions, does the module's statements, and returns the result.
 #[tactic(auto, unfolding(crate::specs::Rewrite::rewritten))]
 pub(crate) fn module_body(alloc: Global, m: &Module) -> Result<Vec<Stmt>, Memory>
-    requires { IsGiven source.body (body_view m.now.body) }
     ensures { IfOk result (λ v.
         of_stmts v.items
-        ≡ tree.more_stmts (declares result_name)
-        (import_stmts m.now.imports.items (rewritten source.body (body_view m.now.body)))) }
+        ≡ tree.more_stmts (tree.var (tree.more_items result_name tree.no_expr (head_items (view.body m.now.body))))
+        (import_stmts m.now.imports.items (joined (rewritten true source.body 0 (view.body m.now.body)) result_stmts))) }
 {
-    let first = declaration(alloc, own_name(alloc, RESULT)?, None)?;
-    let mut statements = Vec::from_array(alloc, [first])?;
+    let mut temporaries = Temporaries::none();
+    let mut list = rewrite_list(alloc, &mut temporaries, &m.body.list)?;
+    let result = VarItem {
+        name: own_name(alloc, RESULT)?,
+        value: None,
+    };
+    let mut variables = Vec::from_array(alloc, [result])?;
+    add_temporaries(alloc, &mut variables, temporaries.taken)?;
+    add_names(alloc, &mut variables, &m.body.vars, &m.body.list)?;
+    let mut statements = Vec::from_array(alloc, [make_var(variables)])?;
     add_imports(alloc, &mut statements, &m.imports)?;
-    add_stmts(alloc, &mut statements, &m.body.list)?;
+    statements.append(&mut rewrite_functions(alloc, &m.body.funcs)?)?;
+    add_marks(alloc, &mut statements, &m.body.funcs)?;
+    statements.append(&mut list)?;
     let result = own_variable(alloc, RESULT)?;
     statements.push(make_return(Some(result), NOWHERE))?;
     Ok(statements)

@@ -1,3 +1,4 @@
+mod Imports
 mod Forms
 mod Literals
 mod Members

@@ -15,26 +15,15 @@ use Rattle.cajita_rules.specs.Faults as f
 use Rattle.cajita_rules.specs.Faults.{faults, first}
 use Rattle.scope_rules.specs.Resolve.{module_of}
 use Rattle.rows.specs.Rows as r
-use Rattle.rows.specs.Names.{of_cajita, of_math}
 use Rattle.rows.specs.Nodes.{no_rules}
-use Rattle.cajita_meaning.specs.World.{tools_name, built_name, own_name, Value, undefined, object, Pairs, World, empty_world, value_at}
+use Rattle.cajita_meaning.specs.World.{Value, undefined, Pairs, World, empty_world, value_at}
+use Rattle.cajita_meaning.specs.Doing.{or_nothing}
 use Rattle.cajita_meaning.specs.Direct.{Completion, gave, Item, Run, a_native, direct, load_run}
-
--- the names that each module has anyway
-abbrev pub fixed_values : ℕ → Pairs
-fixed_values m =
-    (codes "undefined", undefined) ∷ (codes "cajita", object (tools_name of_cajita)) ∷ (codes "Math", object (tools_name of_math))
-    ∷ (codes "Error", object (built_name (r.makes r.error))) ∷ (codes "TypeError", object (built_name (r.makes r.type_error))) ∷ (codes "RangeError", object (built_name (r.makes r.range_error)))
-    ∷ (codes "Number", object (built_name r.number_from)) ∷ (codes "String", object (built_name r.text_from)) ∷ (codes "Boolean", object (built_name r.truth_from))
-    ∷ (codes "say", object (own_name m 0)) ∷ (codes "later", object (own_name m 1)) ∷ []
-
-abbrev pub or_undefined : Option Value → Value
-or_undefined None = undefined
-or_undefined (Some v) = v
+use Rattle.cajita_meaning.specs.Imports.{fixed_imports}
 
 -- the values of what a module imports: what it is granted, and the fixed names
 abbrev pub import_values : ℕ → Pairs → List (List ℕ) → List Value
-import_values m grants xs = map (λ x. or_undefined (value_at x (grants ++ fixed_values m))) xs
+import_values m grants xs = map (λ x. or_nothing (value_at x (grants ++ fixed_imports m))) xs
 
 -- what a source comes to: how its load ended, after so many steps, and what was told; a rule that it breaks, and where; or nothing is read
 pub data Shown : Type 0 where

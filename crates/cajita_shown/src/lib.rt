@@ -4,7 +4,7 @@
 //! after what they show. There is no code. The functions here have no bodies: their contracts are the rows that tell most, a few of each kind of form.
 #![tactic(auto)]
 
-ghost use Rattle.std.specs.Prelude.{ℕ, List, ◌≡◌, [], ◌∷◌, codes, pos};
+ghost use Rattle.std.specs.Prelude.{ℕ, List, ◌≡◌, [], ◌∷◌, codes, map, pos};
 ghost use Rattle.plans.specs.Plans.{number_fault, depth_fault};
 ghost use Rattle.acts.specs.Acts.{fault};
 ghost use Rattle.cajita_tree.specs.Tree as c;
@@ -12,9 +12,17 @@ ghost use Rattle.rows.specs.Rows as r;
 ghost use Rattle.rows.specs.Rows.{to_get, to_set, to_delete, to_has, to_keys, to_call};
 ghost use Rattle.rows.specs.Names.{of_cajita};
 ghost use Rattle.cajita_meaning.specs.World.{World, Value, made_name, own_name, built_name, tools_name, undefined, number, text, object};
+ghost use Rattle.cajita_names.specs.Rules.{fixed_names};
+ghost use Rattle.cajita_meaning.specs.Imports.{fixed_imports};
 ghost use Rattle.cajita_meaning.specs.Asking.{entry_reply};
 ghost use Rattle.cajita_meaning.specs.Direct.{gave, threw, made, got, touched, passed, said};
 ghost use Rattle.cajita_shown.specs.Shown.{came, faulted, spent, breaks, shown, shown_second, shown_call};
+
+/// Without a grant a module may import the fixed names, in the order in which the rules have them, and no other name.
+#[tactic(auto, using(crate::proofs::Imports::fixed_names_are_imported))]
+pub fn a_module_imports_the_fixed_names()
+    ensures { (m : ℕ) → map (λ p. p.0) (fixed_imports m) ≡ fixed_names }
+{}
 
 /// The module `var o = {x: 1}; o.x + 2;` gives 3, in ten steps: it makes one record, and reads one key of it.
 #[tactic(auto, using(crate::proofs::Forms::record_read))]

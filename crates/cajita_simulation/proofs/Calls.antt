@@ -1,5 +1,5 @@
 -- Calls of the runtime's guards: from the call's node to the row of the guard.
-use Rattle.std.proofs.Common.{◌≡◌, ℕ, suc, ◌≤◌, true, false, List, [], length, Option, Some, None, refl, sym, ap, ◌∙◌, subst, arith}
+use Rattle.std.proofs.Common.{◌≡◌, ℕ, suc, ◌≤◌, ◌*◌, true, false, List, [], ◌∷◌, length, Option, Some, None, refl, sym, ap, ◌∙◌, subst, arith}
 use Rattle.std.specs.Prelude.{nat_lt, is_some}
 use Rattle.std.proofs.lemmas.Bool.Decides.{nat_tests}
 use Rattle.plans.specs.Plans.{enter, bind}
@@ -48,11 +48,18 @@ pub callee_match : {H : Here} {T : Temps} {d k : ℕ} (guard : List ℕ) (args :
 callee_match {H = H} {d = d} guard args {p = p} {z = z} {n = n} {s = s} {y = y} {m = m} next' r f =
     right_enter (right_enter (subst (λ q. M H d p z n (bind q (λ e s1. bind (Target.on_value_of (Target.dot_target guard) e s1) (λ e1 s2. bind (Target.on_target_of (Target.after_callee args (env_of H)) e1 s2) next'))) y (suc (suc m))) (sym (runtime_plan r)) (f (rel_pay (rel_pay r)))))
 
--- a guard is called with its arguments, where the steps are still looked at
-pub guard_match : {H : Here} {T : Temps} {d k : ℕ} {guard : List ℕ} {number : ℕ} (is : IsGuard guard number) (vs : List EsValue) {p : Source.Plan} {w : World} {z : List Item} {n : ℕ} {g : Tags} {s : Store} {y : Kept} {m : ℕ} (next' : Cont') → Rel H T k w z n g s y m → (suc m ≤ 4294967295 → M H d p z n (bind (Target.task_plan page_table (Target.native_call number (es.Obj runtime_id) vs (env_of H)) s y) next') (Target.task_state page_table (Target.native_call number (es.Obj runtime_id) vs (env_of H)) s y) (suc m)) → M H d p z n (bind (Target.do_call (Target.called (member (es.Obj runtime_id) guard)) vs (env_of H) s) next') y m
-guard_match {H = H} {d = d} {guard = guard} {number = number} is vs {p = p} {z = z} {n = n} {s = s} {y = y} {m = m} next' r f =
+-- what waits for an array that a guard is given: the guard's call
+abbrev pub with_array : List ℕ → Here → Cont' → Cont'
+with_array guard H next' e s = bind (Target.on_value_of (λ v s1. Target.arguments (Target.called (member (es.Obj runtime_id) guard)) (v ∷ []) t.no_exprs (env_of H) s1) e s) next'
+
+-- a guard is called with its arguments, where the steps are still looked at: nothing but the first objects and the steps is wanted
+pub guard_at : (H : Here) {d : ℕ} {guard : List ℕ} {number : ℕ} (is : IsGuard guard number) (vs : List EsValue) (s : Store) {p : Source.Plan} {z : List Item} {n : ℕ} {y : Kept} {m : ℕ} (next' : Cont') → IsOpened s.heap → m ≤ 64 * n → (suc m ≤ 4294967295 → M H d p z n (bind (Target.task_plan page_table (Target.native_call number (es.Obj runtime_id) vs (env_of H)) s y) next') (Target.task_state page_table (Target.native_call number (es.Obj runtime_id) vs (env_of H)) s y) (suc m)) → M H d p z n (bind (Target.do_call (Target.called (member (es.Obj runtime_id) guard)) vs (env_of H) s) next') y m
+guard_at H {d = d} {guard = guard} {number = number} is vs s {p = p} {z = z} {n = n} {y = y} {m = m} next' opened fits f =
     let cases = elim (nat_lt most_steps m) as (λ b. nat_lt most_steps m ≡ b → M H d p z n (enter (Target.native_call number (es.Obj runtime_id) vs (env_of H)) s next') y m) [
-      | true ↦ λ past. right_past (grind (arith, nat_tests)) (steps_hold r) (record { rest = printed z; is = refl })
+      | true ↦ λ past. right_past (grind (arith, nat_tests)) fits (record { rest = printed z; is = refl })
       | false ↦ λ few. right_enter (f (grind (arith, nat_tests)))
     ] in
-    subst (λ q. M H d p z n (bind q next') y m) (sym (guard_call guard number is vs (env_of H) s (opened_of r.all.objects))) (cases refl)
+    subst (λ q. M H d p z n (bind q next') y m) (sym (guard_call guard number is vs (env_of H) s opened)) (cases refl)
+
+pub guard_match : {H : Here} {T : Temps} {d k : ℕ} {guard : List ℕ} {number : ℕ} (is : IsGuard guard number) (vs : List EsValue) {p : Source.Plan} {w : World} {z : List Item} {n : ℕ} {g : Tags} {s : Store} {y : Kept} {m : ℕ} (next' : Cont') → Rel H T k w z n g s y m → (suc m ≤ 4294967295 → M H d p z n (bind (Target.task_plan page_table (Target.native_call number (es.Obj runtime_id) vs (env_of H)) s y) next') (Target.task_state page_table (Target.native_call number (es.Obj runtime_id) vs (env_of H)) s y) (suc m)) → M H d p z n (bind (Target.do_call (Target.called (member (es.Obj runtime_id) guard)) vs (env_of H) s) next') y m
+guard_match {H = H} is vs {s = s} next' r f = guard_at H is vs s next' (opened_of r.all.objects) (steps_hold r) f

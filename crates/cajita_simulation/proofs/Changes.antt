@@ -52,8 +52,9 @@ code_stays same shaped are are' p = record {
 
 -- the objects are the same ones
 pub closures_shaped : (objects : ℕ → List Object) {g g' : Tags} {s s' : Store} → s'.heap ≡ s.heap → Shaped g s g' s' → AreScopes s → AreScopes s' → ClosuresAre objects g s → ClosuresAre objects g' s'
-closures_shaped objects same shaped are are' r = λ m n i f chain below known named.
-    code_stays (ap (λ h. heap.object_at h i) same) shaped are are' (r m n i f chain below known (sym (ap (λ h. heap.tag_of (heap.object_at h i)) same) ∙ named))
+closures_shaped objects same shaped are are' r = λ m n f chain known.
+    let p = r m n f chain known in
+    (p.0, λ i named. code_stays (ap (λ h. heap.object_at h i) same) shaped are are' (p.1 i (sym (ap (λ h. heap.tag_of (heap.object_at h i)) same) ∙ named)))
 
 closure_class : {objects : List Object} {h : Objects} {n : ℕ} {f : c.Tree c.func} {chain : List ℕ} {o : heap.Object} → slice_get objects n ≡ Some (a_closure f chain) → rows.IsMade objects h n o → o.class ≡ class.Function
 closure_class {h = h} {f = f} {chain = chain} {o = o} known p =
@@ -63,16 +64,22 @@ closure_class {h = h} {f = f} {chain = chain} {o = o} known p =
     same : (a b : Object) → (let q : Option Object = Some a in q) ≡ Some b → a ≡ b
     same a b e = cc
 
--- closures, where the objects changed
+-- closures, where the objects changed and the world has the same ones
+pub closures_kept : {objects : ℕ → List Object} {h' : Objects} {g : Tags} {s : Store} {m0 : ℕ} → rows.Keeps s.heap h' → AreScopes s → ObjectsAre first place_of objects s.heap m0 → ClosuresAre objects g s → ClosuresAre objects g (with_heap s h')
+closures_kept {objects = world} {h' = h'} {g = g} {s = s} keeps are objects r = λ m n f chain known.
+    let p = r m n f chain known in (
+      p.0,
+      λ i named.
+          let less = slice_get_within (world m) n (a_closure f chain) known in
+          let counted : count_at (slice_get s.heap.counts m) ≡ length (world m) = ap count_at (objects.count m p.0) in
+          let was : Named s.heap (made_name m n) i = keeps.older m n i named (omega (arith, less, counted)) in
+          let stands = objects.each (made_name m n) i was in
+          let class : heap.class_of (heap.object_at s.heap i) ≡ class.Function = ap heap.class_of stands.there ∙ closure_class known stands.is in
+          code_stays (keeps.functions i (named_within s.heap (made_name m n) i was) class) (shaped_heap g s h') are are (p.1 i was),
+    )
+
 closures_changed : {w w' : World} {h' : Objects} {g : Tags} {s : Store} {m m' : ℕ} → Changes w s w' h' m' → AreScopes s → ObjectsAre first place_of w.objects s.heap m → ClosuresAre w.objects g s → ClosuresAre w'.objects g (with_heap s h')
-closures_changed {w = w} {h' = h'} {g = g} {s = s} x are objects r = λ m n i f chain below known named.
-    let old = x.older m n f chain known in
-    let less = slice_get_within (w.objects m) n (a_closure f chain) old in
-    let counted : count_at (slice_get s.heap.counts m) ≡ length (w.objects m) = ap count_at (objects.count m below) in
-    let was : Named s.heap (made_name m n) i = x.keeps.older m n i named (omega (arith, less, counted)) in
-    let stands = objects.each (made_name m n) i was in
-    let class : heap.class_of (heap.object_at s.heap i) ≡ class.Function = ap heap.class_of stands.there ∙ closure_class old stands.is in
-    code_stays (x.keeps.functions i (named_within s.heap (made_name m n) i was) class) (shaped_heap g s h') are are (r m n i f chain below old was)
+closures_changed x are objects r = λ m n f chain known. closures_kept x.keeps are objects r m n f chain (x.older m n f chain known)
 
 -- values of variables and of hidden names
 
@@ -81,7 +88,7 @@ slot_keep s h' c x unknown k p = tt
 slot_keep s h' c x declared k p = p
 slot_keep s h' c x (holds v) k p = (p.0, p.1, row_relation.val_keep k v p.0 p.2)
 
-scopes_keep : {T : Temps} {g : Tags} {scopes : ℕ → List Pairs} {s : Store} {h' : Objects} → rows.Keeps s.heap h' → ScopesAre T g scopes s → ScopesAre T g scopes (with_heap s h')
+pub scopes_keep : {T : Temps} {g : Tags} {scopes : ℕ → List Pairs} {s : Store} {h' : Objects} → rows.Keeps s.heap h' → ScopesAre T g scopes s → ScopesAre T g scopes (with_heap s h')
 scopes_keep {T = T} {s = s} {h' = h'} k r = record {
   same = λ c m n tag x guest. optval_keep {i = 0} {j = 0} (record { objects = k; more = omega arith }) _ _ (r.same c m n tag x guest);
   once = r.once;

@@ -64,7 +64,7 @@ shaped_scope g t owner names s = record {
   tags = λ c u e. slice_get-push-other g c t (slice_get_within g c u e) ∙ e;
 }
 
-scopes_are : (owner : store.Owner) (names : store.Names) (s : Store) → OwnNames owner → AreScopes s → AreScopes (store.with_scope owner names s)
+pub scopes_are : (owner : store.Owner) (names : store.Names) (s : Store) → OwnNames owner → AreScopes s → AreScopes (store.with_scope owner names s)
 scopes_are owner names s own are c =
     by_number c (length s.scopes) (IsScope (slice_get (store.with_scope owner names s).scopes c))
     (λ same. subst IsScope (sym (ap (slice_get (store.with_scope owner names s).scopes) same ∙ slice_get-push s.scopes (record { owner = owner; names = names }))) own)
@@ -182,7 +182,7 @@ related_scope {w = w} {g = g} {s = s} {owner = owner} {names = names} m new r = 
 few_first : (q p : ℕ) → q < first_count → (let x : Option ℕ = Some q in x) ≡ Some p → p < length first.list
 few_first q p lt e = let f = up_few q p lt e in let many = first_many in omega (arith, f, many)
 
-function_is_new : (code params maker prototype : ℕ) → IsNew first (function_object code params maker prototype)
+pub function_is_new : (code params maker prototype : ℕ) → IsNew first (function_object code params maker prototype)
 function_is_new code params maker prototype = record {
   bare = refl;
   above = λ p e. few_first 1 p (omega arith) e;
@@ -190,7 +190,7 @@ function_is_new code params maker prototype = record {
   sets = λ k. rw (apart_too (codes "length") (set_mark k) refl (hidden_set k), apart_too (codes "prototype") (set_mark k) refl (hidden_set k)) refl;
 }
 
-prototype_is_new : (function : ℕ) → IsNew first (prototype_object function)
+pub prototype_is_new : (function : ℕ) → IsNew first (prototype_object function)
 prototype_is_new function = record {
   bare = refl;
   above = λ p e. few_first 0 p (omega arith) e;
@@ -203,7 +203,7 @@ prototype_is_new function = record {
 unmade : (m n : ℕ) → tag.None ≡ tag.Made m n → ⊥
 unmade m n e = cc
 
-two_keep : (h : Objects) (a b : heap.Object) → IsNew first a → IsNew first b → row_relation.Keeps h (with_object (with_object h a) b)
+pub two_keep : (h : Objects) (a b : heap.Object) → IsNew first a → IsNew first b → row_relation.Keeps h (with_object (with_object h a) b)
 two_keep h a b new new' =
     let one : Keeps h 0 (with_object h a) 0 = record { objects = added_keeps h a (λ m n e. unmade m n (sym new.bare ∙ e)); more = omega arith } in
     let two : Keeps (with_object h a) 0 (with_object (with_object h a) b) 0 = record { objects = added_keeps (with_object h a) b (λ m n e. unmade m n (sym new'.bare ∙ e)); more = omega arith } in
@@ -226,11 +226,11 @@ function_changes {w = w} {s = s} {m = m} code params maker r =
       closed = closed_refl;
     })
 
-shaped_code : (g : Tags) (code : Code) (s : Store) → Shaped g s g (record s { codes = s.codes ++ code ∷ [] })
+pub shaped_code : (g : Tags) (code : Code) (s : Store) → Shaped g s g (record s { codes = s.codes ++ code ∷ [] })
 shaped_code g code s = record { count = omega arith; shape = λ c x lt. refl; fixed = λ c lt. refl; codes = λ k q e. slice_get-push-other s.codes k code (slice_get_within s.codes k q e) ∙ e; tags = λ c t e. e }
 
 -- a code more
-related_code : {T : Temps} {k : ℕ} {w : World} {z : List Item} {n : ℕ} {g : Tags} {s : Store} {y : Kept} {m : ℕ} (code : Code) → Related T k w z n g s y m → Related T k w z n g (record s { codes = s.codes ++ code ∷ [] }) y m
+pub related_code : {T : Temps} {k : ℕ} {w : World} {z : List Item} {n : ℕ} {g : Tags} {s : Store} {y : Kept} {m : ℕ} (code : Code) → Related T k w z n g s y m → Related T k w z n g (record s { codes = s.codes ++ code ∷ [] }) y m
 related_code {w = w} {g = g} {s = s} code r = record {
   steps = r.steps;
   items = r.items;

@@ -25,7 +25,7 @@ use Rattle.cajita_meaning.specs.Direct.{Item, made, printed}
 use Rattle.heap_rows.specs.Marks.{read_mark, set_mark}
 use Rattle.heap_rows.specs.Doing.{Page}
 use Rattle.heap_rows.specs.Opening.{first, place_of, runtime_id}
-use Rattle.module_loader.specs.Page.{Kept}
+use Rattle.module_loader.specs.Page.{Kept, page_table}
 use Rattle.row_simulation.specs.Correspond as rows
 use Rattle.row_simulation.specs.Correspond.{PropsAre, Is}
 use Rattle.row_simulation.specs.RowLaw.{PagesAre}
@@ -44,7 +44,7 @@ use Rattle.cajita_simulation.proofs.Heaps.Made.{with_named}
 use Rattle.cajita_simulation.proofs.Heaps.Pairs.{pairs_defined, in_turn, NoKey, find-pairs_defined-other}
 use Rattle.cajita_simulation.proofs.Heaps.Records.{record_object, makes_record}
 use Rattle.cajita_simulation.proofs.Heaps.Opened.{opened_kept}
-use Rattle.cajita_simulation.proofs.Heaps.Guards.{guard_call, initialize_map-guard}
+use Rattle.cajita_simulation.proofs.Heaps.Guards.{IsGuard, guard_call, initialize_map-guard}
 use Rattle.cajita_simulation.proofs.Relation.{EsValue, Val, Named, ObjectsAre, Here, env_of, Tags, Temps, Rel, closed_refl, Stays, stays_trans}
 use Rattle.cajita_simulation.proofs.Changes.{Changes, stays_changed, rel_changed, rel_told}
 use Rattle.cajita_simulation.proofs.Calls.{opened_of, guard_match}
@@ -148,7 +148,7 @@ record_changes by below ks vs qs {w = w} {s = s} {m = m} page small p o pages =
     let k = named_keeps s.heap (record_object qs) by (omega (arith, number, f, small)) in
     let pages' = pages_still k pages in
     record {
-      objects = objects_made by w.objects below o (a_record false ps) (record_object qs) small (record_new s.heap ks vs qs p) (record { class = refl; proto = refl; props = props_all _ ks vs qs [] [] (fields_keep k ks vs qs p) (empty_props _) });
+      objects = objects_made by w.objects below o (a_record false ps) (record_object qs) small (record_new s.heap ks vs qs p) (record { class = refl; no_call = refl; proto = refl; props = props_all _ ks vs qs [] [] (fields_keep k ks vs qs p) (empty_props _) });
       page = page;
       pages = record { cells = pages'.cells; queues = pages'.queues };
       keeps = k;
@@ -160,28 +160,32 @@ record_changes by below ks vs qs {w = w} {s = s} {m = m} page small p o pages =
 record_named : (by : ℕ) → by < 64 → (w : State) {h : Objects} {m : ℕ} (x : heap.Object) → ObjectsAre first place_of w.objects h m → Named (with_named h x by) (next_name by w) (length h.list)
 record_named by below w {h = h} x o = ap heap.tag_of (slice_get-push h.list _) ∙ ap (tag.Made by) (ap count_at (o.count by below))
 
+-- a guard that is given a new array, behind these values, where the steps are still looked at
+pub new_array_match : {H : Here} {T : Temps} {d k : ℕ} {guard : List ℕ} {number : ℕ} (is : IsGuard guard number) (front us : List EsValue) {p : Source.Plan} {w : State} {z : List Item} {n : ℕ} {g : Tags} {s : Store} {y : Kept} {m : ℕ} (next' : Cont') → length us ≤ m → Rel H T k w z n g s y m
+    → (suc m ≤ 4294967295 → Rel H T k w z n g (with_heap s (heap.with_object s.heap (array_object us))) y m → Stays w g s m w g (with_heap s (heap.with_object s.heap (array_object us))) m → M H d p z n (bind (Target.task_plan page_table (Target.native_call number (es.Obj runtime_id) (front ++ es.Obj (length s.heap.list) ∷ []) (env_of H)) (with_heap s (heap.with_object s.heap (array_object us))) y) next') (Target.task_state page_table (Target.native_call number (es.Obj runtime_id) (front ++ es.Obj (length s.heap.list) ∷ []) (env_of H)) (with_heap s (heap.with_object s.heap (array_object us))) y) (suc m))
+    → M H d p z n (bind (Target.do_call (Target.called (member (es.Obj runtime_id) guard)) (front ++ es.Obj (length s.heap.list) ∷ []) (env_of H) (with_heap s (heap.with_object s.heap (array_object us)))) next') y m
+new_array_match {H = H} {T = T} {d = d} {k = k} {guard = guard} is front us {p = p} {w = w} {z = z} {n = n} {g = g} {s = s} {y = y} {m = m} next' many r f =
+    let h1 = heap.with_object s.heap (array_object us) in
+    let cases = elim (nat_lt most_steps m) as (λ b. nat_lt most_steps m ≡ b → M H d p z n (bind (Target.do_call (Target.called (member (es.Obj runtime_id) guard)) (front ++ es.Obj (length s.heap.list) ∷ []) (env_of H) (with_heap s h1)) next') y m) [
+      | true ↦ λ past. subst (λ q. M H d p z n (bind q next') y m) (sym (guard_call guard _ is (front ++ es.Obj (length s.heap.list) ∷ []) (env_of H) (with_heap s h1) (opened_kept s.heap (array_object us) (opened_of r.all.objects)))) (right_past (grind (arith, nat_tests)) (steps_hold r) (record { rest = printed z; is = refl }))
+      | false ↦ λ few. within (grind (arith, nat_tests))
+    ] in cases refl
+  where
+    within : m ≤ 4294967294 → M H d p z n (bind (Target.do_call (Target.called (member (es.Obj runtime_id) guard)) (front ++ es.Obj (length s.heap.list) ∷ []) (env_of H) (with_heap s (heap.with_object s.heap (array_object us)))) next') y m
+    within few =
+        let x1 : Changes w s w (heap.with_object s.heap (array_object us)) m = array_changes us r.all.page (omega (arith, many, few)) r.all.objects r.all.pages in
+        let r1 : Rel H T k w z n g (with_heap s (heap.with_object s.heap (array_object us))) y m = rel_changed x1 (omega arith) r.all.steps r in
+        guard_match is (front ++ es.Obj (length s.heap.list) ∷ []) next' r1 (λ small. f small r1 (stays_changed g x1 (omega arith)))
+
 -- from the array on: the guard is called, and makes the record
 pub record_match : {H : Here} {T : Temps} {d k : ℕ} → H.by < 64 → (ks : List (List ℕ)) (vs : List Value) (qs : List (List ℕ × EsValue)) {w : State} {z : List Item} {n : ℕ} {g : Tags} {s : Store} {y : Kept} {m : ℕ} (next : Cont) (next' : Cont') → FieldsAre s.heap ks vs qs → length (in_turn qs) ≤ m → Rel H T (suc k) w z n g s y m → Gives H T d k w g s m next next'
     → M H d (bind (Source.act_plan H 1 (Source.kept vs) (Direct.asked (a_record_of ks) (0 ∷ []) Direct.give) w) next) z n (bind (Target.do_call (Target.called (member (es.Obj runtime_id) (codes "initializeMap"))) (es.Obj (length s.heap.list) ∷ []) (env_of H) (with_heap s (heap.with_object s.heap (array_object (in_turn qs))))) next') y m
 record_match {H = H} {T = T} {d = d} {k = k} below ks vs qs {w = w} {z = z} {n = n} {g = g} {s = s} {y = y} {m = m} next next' p many r x =
-    let h1 = heap.with_object s.heap (array_object (in_turn qs)) in
-    let p0 = Source.act_plan H 1 (Source.kept vs) (Direct.asked (a_record_of ks) (0 ∷ []) Direct.give) w in
-    let cases = elim (nat_lt most_steps m) as (λ b. nat_lt most_steps m ≡ b → M H d (bind p0 next) z n (bind (Target.do_call (Target.called (member (es.Obj runtime_id) (codes "initializeMap"))) (es.Obj (length s.heap.list) ∷ []) (env_of H) (with_heap s h1)) next') y m) [
-      | true ↦ λ past. subst (λ q. M H d (bind p0 next) z n (bind q next') y m) (sym (guard_call (codes "initializeMap") _ initialize_map-guard (es.Obj (length s.heap.list) ∷ []) (env_of H) (with_heap s h1) (opened_kept s.heap (array_object (in_turn qs)) (opened_of r.all.objects)))) (right_past (grind (arith, nat_tests)) (steps_hold r) (record { rest = printed z; is = refl }))
-      | false ↦ λ few. within (grind (arith, nat_tests))
-    ] in cases refl
+    new_array_match initialize_map-guard [] (in_turn qs) next' many r (λ small r1 k1.
+    subst (λ q. M H d (bind (Source.act_plan H 1 (Source.kept vs) (Direct.asked (a_record_of ks) (0 ∷ []) Direct.give) w) next) z n (bind q next') y (suc m)) (sym (makes_record (es.Obj runtime_id) qs s.heap (env_of H) s y (omega (arith, many, small))))
+    (made_match (heap.with_object s.heap (array_object (in_turn qs))) small (fields_keep k1.heap.objects ks vs qs p) k1 r1))
   where
     made_match : (h1 : Objects) → suc m ≤ 4294967295 → FieldsAre h1 ks vs qs → Stays w g s m w g (with_heap s h1) m → Rel H T (suc k) w z n g (with_heap s h1) y m → M H d (bind (Source.act_plan H 1 (Source.kept vs) (Direct.asked (a_record_of ks) (0 ∷ []) Direct.give) w) next) z n (next' (Target.gave (es.Obj (length h1.list))) (with_heap s (with_named h1 (record_object qs) H.by))) y (suc m)
     made_match h1 small p1 k1 r1 =
         let x2 = record_changes H.by below ks vs qs r1.all.page small p1 r1.all.objects r1.all.pages in
         left_told (x.on d (omega arith) (World.object (next_name H.by w)) (es.Obj (length h1.list)) _ _ _ _ _ _ _ (record_named H.by below w (record_object qs) r1.all.objects) (rel_told (made H.by (next_name H.by w) ∷ []) refl (rel_changed x2 (omega arith) (omega (arith, r1.all.steps)) r1)) (stays_trans k1 (stays_changed g x2 (omega arith))))
-
-    within : m ≤ 4294967294 → M H d (bind (Source.act_plan H 1 (Source.kept vs) (Direct.asked (a_record_of ks) (0 ∷ []) Direct.give) w) next) z n (bind (Target.do_call (Target.called (member (es.Obj runtime_id) (codes "initializeMap"))) (es.Obj (length s.heap.list) ∷ []) (env_of H) (with_heap s (heap.with_object s.heap (array_object (in_turn qs))))) next') y m
-    within few =
-        let h1 = heap.with_object s.heap (array_object (in_turn qs)) in
-        let short : length (in_turn qs) < 4294967296 = omega (arith, many, few) in
-        let x1 : Changes w s w h1 m = array_changes (in_turn qs) r.all.page short r.all.objects r.all.pages in
-        let r1 : Rel H T (suc k) w z n g (with_heap s h1) y m = rel_changed x1 (omega arith) r.all.steps r in
-        guard_match initialize_map-guard (es.Obj (length s.heap.list) ∷ []) next' r1 (λ small.
-        subst (λ q. M H d (bind (Source.act_plan H 1 (Source.kept vs) (Direct.asked (a_record_of ks) (0 ∷ []) Direct.give) w) next) z n (bind q next') y (suc m)) (sym (makes_record (es.Obj runtime_id) qs s.heap (env_of H) s y short))
-        (made_match h1 small (fields_keep x1.keeps ks vs qs p) (stays_changed g x1 (omega arith)) r1))

@@ -187,7 +187,7 @@ ComesPlainly e = Unit {0}
 
 -- no conversion of the direct meaning is one that runs code
 
-abbrev Converts : {A : Type 0} → Result A Fault → Type 0
+abbrev pub Converts : {A : Type 0} → Result A Fault → Type 0
 Converts (Ok x) = Unit {0}
 Converts (Err f) = GuestFault f
 
@@ -207,7 +207,7 @@ converts_tail : (t : Value → Result (List ℕ) Fault) → ((v : Value) → Con
 converts_tail t f sep [] = tt
 converts_tail t f sep (v ∷ vs) = converts_then (direct.item_text t v) _ (converts_item t f v) (λ us. converts_then (direct.tail_text t sep vs) _ (converts_tail t f sep vs) (λ ws. tt))
 
-converts_joined : (t : Value → Result (List ℕ) Fault) → ((v : Value) → Converts (t v)) → (sep : List ℕ) (vs : List Value) → Converts (direct.joined t sep vs)
+pub converts_joined : (t : Value → Result (List ℕ) Fault) → ((v : Value) → Converts (t v)) → (sep : List ℕ) (vs : List Value) → Converts (direct.joined t sep vs)
 converts_joined t f sep [] = tt
 converts_joined t f sep (v ∷ vs) = converts_then (direct.item_text t v) _ (converts_item t f v) (λ us. converts_then (direct.tail_text t sep vs) _ (converts_tail t f sep vs) (λ ws. tt))
 
@@ -235,7 +235,7 @@ converts_found : (o : Option ℤ) → Converts (direct.found_number o)
 converts_found None = tt
 converts_found (Some n) = tt
 
-converts_number : (w : World) (v : Value) → Converts (direct.number_of w v)
+pub converts_number : (w : World) (v : Value) → Converts (direct.number_of w v)
 converts_number w undefined = tt
 converts_number w null = tt
 converts_number w (truth b) = tt
@@ -243,7 +243,7 @@ converts_number w (number n) = tt
 converts_number w (text us) = converts_then (direct.text_of w (text us)) _ (converts_text 32 w (text us)) (λ us. converts_found _)
 converts_number w (object o) = converts_then (direct.text_of w (object o)) _ (converts_text 32 w (object o)) (λ us. converts_found _)
 
-converts_if : (a : Result (List ℕ) Fault) → Converts a → (s : Sight) → Converts (direct.joined_if a s)
+pub converts_if : (a : Result (List ℕ) Fault) → Converts a → (s : Sight) → Converts (direct.joined_if a s)
 converts_if a p (r.an_array frozen xs) = p
 converts_if a p s = tt
 
@@ -282,22 +282,45 @@ plain_row by (r.as_same x y go) p s w z = plain_row by (go _) (p _) s w z
 plain_row by (r.looks x go) p s w z = plain_row by (go _) (p _) _ w z
 plain_row by (r.touches t x k next) p s w z = plain_row by next p s w _
 
--- both go on alike after a value of the row, and after a throw
+-- both go on alike after a value of the row, of which this holds, and after a throw
+pub record RowNextOf (P : Value → Type 0) (H : Here) (T : Temps) (d k : ℕ) (w : World) (n : ℕ) (g : Tags) (s : Store) (y : Kept) (m : ℕ) (go : Going) (next : Cont) (next' : Cont') : Type 0 where
+  pub gives : (v : Value) (e : EsValue) (w' : World) (z' : List Item) (s' : Store) → P v → Val s'.heap v e → Rel H T k w' z' n g s' y (suc m) → Stays w g s m w' g s' (suc m) → M H d (bind (go good (v ∷ []) w') next) z' n (next' (Target.gave e) s') y (suc m)
+  pub throws : (v : Value) (e : EsValue) (w' : World) (z' : List Item) (s' : Store) → Val s'.heap v e → Rel H T k w' z' n g s' y (suc m) → Stays w g s m w' g s' (suc m) → M H d (bind (go bad (v ∷ []) w') next) z' n (next' (Target.threw e) s') y (suc m)
+
+-- the same after any value
 pub record RowNext (H : Here) (T : Temps) (d k : ℕ) (w : World) (n : ℕ) (g : Tags) (s : Store) (y : Kept) (m : ℕ) (go : Going) (next : Cont) (next' : Cont') : Type 0 where
   pub gives : (v : Value) (e : EsValue) (w' : World) (z' : List Item) (s' : Store) → Val s'.heap v e → Rel H T k w' z' n g s' y (suc m) → Stays w g s m w' g s' (suc m) → M H d (bind (go good (v ∷ []) w') next) z' n (next' (Target.gave e) s') y (suc m)
   pub throws : (v : Value) (e : EsValue) (w' : World) (z' : List Item) (s' : Store) → Val s'.heap v e → Rel H T k w' z' n g s' y (suc m) → Stays w g s m w' g s' (suc m) → M H d (bind (go bad (v ∷ []) w') next) z' n (next' (Target.threw e) s') y (suc m)
 
-reply_goes : {H : Here} {T : Temps} {d k : ℕ} {w : World} {n : ℕ} {g : Tags} {s : Store} {y : Kept} {m : ℕ} {go : Going} {next : Cont} {next' : Cont'} (e : direct.Outcome) → ComesPlainly e → RowNext H T d k w n g s y m go next next' → (b : Reply) (w' : World) (z' : List Item) (s' : Store) → ReplyIs s'.heap e b → Rel H T k w' z' n g s' y (suc m) → Stays w g s m w' g s' (suc m) → M H d (bind (replied (outcome_reply H.around.calls H.by e w') go) next) z' n (bind (Target.reply_plan b (env_of H) s') next') y (suc m)
-reply_goes (direct.gives v) p f (value_reply e) w' z' s' is r k = f.gives v e w' z' s' is r k
-reply_goes (direct.throws v) p f (throw_reply e) w' z' s' is r k = f.throws v e w' z' s' is r k
-reply_goes (direct.stops v) p f (stop_reply e) w' z' s' is r k = both_stop (steps_hold r) (is, p, r.all.items)
-reply_goes (direct.lists ks) p f b w' z' s' is r k = absurd p
-reply_goes (direct.calls recorded q t vs) p f b w' z' s' is r k = absurd p
-reply_goes _ p f _ w' z' s' is r k = absurd is
+-- what is known of the value that a row came to
+abbrev pub GivesOnly : (Value → Type 0) → direct.Outcome → Type 0
+GivesOnly P (direct.gives v) = P v
+GivesOnly P e = Unit {0}
+
+reply_goes : {P : Value → Type 0} {H : Here} {T : Temps} {d k : ℕ} {w : World} {n : ℕ} {g : Tags} {s : Store} {y : Kept} {m : ℕ} {go : Going} {next : Cont} {next' : Cont'} (e : direct.Outcome) → ComesPlainly e → GivesOnly P e → RowNextOf P H T d k w n g s y m go next next' → (b : Reply) (w' : World) (z' : List Item) (s' : Store) → ReplyIs s'.heap e b → Rel H T k w' z' n g s' y (suc m) → Stays w g s m w' g s' (suc m) → M H d (bind (replied (outcome_reply H.around.calls H.by e w') go) next) z' n (bind (Target.reply_plan b (env_of H) s') next') y (suc m)
+reply_goes (direct.gives v) p known f (value_reply e) w' z' s' is r k = f.gives v e w' z' s' known is r k
+reply_goes (direct.throws v) p known f (throw_reply e) w' z' s' is r k = f.throws v e w' z' s' is r k
+reply_goes (direct.stops v) p known f (stop_reply e) w' z' s' is r k = both_stop (steps_hold r) (is, p, r.all.items)
+reply_goes (direct.lists ks) p known f b w' z' s' is r k = absurd p
+reply_goes (direct.calls recorded q t vs) p known f b w' z' s' is r k = absurd p
+reply_goes _ p known f _ w' z' s' is r k = absurd is
 
 -- a plain row that is asked, and the guard with the same row
+pub row_match_of : {H : Here} {T : Temps} {d k : ℕ} → H.by < 64 → (P : Value → Type 0) (q : Row) → IsAmongObjects q → IsPlain q → (vs : List Value) (es : List EsValue) {w : World} {z : List Item} {n : ℕ} {g : Tags} {s : Store} {y : Kept} {m : ℕ} (page : es3.Page) (go : Going) (next : Cont) (next' : Cont') → GivesOnly P (direct.does H.by q (direct.given vs) w []).outcome → suc m ≤ 4294967295 → Vals s.heap vs es → Rel H T (suc k) w z n g s y m
+    → RowNextOf P H T d k w n g s y m go next next'
+    → M H d (bind (replied (done_reply H.around.calls H.by (direct.does H.by q (direct.given vs) w [])) go) next) z n (bind (Target.reply_plan (es3.does place_of H.by q es s.heap page []).done.reply (env_of H) (with_heap s (es3.does place_of H.by q es s.heap page []).done.heap)) next') y (suc m)
+row_match_of {H = H} below P q among plain vs es {w = w} page go next next' known few is r f =
+    row_on below q among (plain_settling q plain) vs es page go next next' few is r (record { on = λ b w' z' s' p r1 k1. reply_goes {P = P} (direct.does H.by q (direct.given vs) w []).outcome (plain_row H.by q plain (direct.given vs) w []) known f b w' z' s' p r1 k1 })
+
+abbrev pub Anything : Value → Type 0
+Anything v = Unit {0}
+
+pub gives_anything : (e : direct.Outcome) → GivesOnly Anything e
+gives_anything (direct.gives v) = tt
+gives_anything e = tt
+
 pub row_match : {H : Here} {T : Temps} {d k : ℕ} → H.by < 64 → (q : Row) → IsAmongObjects q → IsPlain q → (vs : List Value) (es : List EsValue) {w : World} {z : List Item} {n : ℕ} {g : Tags} {s : Store} {y : Kept} {m : ℕ} (page : es3.Page) (go : Going) (next : Cont) (next' : Cont') → suc m ≤ 4294967295 → Vals s.heap vs es → Rel H T (suc k) w z n g s y m
     → RowNext H T d k w n g s y m go next next'
     → M H d (bind (replied (done_reply H.around.calls H.by (direct.does H.by q (direct.given vs) w [])) go) next) z n (bind (Target.reply_plan (es3.does place_of H.by q es s.heap page []).done.reply (env_of H) (with_heap s (es3.does place_of H.by q es s.heap page []).done.heap)) next') y (suc m)
 row_match {H = H} below q among plain vs es {w = w} page go next next' few is r f =
-    row_on below q among (plain_settling q plain) vs es page go next next' few is r (record { on = λ b w' z' s' p r1 k1. reply_goes (direct.does H.by q (direct.given vs) w []).outcome (plain_row H.by q plain (direct.given vs) w []) f b w' z' s' p r1 k1 })
+    row_match_of below Anything q among plain vs es page go next next' (gives_anything (direct.does H.by q (direct.given vs) w []).outcome) few is r (record { gives = λ v e w' z' s' known p r1 k1. f.gives v e w' z' s' p r1 k1; throws = f.throws })

@@ -1,5 +1,6 @@
 -- The rewriting is simulated: what `specs/Loads` says of a load at any related state, and what `specs/Correct` says of a module by itself.
-use Rattle.std.proofs.Common.{◌≡◌, ℕ, ◌+◌, ◌*◌, ◌≤◌, ◌<◌, List, Some, subst, arith}
+use Rattle.std.proofs.Common.{◌≡◌, ℕ, zero, suc, ◌+◌, ◌*◌, ◌≤◌, ◌<◌, List, [], ◌∷◌, length, Some, refl, sym, ap, ◌∙◌, subst, arith}
+use Rattle.std.specs.Prelude.{map}
 use Rattle.plans.specs.Plans.{ends, enter, run, over, stopped, out}
 use Rattle.matching.specs.Sentences.{IsFinished, Together, Simulated}
 use Rattle.matching.proofs.Turn.{turn_simulated}
@@ -10,25 +11,60 @@ use Rattle.es3_language.specs.Store.{Store}
 use Rattle.rows.specs.Nodes.{Rules, no_rules}
 use Rattle.cajita_tree.specs.Tree as c
 use Rattle.cajita_rewrite.specs.Rewrite.{program_of}
-use Rattle.cajita_meaning.specs.World.{World}
+use Rattle.cajita_meaning.specs.World.{Value, World}
+use Rattle.cajita_meaning.specs.Imports.{imported}
+use Rattle.es3_heap.specs.Objects.{Objects, props_of}
+use Rattle.es3_heap.specs.Properties.{find, own, value_of}
+use Rattle.heap_rows.specs.Opening.{imports_id}
+use Rattle.row_simulation.proofs.Relation.{vals_keep}
 use Rattle.cajita_meaning.specs.Direct as Source
 use Rattle.cajita_meaning.specs.Direct.{Item, printed, direct}
-use Rattle.module_loader.specs.Page.{Kept, page_table, module_run}
+use Rattle.module_loader.specs.Page.{Kept, page_table, first_store, module_run}
 use Rattle.cajita_simulation.specs.Guest.{GuestModule, a_guest}
 use Rattle.cajita_simulation.specs.Alike.{shown, GuestFault, most_steps}
 use Rattle.cajita_simulation.specs.Sides.{Ends}
-use Rattle.cajita_simulation.specs.Loads.{EndTurn, Loads}
-use Rattle.cajita_simulation.specs.Correct.{direct_run, SameEnd, EndAlike, ConvertsNothing, Correct}
+use Rattle.cajita_simulation.specs.Loads.{EndTurn, ImportsAre, Loads}
+use Rattle.cajita_simulation.specs.Correct.{imports_of, direct_run, MayImport, SameEnd, EndAlike, ConvertsNothing, Correct}
 use Rattle.cajita_simulation.proofs.Doing.{load_of}
-use Rattle.cajita_simulation.proofs.Relation.{Tags, Between}
+use Rattle.cajita_simulation.proofs.Relation.{EsValue, Vals, Tags, Between}
 use Rattle.cajita_simulation.proofs.Laws.{sides}
-use Rattle.cajita_simulation.proofs.Simulation.{effects}
-use Rattle.cajita_simulation.proofs.Load.Whole.{whole}
-use Rattle.cajita_simulation.proofs.Load.Begins.{begins}
+use Rattle.cajita_simulation.proofs.Simulation.{owns}
+use Rattle.cajita_simulation.proofs.Load.Names.{Module}
+use Rattle.cajita_simulation.proofs.Load.Entering.{made_store, function_before, function_keeps}
+use Rattle.cajita_simulation.proofs.Load.Whole.{IsGuest, whole, imports_read}
+use Rattle.cajita_simulation.proofs.Calls.{opened_of}
+use Rattle.cajita_simulation.proofs.Load.Begins.{begins_one, imports_begin}
+
+-- imports have the same values where the module's function is there
+
+import_there : (q : Module) (by : ℕ) (s : Store) (k : List ℕ) → imports_id < length s.heap.list → own (made_store by q s).heap imports_id k ≡ own s.heap imports_id k
+import_there q by s k lt = ap (λ o. find k (props_of o)) (function_before by q s imports_id lt)
+
+values_there : (q : Module) (by : ℕ) (s : Store) (names : List (List ℕ)) → imports_id < length s.heap.list → map (λ k. value_of (own (made_store by q s).heap imports_id k)) names ≡ map (λ k. value_of (own s.heap imports_id k)) names
+values_there q by s [] lt = refl
+values_there q by s (k ∷ names) lt =
+    ap (λ o. value_of o ∷ map (λ k. value_of (own (made_store by q s).heap imports_id k)) names) (import_there q by s k lt)
+    ∙ ap (λ l. value_of (own s.heap imports_id k) ∷ l) (values_there q by s names lt)
+
+values_long : (h : Objects) (vs : List Value) (us : List EsValue) → Vals h vs us → length vs ≡ length us
+values_long h [] [] p = refl
+values_long h (v ∷ vs) (u ∷ us) p = ap suc (values_long h vs us p.1)
+values_long h _ _ p = absurd p
+
+map_long : (f : List ℕ → EsValue) (names : List (List ℕ)) → length (map f names) ≡ length names
+map_long f [] = refl
+map_long f (x ∷ names) = ap suc (map_long f names)
 
 -- the load of a module, and its program, wherever both sides are related
-pub load_simulated : (rules : Rules) (by : ℕ) → by < 64 → (m : c.Tree c.program) → GuestModule m → {w : World} {z : List Item} {n : ℕ} {g : Tags} {s : Store} {y : Kept} {i : ℕ} → Between w z n g s y i → Simulated (sides rules) n i (λ j. run (direct rules) j (enter (load_of m by) w ends) z) (λ k. run (es3 page_table) k (Target.program_plan (program_of m) by s) y)
-load_simulated rules by few _ (a_guest vars list same guest) {n = n} {i = i} r = turn_simulated (sides rules) n i _ _ _ _ (λ d. whole rules by few vars list same guest effects d r)
+pub load_simulated : (rules : Rules) (by : ℕ) → by < 64 → (m : c.Tree c.program) → GuestModule m → {vs : List Value} {w : World} {z : List Item} {n : ℕ} {g : Tags} {s : Store} {y : Kept} {i : ℕ} → ImportsAre s.heap (imports_of m) vs → Between w z n g s y i → Simulated (sides rules) n i (λ j. run (direct rules) j (enter (load_of m by vs) w ends) z) (λ k. run (es3 page_table) k (Target.program_plan (program_of m) by s) y)
+load_simulated rules by few _ (a_guest imports vars list same names names' small guest targets) {vs = vs} {n = n} {s = s} {i = i} are r =
+    let q : Module = record { imports = imports; vars = vars; list = list } in
+    let f : List ℕ → EsValue = λ k. value_of (own (made_store by q s).heap imports_id k) in
+    let us : List EsValue = map f imports in
+    let is : IsGuest q = record { same = same; names = record { imports = names; vars = names' }; few = small; list = guest; targets = targets } in
+    let values : Vals (made_store by q s).heap vs us = subst (λ l. Vals (made_store by q s).heap vs l) (sym (values_there q by s imports are.there)) (vals_keep (function_keeps by q s) vs (map (λ k. value_of (own s.heap imports_id k)) imports) are.values) in
+    let long : length vs ≡ length imports = values_long s.heap vs _ are.values ∙ map_long (λ k. value_of (own s.heap imports_id k)) imports in
+    turn_simulated (sides rules) n i _ _ _ _ (λ d. whole rules by few q is vs us owns d (imports_read rules by q s is (opened_of r.objects) r.scopes.unshared) values long r)
 
 -- the sentences of a load
 
@@ -37,9 +73,9 @@ end_turn rules all all' (over e w z n) (over e' s y n') p = p
 end_turn rules all all' (stopped f w z n) (stopped g s y n') p = p
 end_turn rules all all' _ _ p = absurd p
 
-pub loads : (rules : Rules) (m : c.Tree c.program) (by : ℕ) → by < 64 → GuestModule m → (w : World) (z : List Item) (n : ℕ) (g : Tags) (s : Store) (y : Kept) (i : ℕ) → Between w z n g s y i → Loads rules m by w z n s y i
-loads rules m by few guest w z n g s y i r =
-    let x = load_simulated rules by few m guest r in
+pub loads : (rules : Rules) (m : c.Tree c.program) (by : ℕ) → by < 64 → GuestModule m → (vs : List Value) (w : World) (z : List Item) (n : ℕ) (g : Tags) (s : Store) (y : Kept) (i : ℕ) → ImportsAre s.heap (imports_of m) vs → Between w z n g s y i → Loads rules m by vs w z n s y i
+loads rules m by few guest vs w z n g s y i are r =
+    let x = load_simulated rules by few m guest are r in
     record {
       forward = λ j c k fin eq le most. let h = x.forward j c (64 * (n + c)) k (λ a few. few) fin eq le most in (end_turn rules (n + j) (i + k) _ _ h.0, h.1);
       backward = λ k le fin. let h = x.backward k le fin in (h.0, λ a enough. end_turn rules (n + a) (i + k) _ _ (h.1 a enough));
@@ -48,8 +84,14 @@ loads rules m by few guest w z n g s y i r =
 
 -- a module by itself
 
-simulates : (by : ℕ) → by < 64 → (m : c.Tree c.program) → GuestModule m → Simulated (sides no_rules) 0 0 (λ n. direct_run m by n) (λ k. module_run (program_of m) by k)
-simulates by few m guest = load_simulated no_rules by few m guest (begins 0 0)
+-- its imports correspond where the page of one module begins
+imports_are : (by : ℕ) (m : c.Tree c.program) → MayImport by m → ImportsAre first_store.heap (imports_of m) (imported by (imports_of m))
+imports_are zero m may = imports_begin (imports_of m)
+imports_are (suc by) (c.a_module [] body) may = imports_begin []
+imports_are (suc by) (c.a_module (x ∷ xs) body) may = absurd may
+
+simulates : (by : ℕ) → by < 64 → (m : c.Tree c.program) → MayImport by m → GuestModule m → Simulated (sides no_rules) 0 0 (λ n. direct_run m by n) (λ k. module_run (program_of m) by k)
+simulates by few m may guest = load_simulated no_rules by few m guest (imports_are by m may) begins_one
 
 -- like ends, as the sentences say it
 
@@ -75,9 +117,9 @@ finished (over e s y n) f = tt
 finished (stopped g s y n) f = f tt
 finished (out s y n) f = tt
 
-pub correct : (m : c.Tree c.program) (by : ℕ) → by < 64 → GuestModule m → Correct by m
-correct m by few guest =
-    let s = simulates by few m guest in
+pub correct : (m : c.Tree c.program) (by : ℕ) → by < 64 → MayImport by m → GuestModule m → Correct by m
+correct m by few may guest =
+    let s = simulates by few m may guest in
     let back : (k : ℕ) → k ≤ most_steps → IsFinished (module_run (program_of m) by k) → (j : ℕ) × ((n : ℕ) → j ≤ n → EndAlike (direct_run m by n) (module_run (program_of m) by k)) =
     λ k le fin. let h = start.backward s k le fin in (h.0, λ n enough. alike no_rules n k _ _ (h.1 n enough)) in
     record {

@@ -33,7 +33,7 @@ shaped_slot g s c x e u there = record {
   tags = λ n t q. q;
 }
 
-differs : (x y : List ℕ) → is_hidden y ≡ true → is_hidden x ≡ false → same_units y x ≡ false
+pub differs : (x y : List ℕ) → is_hidden y ≡ true → is_hidden x ≡ false → same_units y x ≡ false
 differs x y hidden guest =
     let cases = elim (same_units y x) as (λ b. same_units y x ≡ b → b ≡ false) [
       | true ↦ λ is. cc (sym hidden ∙ ap is_hidden (same_text y x (sym is)) ∙ guest)
@@ -198,3 +198,47 @@ rel_held {w = w} {g = g} {s = s} c x v e u there hidden other is r =
 
 pub stays_held : {w : World} {g : Tags} {s : Store} {m : ℕ} (c : ℕ) (x : List ℕ) (e u : EsValue) → name_value x (names_at s c) ≡ Some u → Stays w g s m w g (with_slot c x e s) m
 stays_held {g = g} {s = s} c x e u there = record { heap = keeps_refl; shaped = shaped_slot g s c x e u there; closed = closed_refl }
+
+-- less may be known of each hidden name
+pub record Covers (T U : Temps) : Type 0 where
+  pub covers : (s : Store) (c : ℕ) (x : List ℕ) → is_hidden x ≡ true → SlotIs s c x (U c x) → SlotIs s c x (T c x)
+
+pub rel_covers : {H : Here} {T U : Temps} {k : ℕ} {w : World} {z : List Item} {n : ℕ} {g : Tags} {s : Store} {y : Kept} {m : ℕ} → Covers T U → Rel H U k w z n g s y m → Rel H T k w z n g s y m
+rel_covers {s = s} f r =
+    let v = r.all.scopes in
+    record {
+      all = record {
+        steps = r.all.steps;
+        items = r.all.items;
+        objects = r.all.objects;
+        page = r.all.page;
+        pages = r.all.pages;
+        closures = r.all.closures;
+        scopes = record { same = v.same; once = v.once; known = v.known; count = v.count; temps = λ c x hidden. f.covers s c x hidden (v.temps c x hidden); runtime = v.runtime; are = v.are; unshared = v.unshared };
+        globals = r.all.globals;
+        kept = r.all.kept;
+      };
+      here = r.here;
+    }
+
+pub covers_trans : {T U V : Temps} → Covers T U → Covers U V → Covers T V
+covers_trans f g = record { covers = λ s c x hidden p. f.covers s c x hidden (g.covers s c x hidden p) }
+
+-- what a name holds may be forgotten, where it was declared before
+pub held_covers : (T : Temps) (c : ℕ) (x : List ℕ) (v : Value) → T c x ≡ declared → Covers T (hold c x v T)
+held_covers T c x v is = record { covers = λ s n y hidden p. one s n y p }
+  where
+    fewer : (s : Store) (n : ℕ) (y : List ℕ) → SlotIs s n y (holds v) → SlotIs s n y declared
+    fewer s n y p = (p.0, p.1)
+
+    one : (s : Store) (n : ℕ) (y : List ℕ) → SlotIs s n y (hold c x v T n y) → SlotIs s n y (T n y)
+    one s n y p =
+        let cases = elim (nat_eq n c) as (λ b. nat_eq n c ≡ b → SlotIs s n y (cond b (cond (same_units y x) (holds v) (T n y)) (T n y)) → SlotIs s n y (T n y)) [
+          | false ↦ λ other p. p
+          | true ↦ λ at. elim (same_units y x) as (λ b. same_units y x ≡ b → SlotIs s n y (cond b (holds v) (T n y)) → SlotIs s n y (T n y)) [
+            | false ↦ λ other p. p
+            | true ↦ λ same p.
+                let slot : T n y ≡ declared = subst (λ k. T k y ≡ declared) (sym (same_place n c at)) (subst (λ q. T c q ≡ declared) (sym (same_text y x (sym same))) is) in
+                subst (λ q. SlotIs s n y q) (sym slot) (fewer s n y p)
+          ] refl
+        ] in cases refl p

@@ -1,5 +1,5 @@
 -- A rewritten module does in the interpreter what its source does directly. Its program runs in a page of its own, and each of both has a number of steps.
-use Rattle.std.specs.Prelude.{◌≡◌, ℕ, ◌+◌, ◌*◌, ◌≤◌, [], Some}
+use Rattle.std.specs.Prelude.{◌≡◌, ℕ, zero, ◌+◌, ◌*◌, ◌≤◌, List, [], Some}
 use Rattle.plans.specs.Plans.{over, stopped, out, count_of, kept_of}
 use Rattle.matching.specs.Sentences.{IsFinished}
 use Rattle.es3_language.specs.Store.{Store}
@@ -8,6 +8,7 @@ use Rattle.rows.specs.Nodes.{no_rules}
 use Rattle.cajita_tree.specs.Tree as c
 use Rattle.cajita_rewrite.specs.Rewrite.{program_of}
 use Rattle.cajita_meaning.specs.World.{World, empty_world}
+use Rattle.cajita_meaning.specs.Imports.{imported}
 use Rattle.cajita_meaning.specs.Direct as Source
 use Rattle.cajita_meaning.specs.Direct.{printed, load_run}
 use Rattle.heap_rows.specs.Opening.{first, place_of}
@@ -15,9 +16,19 @@ use Rattle.module_loader.specs.Page.{Kept, module_run}
 use Rattle.row_simulation.specs.Correspond.{Val, ObjectsAre}
 use Rattle.cajita_simulation.specs.Alike.{shown, IsPrefix, GuestFault, most_steps}
 
--- a module by itself, as the module of a number and with n steps: it imports nothing, and the world is empty
+-- what a module imports
+abbrev pub imports_of : c.Tree c.program → List (List ℕ)
+imports_of (c.a_module xs body) = xs
+
+-- a module by itself, as the module of a number and with n steps, in an empty world: its imports have the values that the fixed names have in every module
 abbrev pub direct_run : c.Tree c.program → ℕ → ℕ → Source.Run
-direct_run m by n = load_run no_rules m by [] empty_world [] n
+direct_run m by n = load_run no_rules m by (imported by (imports_of m)) empty_world [] n
+
+-- the page of one module has the functions `say` and `later` of the module 0, so that a module of another number is meant where it imports nothing
+abbrev pub MayImport : ℕ → c.Tree c.program → Type 0
+MayImport zero m = Unit {0}
+MayImport by (c.a_module [] body) = Unit {0}
+MayImport by m = ⊥
 
 -- the load gave a value and the program came to its end with one that corresponds, or both threw values that correspond; named objects stand for those of the world
 abbrev pub SameEnd : Source.Completion → World → Target.Completion → Store → Type 0

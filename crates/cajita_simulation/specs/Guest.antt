@@ -1,10 +1,15 @@
 -- What is known of a module that was accepted: its names are declared, and no name or key is one that the rewriting or the interpreter uses itself.
-use Rattle.std.specs.Prelude.{◌≡◌, ℕ, Bool, true, false, List, [], ◌∷◌, ◌++◌, codes}
+use Rattle.std.specs.Prelude.{◌≡◌, ℕ, ◌<◌, Bool, true, false, not, ◌||◌, ◌&&◌, List, [], ◌∷◌, Option, Some, None, codes}
 use Rattle.std.specs.List.{list_any}
 use Rattle.caja_units.specs.Units.{same_units, is_hidden}
 use Rattle.es3_language.specs.Meaning.{is_arguments}
-use Rattle.es3_tree.specs.declared.BinOp.TheVariants.{Add}
+use Rattle.es3_tree.specs.declared.UnOp.{UnOp}
+use Rattle.es3_tree.specs.declared.UnOp.TheVariants as un
+use Rattle.es3_tree.specs.declared.BinOp.{BinOp}
+use Rattle.row_simulation.specs.OperatorLaw.{IsOfValues}
 use Rattle.cajita_tree.specs.Tree as c
+use Rattle.cajita_rewrite.specs.Rewrite.{temps, declared}
+use Rattle.cajita_simulation.specs.Jumps.{no_jumps, function_jumps, Targets}
 
 abbrev pub is_among : List (List ℕ) → List ℕ → Bool
 is_among names x = list_any (same_units x) names
@@ -24,42 +29,97 @@ pub record GuestKey (k : List ℕ) : Type 0 where
 abbrev pub Names : Type 0
 Names = List ℕ → Bool
 
+-- what a body adds to the names around it: its parameters and its variables
+abbrev pub inner : List (List ℕ) → List (List ℕ) → Names → Names
+inner params vars names x = (is_among params x || is_among vars x) || names x
+
+-- an assignment by an operator, and an operator before a value: `delete` of a value isn't written
+abbrev pub Assigns : Option BinOp → Type 0
+Assigns None = Unit {0}
+Assigns (Some op) = IsOfValues op
+
+abbrev pub Converts : UnOp → Type 0
+Converts un.Delete = ⊥
+Converts op = Unit {0}
+
+-- without the own name of a function expression, which isn't written
+abbrev pub without : List ℕ → Names → Names
+without x names y = not (same_units y x) && names y
+
 -- a part over names that may be read and names that may be written; no other form is accepted yet
 abbrev pub Guest : Names → Names → (s : c.Sort) → c.Tree s → Type 0
+Guest vars free _ c.null = Unit {0}
+Guest vars free _ (c.bool b) = Unit {0}
 Guest vars free _ (c.num n) = Unit {0}
 Guest vars free _ (c.text us) = Unit {0}
 Guest vars free _ (c.name x) = (vars x ≡ true) × GuestName x
+Guest vars free _ (c.array es) = Guest vars free _ es
 Guest vars free _ (c.record_of fs) = Guest vars free _ fs
+Guest vars free _ (c.function (c.fun None params args body)) = Guest vars free _ (c.fun None params args body)
+Guest vars free _ (c.function (c.fun (Some x) params args body)) = GuestName x × Guest (inner [] (x ∷ []) vars) (without x free) _ (c.fun (Some x) params args body)
 Guest vars free _ (c.read e k) = Guest vars free _ e × Guest vars free _ k
-Guest vars free _ (c.binary op a b) = (op ≡ Add) × Guest vars free _ a × Guest vars free _ b
+Guest vars free _ (c.delete e k) = Guest vars free _ e × Guest vars free _ k
+Guest vars free _ (c.step up before x) = Guest vars free _ x
+Guest vars free _ (c.assign None (c.member e k) v) = Guest vars free _ e × Guest vars free _ k × Guest vars free _ v
+Guest vars free _ (c.assign (Some op) (c.member e k) v) = IsOfValues op × Guest vars free _ e × Guest vars free _ k × Guest vars free _ v
+Guest vars free _ (c.assign op (c.variable x) e) = Assigns op × Guest vars free _ (c.variable x) × Guest vars free _ e
+Guest vars free _ (c.unary op e) = Converts op × Guest vars free _ e
+Guest vars free _ (c.binary op a b) = Guest vars free _ a × Guest vars free _ b
+Guest vars free _ (c.and a b) = Guest vars free _ a × Guest vars free _ b
+Guest vars free _ (c.or a b) = Guest vars free _ a × Guest vars free _ b
+Guest vars free _ (c.choice a b d) = Guest vars free _ a × Guest vars free _ b × Guest vars free _ d
+Guest vars free _ (c.comma a b) = Guest vars free _ a × Guest vars free _ b
+Guest vars free _ c.no_exprs = Unit {0}
+Guest vars free _ (c.more_exprs e es) = Guest vars free _ e × Guest vars free _ es
 Guest vars free _ c.no_fields = Unit {0}
 Guest vars free _ (c.more_fields k e rest) = GuestKey k × Guest vars free _ e × Guest vars free _ rest
 Guest vars free _ (c.fixed k) = Unit {0}
+Guest vars free _ (c.computed e) = Guest vars free _ e
+Guest vars free _ (c.variable x) = (vars x ≡ true) × (free x ≡ true) × GuestName x
+Guest vars free _ (c.member e k) = Guest vars free _ e × Guest vars free _ k
 Guest vars free _ c.no_expr = Unit {0}
 Guest vars free _ (c.some_expr e) = Guest vars free _ e
+Guest vars free _ (c.block xs) = Guest vars free _ xs
 Guest vars free _ (c.var is) = Guest vars free _ is
+Guest vars free _ c.empty = Unit {0}
 Guest vars free _ (c.expression e) = Guest vars free _ e
+Guest vars free _ (c.branch e x y) = Guest vars free _ e × Guest vars free _ x × Guest vars free _ y
+Guest vars free _ (c.while_loop e x) = Guest vars free _ e × Guest vars free _ x
+Guest vars free _ (c.do_loop x e) = Guest vars free _ x × Guest vars free _ e
+Guest vars free _ (c.for_loop i e u x) = Guest vars free _ i × Guest vars free _ e × Guest vars free _ u × Guest vars free _ x
+Guest vars free _ (c.continue l) = Unit {0}
+Guest vars free _ (c.break l) = Unit {0}
+Guest vars free _ (c.return e) = Guest vars free _ e
+Guest vars free _ (c.switch e cs) = Guest vars free _ e × Guest vars free _ cs
+Guest vars free _ (c.label l x) = Guest vars free _ x
+Guest vars free _ (c.throw e) = Guest vars free _ e
+Guest vars free _ (c.try xs h f) = Guest vars free _ xs × Guest vars free _ h × Guest vars free _ f
 Guest vars free _ c.no_items = Unit {0}
 Guest vars free _ (c.more_items x e rest) = (vars x ≡ true) × (free x ≡ true) × GuestName x × Guest vars free _ e × Guest vars free _ rest
 Guest vars free _ c.no_stmts = Unit {0}
 Guest vars free _ (c.more_stmts s rest) = Guest vars free _ s × Guest vars free _ rest
+-- a function that reads no `arguments` and declares no function: its parameters and variables have names that a module may use, each variable
+-- that a statement declares is among them, its temporaries have names of their own, and its jumps are its own
+Guest vars free _ (c.fun name params false (c.a_body c.no_funcs names list)) =
+    ((x : List ℕ) → is_among params x ≡ true → GuestName x) × ((x : List ℕ) → is_among names x ≡ true → GuestName x) × ((x : List ℕ) → is_among (declared c.stmts list) x ≡ true → is_among names x ≡ true)
+    × (temps c.stmts list < 18446744073709551616) × Targets function_jumps [] c.stmts list × Guest (inner params names vars) (inner params names free) _ list
+Guest vars free _ c.no_stmt = Unit {0}
+Guest vars free _ (c.some_stmt x) = Guest vars free _ x
+Guest vars free _ c.no_block = Unit {0}
+Guest vars free _ (c.some_block xs) = Guest vars free _ xs
+Guest vars free _ c.no_first = Unit {0}
+Guest vars free _ (c.first_var is) = Guest vars free _ is
+Guest vars free _ (c.first_expr e) = Guest vars free _ e
+Guest vars free _ c.no_cases = Unit {0}
+Guest vars free _ (c.more_cases e xs cs) = Guest vars free _ e × Guest vars free _ xs × Guest vars free _ cs
+Guest vars free _ c.no_handler = Unit {0}
+Guest vars free _ (c.some_handler x xs) = GuestName x × Guest (inner [] (x ∷ []) vars) (inner [] (x ∷ []) free) _ xs
 Guest vars free _ (c.a_body c.no_funcs names list) = Guest vars free _ list
 Guest vars free _ (c.a_module imports body) = Guest vars free _ body
 Guest vars free _ _ = ⊥
 
--- the names that statements declare by `var`
-abbrev pub item_names : c.Tree c.items → List (List ℕ)
-item_names c.no_items = []
-item_names (c.more_items x e rest) = x ∷ item_names rest
-
-abbrev pub declared_by : c.Tree c.stmt → List (List ℕ)
-declared_by (c.var is) = item_names is
-declared_by _ = []
-
-abbrev pub declared : c.Tree c.stmts → List (List ℕ)
-declared c.no_stmts = []
-declared (c.more_stmts s rest) = declared_by s ++ declared rest
-
--- a module that imports nothing and declares no function, and whose variables are those that its statements declare
+-- a module that declares no function, whose variables are those that its statements declare, whose imports and variables have names that a module may use, whose
+-- temporaries have names of their own, and each of whose jumps has its target
 pub data GuestModule : c.Tree c.program → Type 0 where
-  a_guest : (vars : List (List ℕ)) (list : c.Tree c.stmts) → ((x : List ℕ) → is_among vars x ≡ is_among (declared list) x) → Guest (is_among vars) (is_among vars) c.stmts list → GuestModule (c.a_module [] (c.a_body c.no_funcs vars list))
+  a_guest : (imports vars : List (List ℕ)) (list : c.Tree c.stmts) → ((x : List ℕ) → is_among vars x ≡ is_among (declared c.stmts list) x) → ((x : List ℕ) → is_among imports x ≡ true → GuestName x) → ((x : List ℕ) → is_among vars x ≡ true → GuestName x) → temps c.stmts list < 18446744073709551616
+      → Guest (λ x. is_among imports x || is_among vars x) (is_among vars) c.stmts list → Targets no_jumps [] c.stmts list → GuestModule (c.a_module imports (c.a_body c.no_funcs vars list))

@@ -1,5 +1,5 @@
 -- The load of a module where anything related ran before: its program does what its source does, and the next turn may begin where both end.
-use Rattle.std.specs.Prelude.{◌≡◌, ℕ, ◌+◌, ◌*◌, ◌≤◌, List, []}
+use Rattle.std.specs.Prelude.{◌≡◌, ℕ, ◌+◌, ◌*◌, ◌≤◌, ◌<◌, List, [], length, map}
 use Rattle.plans.specs.Plans.{over, stopped, count_of, kept_of}
 use Rattle.matching.specs.Sentences.{IsFinished, EndTogether}
 use Rattle.es3_language.specs.Store.{Store}
@@ -7,10 +7,13 @@ use Rattle.es3_language.specs.Meaning as Target
 use Rattle.rows.specs.Nodes.{Rules}
 use Rattle.cajita_tree.specs.Tree as c
 use Rattle.cajita_rewrite.specs.Rewrite.{program_of}
-use Rattle.cajita_meaning.specs.World.{World}
+use Rattle.cajita_meaning.specs.World.{Value, World}
+use Rattle.es3_heap.specs.Objects.{Objects}
+use Rattle.es3_heap.specs.Properties.{own, value_of}
+use Rattle.row_simulation.specs.Correspond.{Vals}
 use Rattle.cajita_meaning.specs.Direct as Source
 use Rattle.cajita_meaning.specs.Direct.{Item, printed, load_run}
-use Rattle.heap_rows.specs.Opening.{begun, globals_id}
+use Rattle.heap_rows.specs.Opening.{begun, globals_id, imports_id}
 use Rattle.module_loader.specs.Page.{Kept, page_table}
 use Rattle.cajita_simulation.specs.Alike.{shown, IsPrefix, most_steps}
 use Rattle.cajita_simulation.specs.Sides.{Ends, Stops}
@@ -30,13 +33,18 @@ EndTurn all all' r t = ⊥
 abbrev pub program_run : c.Tree c.program → ℕ → Store → Kept → ℕ → Target.Run Kept
 program_run m by s y k = Target.run_program page_table (program_of m) by s y k
 
--- three sentences on the module m that runs as module `by`, where n steps of the source's side and i of the program's were taken before
-pub record Loads (rules : Rules) (m : c.Tree c.program) (by : ℕ) (w : World) (z : List Item) (n : ℕ) (s : Store) (y : Kept) (i : ℕ) : Type 0 where
+-- what a module may import stands where the natives of a page have it, with values that correspond
+pub record ImportsAre (h : Objects) (names : List (List ℕ)) (vs : List Value) : Type 0 where
+  pub there : imports_id < length h.list
+  pub values : Vals h vs (map (λ k. value_of (own h imports_id k)) names)
+
+-- three sentences on the module m that runs as module `by` and imports these values, where n steps of the source's side and i of the program's were taken before
+pub record Loads (rules : Rules) (m : c.Tree c.program) (by : ℕ) (vs : List Value) (w : World) (z : List Item) (n : ℕ) (s : Store) (y : Kept) (i : ℕ) : Type 0 where
   -- where the source, with j steps, comes to an end after c of them, its program comes to a like end with every number of steps that makes 64 times n + c or more with those
   -- before, and takes no more of them
-  pub forward : (j c k : ℕ) → IsFinished (load_run rules m by [] w z j) → count_of (load_run rules m by [] w z j) + c ≡ j → 64 * (n + c) ≤ i + k → 64 * (n + c) ≤ most_steps
-      → EndTurn (n + j) (i + k) (load_run rules m by [] w z j) (program_run m by s y k) × (i + k ≤ count_of (program_run m by s y k) + 64 * (n + c))
+  pub forward : (j c k : ℕ) → IsFinished (load_run rules m by vs w z j) → count_of (load_run rules m by vs w z j) + c ≡ j → 64 * (n + c) ≤ i + k → 64 * (n + c) ≤ most_steps
+      → EndTurn (n + j) (i + k) (load_run rules m by vs w z j) (program_run m by s y k) × (i + k ≤ count_of (program_run m by s y k) + 64 * (n + c))
   -- where the program comes to an end with k steps, its source comes to a like end with every number of steps that is large enough
-  pub backward : (k : ℕ) → i + k ≤ most_steps → IsFinished (program_run m by s y k) → (j : ℕ) × ((a : ℕ) → j ≤ a → EndTurn (n + a) (i + k) (load_run rules m by [] w z a) (program_run m by s y k))
+  pub backward : (k : ℕ) → i + k ≤ most_steps → IsFinished (program_run m by s y k) → (j : ℕ) × ((a : ℕ) → j ≤ a → EndTurn (n + a) (i + k) (load_run rules m by vs w z a) (program_run m by s y k))
   -- what is shown by then with k steps, however the program was cut, is the beginning of what its source's side has printed with every number of steps that is large enough
-  pub cut : (k : ℕ) → i + k ≤ most_steps → (j : ℕ) × ((a : ℕ) → j ≤ a → IsPrefix (shown (kept_of (program_run m by s y k))) (printed (kept_of (load_run rules m by [] w z a))))
+  pub cut : (k : ℕ) → i + k ≤ most_steps → (j : ℕ) × ((a : ℕ) → j ≤ a → IsPrefix (shown (kept_of (program_run m by s y k))) (printed (kept_of (load_run rules m by vs w z a))))

@@ -76,15 +76,16 @@ pub record CodeIs (by : ℕ) (g : Tags) (s : Store) (f : c.Tree c.func) (direct 
   pub number : ℕ
   pub callable : heap.callable_of (heap.object_at s.heap i) ≡ Some (record { kind = kind.Code number; maker = by })
   pub chain : List ℕ
-  pub code : slice_get s.codes number ≡ Some (code_of (rewritten c.func f) chain)
+  pub code : slice_get s.codes number ≡ Some (code_of (rewritten false c.func 0 f) chain)
   pub simple : is_some (own s.heap i simple_mark) ≡ true
   pub vars : Names
   pub free : Names
   pub captured : Captured vars free by g direct chain s
   pub guest : Guest vars free c.func f
 
+-- a closure is of a module that the counts of names know, and where its name is an object's, so is its code
 abbrev pub ClosuresAre : (ℕ → List Object) → Tags → Store → Type 0
-ClosuresAre objects g s = (m n i : ℕ) (f : c.Tree c.func) (chain : List ℕ) → m < 64 → slice_get (objects m) n ≡ Some (a_closure f chain) → Named s.heap (made_name m n) i → CodeIs m g s f chain i
+ClosuresAre objects g s = (m n : ℕ) (f : c.Tree c.func) (chain : List ℕ) → slice_get (objects m) n ≡ Some (a_closure f chain) → (m < 64) × ((i : ℕ) → Named s.heap (made_name m n) i → CodeIs m g s f chain i)
 
 -- all of both sides but the place where a form stands: what the log prints is the same, objects, closures, scopes and what a page keeps beside them correspond; and
 -- of 64 steps of the interpreter for each of the direct meaning, k are in hand

@@ -1,21 +1,19 @@
 -- Trees that tokens spell, each form from its parts: the tokens are not those that are printed, since parentheses stand round each operation.
-use Rattle.std.proofs.Common.{◌≡◌, ℕ, ◌≤◌, List, [], ◌∷◌, ◌++◌, map, None, refl, ap, arith, lit<}
+use Rattle.std.proofs.Common.{◌≡◌, ℕ, ◌≤◌, Bool, true, false, List, [], ◌∷◌, ◌++◌, None, refl, arith, lit<}
 use Rattle.std.specs.Prelude.{ℤ}
 use Rattle.std.specs.List.{All}
-use Rattle.std.proofs.lemmas.List.Elements.{All-nil, All-cons, All-append, All-map}
+use Rattle.std.proofs.lemmas.List.Elements.{All-nil, All-cons, All-append}
 use Rattle.es3_tree.specs.Tree as t
-use Rattle.es3_tree.specs.Token.{Token, name, punct, num, text}
-use Rattle.es3_tree.specs.declared.BinOp.TheVariants.{Add}
+use Rattle.es3_tree.specs.Token.{Token, name, num, text}
+use Rattle.es3_tree.specs.declared.UnOp.{UnOp}
 use Rattle.es3_tokens.specs.Back.{IsToken}
-use Rattle.es3_grammar.specs.Spots.{Spot, look_up, function_word, return_word, var_word, open_brace, close_brace, open_paren, close_paren, open_bracket, close_bracket, point, semicolon, comma, equals}
-use Rattle.es3_grammar.specs.Levels.{an_op, an_assign}
-use Rattle.es3_grammar.specs.Grammar.{free}
-use Rattle.es3_printed.specs.Back.{IsSpelled}
-use Rattle.es3_printed.specs.Tokens.{listed}
-use Rattle.es3_printed.proofs.Shown.{kinds, Shown}
-use Rattle.es3_printed.proofs.ShownExpressions.{shown_num, shown_text, shown_name, shown_paren, shown_array, shown_function, shown_dot, shown_call, shown_join, shown_no_exprs, shown_some_exprs, shown_one_expr, shown_more_exprs}
-use Rattle.es3_printed.proofs.ShownParts.{shown_no_stmts, shown_more_stmts, shown_func, shown_script, shown_one_item, shown_more_items, shown_no_value, shown_value, shown_some_expr}
-use Rattle.es3_printed.proofs.ShownStatements.{shown_var, shown_expression, shown_return}
+use Rattle.es3_grammar.specs.Spots.{function_word, open_paren, close_paren, open_bracket, close_bracket, point, comma, query, colon, null_word, true_word, false_word}
+use Rattle.es3_grammar.specs.Levels.{Join, an_assign, left, right, unary_sign, step_sign}
+use Rattle.es3_grammar.specs.Grammar.{Bars, free, bars_call}
+use Rattle.es3_printed.specs.Tokens.{join_sign}
+use Rattle.es3_printed.proofs.Shown.{Shown}
+use Rattle.es3_printed.proofs.ShownExpressions.{made, may_stand_left, shown_null, shown_bool, shown_num, shown_text, shown_name, shown_paren, shown_array, shown_function, shown_dot, shown_index, shown_call, shown_postfix, shown_prefix_step, shown_prefix, shown_join, shown_choice, shown_no_exprs, shown_some_exprs, shown_one_expr, shown_more_exprs}
+use Rattle.cajoled_text.proofs.Operators.{HasSign, of_plain, unary_token, step_token}
 
 -- ---- tokens, one behind another
 
@@ -37,7 +35,7 @@ within i q p = then i (before p q)
 pub last : {c : Token} → IsToken c → Are (c ∷ [])
 last i = then i nothing
 
--- ---- what tokens spell: a part of a tree at its level; an expression, whatever level is asked
+-- ---- what tokens spell: a part of a tree at its level; an expression, whatever level is asked, and whether or not `in` may stand there (12.6)
 
 pub record Written (s : t.Sort) (l : ℕ) (q : t.Tree s) : Type 0 where
   pub tokens : List Token
@@ -47,7 +45,11 @@ pub record Written (s : t.Sort) (l : ℕ) (q : t.Tree s) : Type 0 where
 pub record Expression (x : t.Tree t.expr) : Type 0 where
   pub tokens : List Token
   pub are : Are tokens
-  pub shown : (l : ℕ) → l ≤ 16 → Shown t.expr free l x tokens
+  pub shown : (b : Bars) → bars_call b ≡ false → (l : ℕ) → l ≤ 16 → Shown t.expr b l x tokens
+
+-- where nothing is barred
+pub freely : {x : t.Tree t.expr} (p : Expression x) (l : ℕ) → l ≤ 16 → Shown t.expr free l x p.tokens
+freely p l le = p.shown free refl l le
 
 -- a list of expressions, alone and behind another one
 pub record Expressions (xs : t.Tree t.exprs) : Type 0 where
@@ -59,61 +61,100 @@ pub record Expressions (xs : t.Tree t.exprs) : Type 0 where
 -- ---- expressions
 
 pub number : (n : ℤ) → IsToken (num n) → Expression (t.num n)
-number n i = record { tokens = num n ∷ []; are = last i; shown = λ l le. shown_num free l n le }
+number n i = record { tokens = num n ∷ []; are = last i; shown = λ b may l le. shown_num b l n le }
 
 pub literal : (us : List ℕ) → IsToken (text us) → Expression (t.text us)
-literal us i = record { tokens = text us ∷ []; are = last i; shown = λ l le. shown_text free l us le }
+literal us i = record { tokens = text us ∷ []; are = last i; shown = λ b may l le. shown_text b l us le }
 
 pub named : (us : List ℕ) → IsToken (name us) → Expression (t.name us)
-named us i = record { tokens = name us ∷ []; are = last i; shown = λ l le. shown_name free l us le }
+named us i = record { tokens = name us ∷ []; are = last i; shown = λ b may l le. shown_name b l us le }
 
-pub sum : (x y : t.Tree t.expr) → Expression x → Expression y → Expression (t.binary Add x y)
-unfolding look_up
-sum x y p q = record {
-  tokens = open_paren ∷ ((p.tokens ++ punct 17 ∷ q.tokens) ++ close_paren ∷ []);
-  are = within (lit< tt) (last (lit< tt)) (before p.are (then (lit< tt) q.are));
-  shown = λ l le. shown_paren free l _ _ le (shown_join free 0 (an_op Add) (punct 17) x y p.tokens q.tokens (omega arith) refl refl
-      (p.shown 11 (omega arith)) (q.shown 12 (omega arith)));
+pub null : Expression t.null
+null = record { tokens = null_word ∷ []; are = last (lit< tt); shown = λ b may l le. shown_null b l le }
+
+pub boolean : (v : Bool) → Expression (t.bool v)
+boolean true = record { tokens = true_word ∷ []; are = last (lit< tt); shown = λ b may l le. shown_bool b l true le }
+boolean false = record { tokens = false_word ∷ []; are = last (lit< tt); shown = λ b may l le. shown_bool b l false le }
+
+-- in parentheses, whatever stands at the lowest level is an expression at each level
+pub within_parens : (x : t.Tree t.expr) → Written t.expr 0 x → Expression x
+within_parens x p = record {
+  tokens = open_paren ∷ (p.tokens ++ close_paren ∷ []);
+  are = within (lit< tt) (last (lit< tt)) p.are;
+  shown = λ b may l le. shown_paren b l x p.tokens le p.shown;
+}
+
+-- 11.5 to 11.11, 11.13, 11.14: an operator between two parts
+pub join : (j : Join) (x y : t.Tree t.expr) → HasSign j → may_stand_left j x ≡ true → Expression x → Expression y → Expression (made j x y)
+join j x y i h p q = within_parens _ record {
+  tokens = p.tokens ++ join_sign j ∷ q.tokens;
+  are = before p.are (then i.token q.are);
+  shown = shown_join free 0 j (join_sign j) x y p.tokens q.tokens (omega arith) i.read h (freely p (left j) i.left_low) (freely q (right j) i.right_low);
 }
 
 pub assigned : (us : List ℕ) (x : t.Tree t.expr) → IsToken (name us) → Expression x → Expression (t.assign None (t.name us) x)
-unfolding look_up
-assigned us x i p = record {
-  tokens = open_paren ∷ ((name us ∷ equals ∷ p.tokens) ++ close_paren ∷ []);
-  are = within (lit< tt) (last (lit< tt)) (then i (then (lit< tt) p.are));
-  shown = λ l le. shown_paren free l _ _ le (shown_join free 0 (an_assign None) equals (t.name us) x (name us ∷ []) p.tokens (omega arith) refl refl
-      (shown_name free 15 us (omega arith)) (p.shown 1 (omega arith)));
+assigned us x i p = join (an_assign None) (t.name us) x of_plain refl (named us i) p
+
+-- 11.3, 11.4.4, 11.4.5: of a name
+pub step : (up first : Bool) (us : List ℕ) → IsToken (name us) → Expression (t.step up first (t.name us))
+step up true us i = within_parens _ record {
+  tokens = step_sign up ∷ name us ∷ [];
+  are = then (step_token up) (last i);
+  shown = shown_prefix_step free 0 up (t.name us) (name us ∷ []) (omega arith) refl (shown_name free 15 us (omega arith));
+}
+step up false us i = within_parens _ record {
+  tokens = name us ∷ step_sign up ∷ [];
+  are = then i (last (step_token up));
+  shown = shown_postfix free 0 up (t.name us) (name us ∷ []) (omega arith) refl (shown_name free 15 us (omega arith));
+}
+
+-- 11.4
+pub unary : (op : UnOp) (x : t.Tree t.expr) → Expression x → Expression (t.unary op x)
+unary op x p = within_parens _ record {
+  tokens = unary_sign op ∷ p.tokens;
+  are = then (unary_token op) p.are;
+  shown = shown_prefix free 0 op x p.tokens (omega arith) (freely p 13 (omega arith));
+}
+
+-- 11.12
+pub choice : (x y z : t.Tree t.expr) → Expression x → Expression y → Expression z → Expression (t.choice x y z)
+choice x y z p q r = within_parens _ record {
+  tokens = p.tokens ++ query ∷ (q.tokens ++ colon ∷ r.tokens);
+  are = before p.are (then (lit< tt) (before q.are (then (lit< tt) r.are)));
+  shown = shown_choice free 0 x y z p.tokens q.tokens r.tokens (omega arith) (freely p 3 (omega arith)) (freely q 1 (omega arith)) (freely r 1 (omega arith));
 }
 
 pub array : (xs : t.Tree t.exprs) → Expressions xs → Expression (t.array xs)
 array xs p = record {
   tokens = open_bracket ∷ (p.alone.tokens ++ close_bracket ∷ []);
   are = within (lit< tt) (last (lit< tt)) p.alone.are;
-  shown = λ l le. shown_array free l xs p.alone.tokens le p.alone.shown;
+  shown = λ b may l le. shown_array b l xs p.alone.tokens le p.alone.shown;
 }
 
 pub member : (x : t.Tree t.expr) (us : List ℕ) → Expression x → IsToken (name us) → Expression (t.dot x us)
 member x us p i = record {
   tokens = p.tokens ++ point ∷ name us ∷ [];
   are = before p.are (then (lit< tt) (last i));
-  shown = λ l le. shown_dot free l x us p.tokens le (p.shown 16 (omega arith));
+  shown = λ b may l le. shown_dot b l x us p.tokens le (p.shown b may 16 (omega arith));
 }
 
 pub call : (x : t.Tree t.expr) (xs : t.Tree t.exprs) → Expression x → Expressions xs → Expression (t.call x xs)
 call x xs p q = record {
   tokens = p.tokens ++ open_paren ∷ (q.alone.tokens ++ close_paren ∷ []);
   are = before p.are (within (lit< tt) (last (lit< tt)) q.alone.are);
-  shown = λ l le. shown_call free l x xs p.tokens q.alone.tokens le refl (p.shown 16 (omega arith)) q.alone.shown;
+  shown = λ b may l le. shown_call b l x xs p.tokens q.alone.tokens le may (p.shown b may 16 (omega arith)) q.alone.shown;
 }
 
--- 13: a function without a name, of two parameters
-pub function : (x y : List ℕ) (ss : t.Tree t.stmts) → IsToken (name x) → IsToken (name y) → Written t.stmts 1 ss
-    → Expression (t.function (t.fun None (x ∷ y ∷ []) ss))
-function x y ss i j p = record {
-  tokens = function_word ∷ open_paren ∷ (listed (x ∷ y ∷ []) ++ close_paren ∷ open_brace ∷ (p.tokens ++ close_brace ∷ []));
-  are = then (lit< tt) (then (lit< tt) (then i (then (lit< tt) (then j (then (lit< tt) (within (lit< tt) (last (lit< tt)) p.are))))));
-  shown = λ l le. shown_function free l _ _ le (shown_func None (x ∷ y ∷ []) ss p.tokens p.shown);
+pub index : (x y : t.Tree t.expr) → Expression x → Expression y → Expression (t.index x y)
+index x y p q = record {
+  tokens = p.tokens ++ open_bracket ∷ (q.tokens ++ close_bracket ∷ []);
+  are = before p.are (within (lit< tt) (last (lit< tt)) q.are);
+  shown = λ b may l le. shown_index b l x y p.tokens q.tokens le (p.shown b may 16 (omega arith)) (freely q 0 (omega arith));
 }
+
+-- 13
+pub function : (f : t.Tree t.func) → Written t.func 0 f → Expression (t.function f)
+function f p = record { tokens = function_word ∷ p.tokens; are = then (lit< tt) p.are; shown = λ b may l le. shown_function b l f p.tokens le p.shown }
 
 pub no_more : Expressions t.no_exprs
 no_more = record {
@@ -132,73 +173,4 @@ more x xs p q = record {
 }
   where
     of_level_one : Shown t.exprs free 1 (t.more_exprs x xs) (p.tokens ++ q.more)
-    of_level_one = q.behind x p.tokens (p.shown 1 (omega arith))
-
--- ---- variables, and what they begin as
-
-pub no_value : Written t.maybe_expr 1 t.no_expr
-no_value = record { tokens = []; are = nothing; shown = shown_no_value free }
-
-pub value : (x : t.Tree t.expr) → Expression x → Written t.maybe_expr 1 (t.some_expr x)
-value x p = record { tokens = equals ∷ p.tokens; are = then (lit< tt) p.are; shown = shown_value free x p.tokens (p.shown 1 (omega arith)) }
-
-pub one_item : (us : List ℕ) (m : t.Tree t.maybe_expr) → IsToken (name us) → Written t.maybe_expr 1 m → Written t.items 0 (t.more_items us m t.no_items)
-one_item us m i p = record { tokens = name us ∷ (p.tokens ++ []); are = then i (before p.are nothing); shown = shown_one_item free us m p.tokens p.shown }
-
-pub more_items : (us : List ℕ) (m : t.Tree t.maybe_expr) (is : t.Tree t.items) → IsToken (name us) → Written t.maybe_expr 1 m → Written t.items 0 is
-    → Written t.items 0 (t.more_items us m is)
-more_items us m is i p q = record {
-  tokens = name us ∷ (p.tokens ++ comma ∷ q.tokens);
-  are = then i (before p.are (then (lit< tt) q.are));
-  shown = shown_more_items free us m is p.tokens q.tokens p.shown q.shown;
-}
-
--- ---- statements
-
-pub variables : (is : t.Tree t.items) → Written t.items 0 is → Written t.stmt 0 (t.var is)
-variables is p = record {
-  tokens = var_word ∷ (p.tokens ++ semicolon ∷ []);
-  are = within (lit< tt) (last (lit< tt)) p.are;
-  shown = shown_var is p.tokens p.shown;
-}
-
--- 12.4: in parentheses, so that it begins neither like a block nor like a function declaration
-pub statement : (x : t.Tree t.expr) → Expression x → Written t.stmt 0 (t.expression x)
-statement x p = record {
-  tokens = (open_paren ∷ (p.tokens ++ close_paren ∷ [])) ++ semicolon ∷ [];
-  are = before (within (lit< tt) (last (lit< tt)) p.are) (last (lit< tt));
-  shown = shown_expression x _ (shown_paren free 0 x p.tokens (omega arith) (p.shown 0 (omega arith))) refl;
-}
-
-pub returned : (x : t.Tree t.expr) → Expression x → Written t.stmt 0 (t.return (t.some_expr x))
-returned x p = record {
-  tokens = return_word ∷ (p.tokens ++ semicolon ∷ []);
-  are = within (lit< tt) (last (lit< tt)) p.are;
-  shown = shown_return _ p.tokens (shown_some_expr x p.tokens (p.shown 0 (omega arith)));
-}
-
-pub no_stmts : Written t.stmts 1 t.no_stmts
-no_stmts = record { tokens = []; are = nothing; shown = shown_no_stmts 1 }
-
-pub more_stmts : (s : t.Tree t.stmt) (ss : t.Tree t.stmts) → Written t.stmt 0 s → Written t.stmts 1 ss → Written t.stmts 1 (t.more_stmts s ss)
-more_stmts s ss p q = record {
-  tokens = p.tokens ++ q.tokens;
-  are = before p.are q.are;
-  shown = shown_more_stmts 1 s ss p.tokens q.tokens p.shown q.shown;
-}
-
--- ---- a program, whose tokens may stand anywhere
-
-anywhere : (ts : List Token) → List Spot
-anywhere ts = map (λ c. (c, 0)) ts
-
-same_kinds : (ts : List Token) → kinds (anywhere ts) ≡ ts
-unfolding anywhere
-same_kinds [] = refl
-same_kinds (c ∷ ts) = ap (λ z. c ∷ z) (same_kinds ts)
-
-pub spelled : (ss : t.Tree t.stmts) → Written t.stmts 1 ss → IsSpelled (t.script ss)
-unfolding anywhere
-spelled ss p =
-    let f = shown_script ss p.tokens p.shown (anywhere p.tokens) (same_kinds p.tokens) in
-    record { tree = f.tree; by = anywhere p.tokens; same = f.same; spelled = f.spelled; tokens = All-map (λ c. IsToken c.0) (λ c. (c, 0)) p.tokens p.are.all }
+    of_level_one = q.behind x p.tokens (freely p 1 (omega arith))

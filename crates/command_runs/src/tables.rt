@@ -31,6 +31,52 @@ fn ends(alloc: Global, row: &str, ended: &Status) -> Result<bool, Memory> {
     Ok(status == *ended && is_line(&output, wanted))
 }
 
+/// What stands behind a text that an output begins with.
+fn behind<'a>(output: &'a [u8], text: &str) -> Option<&'a [u8]> {
+    output.strip_prefix(text.as_bytes())
+}
+
+/// What stands behind the first line.
+fn behind_line(output: &[u8]) -> Option<&[u8]> {
+    for (end, byte) in output.iter().enumerate() {
+        if *byte == b'\n' {
+            return output.get(end + 1..);
+        }
+    }
+    None
+}
+
+/// What stands behind the cajoled text of a module, whose own part is what its function does between the name of its result and the return of it.
+fn behind_module<'a>(output: &'a [u8], part: &str) -> Option<&'a [u8]> {
+    let head = "___.loadModule(function(___,IMPORTS___){var moduleResult___";
+    let text = behind(behind(behind_line(output)?, head)?, part)?;
+    behind(text, "return moduleResult___;});\n")
+}
+
+/// Whether the words and the source give this cajoled text, this log and this status; a log that ends otherwise than by its load is told whole.
+fn is_cajoled(alloc: Global, row: &str, ended: &Status) -> Result<bool, Memory> {
+    let (source, part, wanted) = parts(row);
+    let (status, output) = run(alloc, "solo", source.as_bytes())?;
+    let shown = match behind_module(&output, part) {
+        Some(log) => match behind(log, "load main ") {
+            Some(line) => line.strip_suffix(b"\nend done\n"),
+            None => log.strip_suffix(b"\n"),
+        },
+        None => None,
+    };
+    Ok(status == *ended && shown == Some(wanted.as_bytes()))
+}
+
+/// The first row of a table of sources, each with its cajoled part and what it gives, that gives something else is the failure.
+pub fn check_cajoled(alloc: Global, table: &'static str, ended: Status) -> Result<(), Fail> {
+    for row in table.lines() {
+        if !row.is_empty() && !is_cajoled(alloc, row, &ended)? {
+            return Err(row.into());
+        }
+    }
+    Ok(())
+}
+
 /// The first row of the table whose log says something else is the failure.
 pub fn check_gives(alloc: Global, table: &'static str) -> Result<(), Fail> {
     for row in table.lines() {
@@ -45,6 +91,34 @@ pub fn check_gives(alloc: Global, table: &'static str) -> Result<(), Fail> {
 pub fn check_ends(alloc: Global, table: &'static str, ended: Status) -> Result<(), Fail> {
     for row in table.lines() {
         if !row.is_empty() && !ends(alloc, row, &ended)? {
+            return Err(row.into());
+        }
+    }
+    Ok(())
+}
+
+/// Whether the source of a module ends, and its log says that its load gave this.
+fn loads(alloc: Global, row: &str) -> Result<bool, Memory> {
+    let (source, wanted) = row.split_once(" ⇒ ").unwrap_or((row, ""));
+    let (status, output) = run(alloc, "solo", source.as_bytes())?;
+    let log = match behind_line(&output) {
+        Some(text) => behind_line(text),
+        None => None,
+    };
+    let given = match log {
+        Some(log) => match behind(log, "load main ") {
+            Some(line) => line.strip_suffix(b"\nend done\n"),
+            None => None,
+        },
+        None => None,
+    };
+    Ok(status == Status::Done && given == Some(wanted.as_bytes()))
+}
+
+/// The first row of a table of sources, each with what its load gives, that gives something else is the failure.
+pub fn check_loads(alloc: Global, table: &'static str) -> Result<(), Fail> {
+    for row in table.lines() {
+        if !row.is_empty() && !loads(alloc, row)? {
             return Err(row.into());
         }
     }

@@ -34,6 +34,12 @@ var a; 'a' + a; ⇒ var a;moduleResult___=\"a\"+a; ⇒ load main return \"aundef
 ((((((((((((((((((((((((((((((((((((((((((((((((((((((((((((((((((((((((((((((((((((((((((((((((((((((((((((((((((((((((((((((((((((((((((((((((((((((((((((((((((((((((((((((((((((((((((((((((((((((((((((((((((((((((((((((((((((((((((((((((((((((((((((((((1)))))))))))))))))))))))))))))))))))))))))))))))))))))))))))))))))))))))))))))))))))))))))))))))))))))))))))))))))))))))))))))))))))))))))))))))))))))))))))))))))))))))))))))))))))))))))))))))))))))))))))))))))))))))))))))))))))))))))))))))))))))))))))))))); ⇒ moduleResult___=1; ⇒ load main return 1
 1+1+1+1+1+1+1+1+1+1+1+1+1+1+1+1+1+1+1+1+1+1+1+1+1+1+1+1+1+1+1+1+1+1+1+1+1+1+1+1+1+1+1+1+1+1+1+1+1+1+1+1+1+1+1+1+1+1+1+1+1+1+1+1+1+1+1+1+1+1+1+1+1+1+1+1+1+1+1+1+1+1+1+1+1+1+1+1+1+1+1+1+1+1+1+1+1+1+1+1+1+1+1+1+1+1+1+1+1+1+1+1+1+1+1+1+1+1+1+1+1+1+1+1+1+1+1; ⇒ moduleResult___=1+1+1+1+1+1+1+1+1+1+1+1+1+1+1+1+1+1+1+1+1+1+1+1+1+1+1+1+1+1+1+1+1+1+1+1+1+1+1+1+1+1+1+1+1+1+1+1+1+1+1+1+1+1+1+1+1+1+1+1+1+1+1+1+1+1+1+1+1+1+1+1+1+1+1+1+1+1+1+1+1+1+1+1+1+1+1+1+1+1+1+1+1+1+1+1+1+1+1+1+1+1+1+1+1+1+1+1+1+1+1+1+1+1+1+1+1+1+1+1+1+1+1+1+1+1+1; ⇒ load main return 127
 var aaaaaaaaaaaaaaaaaaaaaaaaaaaaaaaaaaaaaaaaaaaaaaaaaaaaaaaaaaaaaaaaaaaaaaaaaaaaaaaaaaaaaaaaaaaaaaaaaaaaaaaaaaaaaaaaaaaaaaaaaaaaaaaaaaaaaaaaaaaaaaaaaaaaaaaaaaaaaaaaaaaaaaaaaaaaaaaaaaaaaaaaaaaaaaaaaaaaaaaa; aaaaaaaaaaaaaaaaaaaaaaaaaaaaaaaaaaaaaaaaaaaaaaaaaaaaaaaaaaaaaaaaaaaaaaaaaaaaaaaaaaaaaaaaaaaaaaaaaaaaaaaaaaaaaaaaaaaaaaaaaaaaaaaaaaaaaaaaaaaaaaaaaaaaaaaaaaaaaaaaaaaaaaaaaaaaaaaaaaaaaaaaaaaaaaaaaaaaaaaa; ⇒ var aaaaaaaaaaaaaaaaaaaaaaaaaaaaaaaaaaaaaaaaaaaaaaaaaaaaaaaaaaaaaaaaaaaaaaaaaaaaaaaaaaaaaaaaaaaaaaaaaaaaaaaaaaaaaaaaaaaaaaaaaaaaaaaaaaaaaaaaaaaaaaaaaaaaaaaaaaaaaaaaaaaaaaaaaaaaaaaaaaaaaaaaaaaaaaaaaaaaaaaa;moduleResult___=aaaaaaaaaaaaaaaaaaaaaaaaaaaaaaaaaaaaaaaaaaaaaaaaaaaaaaaaaaaaaaaaaaaaaaaaaaaaaaaaaaaaaaaaaaaaaaaaaaaaaaaaaaaaaaaaaaaaaaaaaaaaaaaaaaaaaaaaaaaaaaaaaaaaaaaaaaaaaaaaaaaaaaaaaaaaaaaaaaaaaaaaaaaaaaaaaaaaaaaa; ⇒ load main return undefined
+while (0) ; ⇒ while(0); ⇒ load main return undefined
+{}; ⇒ {}; ⇒ load main return undefined
+; ⇒ ; ⇒ load main return undefined
+throw 1; ⇒ throw 1; ⇒ load main throw 1
+for (;;) break; ⇒ for(;;)break; ⇒ load main return undefined
+{} ⇒ {} ⇒ load main return undefined
 var length; length; ⇒ var length;moduleResult___=length; ⇒ load main return undefined
 a; var a; var a; ⇒ moduleResult___=a;var a;var a; ⇒ load main return undefined
 'abc'.charAt; ⇒ moduleResult___=___.readPub(\"abc\",\"charAt\"); ⇒ load main return function !text.charAt
@@ -61,18 +67,15 @@ static REFUSALS: &str = "
 1.x; ⇒ refused main lex 6 0
 (((((((((((((((((((((((((((((((((((((((((((((((((((((((((((((((((((((((((((((((((((((((((((((((((((((((((((((((((((((((((((((((((((((((((((((((((((((((((((((((((((((((((((((((((((((((((((((((((((((((((((((((((((((((((((((((((((((((((((((((((((((((((((((((((1))))))))))))))))))))))))))))))))))))))))))))))))))))))))))))))))))))))))))))))))))))))))))))))))))))))))))))))))))))))))))))))))))))))))))))))))))))))))))))))))))))))))))))))))))))))))))))))))))))))))))))))))))))))))))))))))))))))))))))))))))))))))))))))))); ⇒ refused main read 2 0
 1+1+1+1+1+1+1+1+1+1+1+1+1+1+1+1+1+1+1+1+1+1+1+1+1+1+1+1+1+1+1+1+1+1+1+1+1+1+1+1+1+1+1+1+1+1+1+1+1+1+1+1+1+1+1+1+1+1+1+1+1+1+1+1+1+1+1+1+1+1+1+1+1+1+1+1+1+1+1+1+1+1+1+1+1+1+1+1+1+1+1+1+1+1+1+1+1+1+1+1+1+1+1+1+1+1+1+1+1+1+1+1+1+1+1+1+1+1+1+1+1+1+1+1+1+1+1+1; ⇒ refused main read 2 0
-var undefined; ⇒ refused main rule 0 0
-say; ⇒ refused main rule 0 0
-({x: Math}); ⇒ refused main rule 0 0
+say('a'); ⇒ refused main rule 0 0
+function f() {} ⇒ refused main rule 0 0
+({x: Math.abs(1)}); ⇒ refused main rule 0 0
 ({x: 1, x: 2}); ⇒ refused main rule 9 8
 ({x: a, x__: 1, x: 2}); ⇒ refused main rule 10 5
-({eval: 1}); ⇒ refused main rule 0 0
-({}).toString; ⇒ refused main rule 0 0
+({}).eval(); ⇒ refused main rule 0 0
+new Error; ⇒ refused main rule 0 0
 var if; ⇒ refused main read 1 4
 var arguments; ⇒ refused main rule 13 4
-var x, y; ⇒ refused main rule 0 0
-{}; ⇒ refused main rule 0 0
-; ⇒ refused main rule 0 0
 a ⇒ refused main read 1 1
 ({x: 1,}); ⇒ refused main read 1 7
 a = 1; ⇒ refused main rule 10 0
@@ -91,12 +94,9 @@ x = 1 ⇒ refused main read 1 5
 { ⇒ refused main read 1 1
 {{{{{{{{{{{{{{{{{{{{{{{{{{{{{{{{{{{{{{{{{{{{{{{{{{{{{{{{{{{{{{{{{{{{{{{{{{{{{{{{{{{{{{{{{{{{{{{{{{{{{{{{{{{{{{{{{{{{{{{{{{{{{{{{ ⇒ refused main read 1 128
 {{{{{{{{{{{{{{{{{{{{{{{{{{{{{{{{{{{{{{{{{{{{{{{{{{{{{{{{{{{{{{{{{{{{{{{{{{{{{{{{{{{{{{{{{{{{{{{{{{{{{{{{{{{{{{{{{{{{{{{{{{{{{{{{{ ⇒ refused main read 2 0
-if (1) ; ⇒ refused main rule 0 0
+for (var k in {}) ; ⇒ refused main rule 0 0
 var f = function () {}; ⇒ refused main rule 0 0
-({'a b': 1}); ⇒ refused main rule 0 0
-({'for': 1}); ⇒ refused main rule 0 0
 ({'x__': 1}); ⇒ refused main rule 1 2
-({1: 2}); ⇒ refused main rule 0 0
 foo__; ⇒ refused main rule 1 0
 'a'.x__; ⇒ refused main rule 1 4
 __; ⇒ refused main rule 1 0

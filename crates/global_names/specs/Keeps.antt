@@ -1,7 +1,6 @@
 -- The natives of a text name live objects alone.
-use Rattle.std.proofs.Common.{ℕ, true, false, List, [], ◌∷◌, All, length, cond, Option, Some, None, Ok, Err}
-use Rattle.std.proofs.Math.Nat.{le_trans}
-use Rattle.std.proofs.lemmas.List.Elements.{All-head}
+use Rattle.std.proofs.Common.{ℕ, Bool, true, false, List, [], ◌∷◌, All, length, cond, Option, Some, None, Ok, Err, lt_of_lt_of_le, arith}
+use Rattle.std.proofs.lemmas.List.Elements.{All-head, All-push}
 use Rattle.std.specs.Prelude.{codes, nat_lt, Result}
 use Rattle.plans.specs.Plans.{Fault}
 use Rattle.es3_heap.specs.declared.value.Value.{Value}
@@ -10,24 +9,30 @@ use Rattle.es3_heap.specs.Objects.{Objects}
 use Rattle.es3_heap.specs.Making.{array_object}
 use Rattle.es3_convert.specs.Conversions.{and_then, text_of}
 use Rattle.es3_language.specs.Natives.{value_reply}
-use Rattle.es3_live.specs.Live.{IsLive, AreClosed}
+use Rattle.es3_live.specs.Live.{IsLive, AreClosed, Later}
 use Rattle.es3_live.specs.Keeps.{AfterCall, KeepsLive}
-use Rattle.es3_live.proofs.Growth.{later_refl}
+use Rattle.es3_live.proofs.Growth.{all_more, later_refl}
 use Rattle.rows.specs.Rows as r
 use Rattle.rows.specs.Rows.{most_items}
 use Rattle.heap_rows.specs.Doing.{makes, too_long}
-use Rattle.heap_rows.specs.Opening.{built_ins_there}
+use Rattle.heap_rows.specs.Opening.{built_ins_there, runtime_id, imports_id}
 use Rattle.row_outcomes.specs.Arguments.{argument, told}
 use Rattle.row_outcomes.specs.Arrays.{new_array}
 use Rattle.live_rows.specs.Live.{LiveDone}
 use Rattle.live_rows.proofs.Made.{throws_live, array_live, copy_live}
 use Rattle.live_tables.proofs.Among.{built_in_live}
-use Rattle.global_names.specs.declared.natives.Method.{Method}
-use Rattle.global_names.specs.declared.natives.Method.TheVariants as m
-use Rattle.global_names.specs.declared.natives.BuiltIn.{BuiltIn}
-use Rattle.global_names.specs.declared.natives.BuiltIn.TheVariants as b
+use Rattle.guard_runtime.proofs.Live.{load_module_live, guard_live}
+use Rattle.global_names.specs.declared.built_ins.Tool.{Tool}
+use Rattle.global_names.specs.declared.built_ins.Tool.TheVariants as tool
+use Rattle.global_names.specs.declared.built_ins.Method.{Method}
+use Rattle.global_names.specs.declared.built_ins.Method.TheVariants as m
+use Rattle.global_names.specs.declared.built_ins.BuiltIn.{BuiltIn}
+use Rattle.global_names.specs.declared.built_ins.BuiltIn.TheVariants as b
+use Rattle.global_names.specs.declared.natives.Callee.{Callee}
+use Rattle.global_names.specs.declared.natives.Callee.TheVariants as c
 use Rattle.global_names.specs.Objects.{object_from, array_from}
-use Rattle.global_names.specs.Natives.{method_done, done_of, built_in, answer_of, text_natives, text_fits}
+use Rattle.global_names.specs.BuiltIns.{tool_done, method_done, done_of}
+use Rattle.global_names.specs.Natives.{Said, callee_of, can_wait, say_done, with_line, later_done, with_waiting, done_by, kept_by, answer_of, text_natives, text_fits}
 
 -- the functions that are no rows
 
@@ -67,7 +72,16 @@ argument_live : (n : ℕ) (vs : List Value) → All (IsLive n) vs → IsLive n (
 argument_live n [] live = tt
 argument_live n (x ∷ vs) live = All-head (IsLive n) x vs live
 
--- all of them
+-- the rows
+
+tool_live : (f : Tool) (by : ℕ) (this : Value) (args : List Value) (h : Objects) → built_ins_there h → AreClosed h → IsLive (length h.list) this → All (IsLive (length h.list)) args → LiveDone h (tool_done f by this args h)
+tool_live tool.Freeze by this args h there closed a b = built_in_live r.freeze by this args h there closed a b
+tool_live tool.IsFrozen by this args h there closed a b = built_in_live r.is_frozen by this args h there closed a b
+tool_live tool.Copy by this args h there closed a b = built_in_live r.copy by this args h there closed a b
+tool_live tool.Snapshot by this args h there closed a b = built_in_live r.snapshot by this args h there closed a b
+tool_live tool.IsArray by this args h there closed a b = built_in_live r.is_array by this args h there closed a b
+tool_live tool.IsRecord by this args h there closed a b = built_in_live r.is_record by this args h there closed a b
+tool_live tool.Keys by this args h there closed a b = built_in_live r.keys by this args h there closed a b
 
 method_live : (f : Method) (by : ℕ) (this : Value) (args : List Value) (h : Objects) → built_ins_there h → AreClosed h → IsLive (length h.list) this → All (IsLive (length h.list)) args → LiveDone h (method_done f by this args h)
 method_live m.CharAt by this args h there closed a b = built_in_live r.char_at by this args h there closed a b
@@ -88,6 +102,7 @@ method_live m.Shift by this args h there closed a b = built_in_live r.shift by t
 method_live m.Reverse by this args h there closed a b = built_in_live r.turn by this args h there closed a b
 
 done_live : (f : BuiltIn) (by : ℕ) (this : Value) (args : List Value) (h : Objects) → built_ins_there h → AreClosed h → IsLive (length h.list) this → All (IsLive (length h.list)) args → LiveDone h (done_of f by this args h)
+done_live (b.Tool f) by this args h there closed a l = tool_live f by this args h there closed a l
 done_live b.Abs by this args h there closed a l = built_in_live r.abs by this args h there closed a l
 done_live b.Floor by this args h there closed a l = built_in_live r.floor by this args h there closed a l
 done_live b.Ceil by this args h there closed a l = built_in_live r.ceil by this args h there closed a l
@@ -109,16 +124,56 @@ done_live b.Array by this args h there closed a l = array_from_live by args h cl
 done_live b.ToString by this args h there closed a l = text_live (text_of h this) h closed
 done_live b.ValueOf by this args h there closed a l = record { later = later_refl h; closed = closed; answer = a }
 
-answer_live : (f : Option BuiltIn) (by : ℕ) (this : Value) (args : List Value) (h : Objects) → built_ins_there h → AreClosed h → IsLive (length h.list) this → All (IsLive (length h.list)) args → AfterCall text_fits h (answer_of f by this args h)
-answer_live (Some f) by this args h there closed a l =
-    let d = done_live f by this args h there closed a l in
-    record { later = d.later; closed = d.closed; answer = d.answer; kept = le_trans there d.later.more }
-answer_live None by this args h there closed a l = record { later = later_refl h; closed = closed; answer = tt; kept = there }
+-- a text's own functions
+
+say_live : (t : Result (List ℕ) Fault) (h : Objects) → AreClosed h → LiveDone h (say_done t h)
+say_live (Ok us) h closed = record { later = later_refl h; closed = closed; answer = tt }
+say_live (Err f) h closed = record { later = later_refl h; closed = closed; answer = tt }
+
+later_live : (waits : Bool) (by : ℕ) (h : Objects) → AreClosed h → LiveDone h (later_done waits by h)
+later_live true by h closed = record { later = later_refl h; closed = closed; answer = tt }
+later_live false by h closed = throws_live by (codes "bad argument") h [] closed
+
+line_fits : (t : Result (List ℕ) Fault) (h : Objects) (z : Said) → text_fits z h → text_fits (with_line t z) h
+line_fits (Ok us) h z fits = fits
+line_fits (Err f) h z fits = fits
+
+waiting_fits : (waits : Bool) (x : Value) (h : Objects) (z : Said) → text_fits z h → IsLive (length h.list) x → text_fits (with_waiting waits x z) h
+waiting_fits true x h z fits live = (fits.0, All-push (IsLive (length h.list)) z.queue x fits.1 live)
+waiting_fits false x h z fits live = fits
+
+-- all of them
+
+all_there : (z : Said) (h : Objects) → text_fits z h → built_ins_there h
+all_there z h fits = let many = fits.0 in omega (arith, many)
+
+callee_live : (f : Callee) (by : ℕ) (this : Value) (args : List Value) (h : Objects) (z : Said) → text_fits z h → AreClosed h → IsLive (length h.list) this → All (IsLive (length h.list)) args → LiveDone h (done_by f by this args h)
+callee_live (c.BuiltIn f) by this args h z fits closed a l = done_live f by this args h (all_there z h fits) closed a l
+callee_live c.Say by this args h z fits closed a l = say_live (text_of h (argument 0 args)) h closed
+callee_live c.Later by this args h z fits closed a l = later_live (can_wait h (argument 0 args)) by h closed
+callee_live c.LoadModule by this args h z fits closed a l = load_module_live runtime_id imports_id by (argument 0 args) h closed (let many = fits.0 in omega (arith, many)) fits.0 (argument_live (length h.list) args l)
+callee_live (c.Guard g) by this args h z fits closed a l = guard_live g by args h (all_there z h fits) closed l
+
+callee_fits : (f : Callee) (args : List Value) (h : Objects) (z : Said) → text_fits z h → All (IsLive (length h.list)) args → text_fits (kept_by f args h z) h
+callee_fits (c.BuiltIn f) args h z fits live = fits
+callee_fits c.Say args h z fits live = line_fits (text_of h (argument 0 args)) h z fits
+callee_fits c.Later args h z fits live = waiting_fits (can_wait h (argument 0 args)) (argument 0 args) h z fits (argument_live (length h.list) args live)
+callee_fits c.LoadModule args h z fits live = fits
+callee_fits (c.Guard g) args h z fits live = fits
+
+fits_later : (z : Said) (h g : Objects) → text_fits z h → Later h g → text_fits z g
+fits_later z h g fits later = (lt_of_lt_of_le fits.0 later.more, all_more z.queue later.more fits.1)
+
+answer_live : (f : Option Callee) (by : ℕ) (this : Value) (args : List Value) (h : Objects) (z : Said) → text_fits z h → AreClosed h → IsLive (length h.list) this → All (IsLive (length h.list)) args → AfterCall text_fits h (answer_of f by this args h z)
+answer_live (Some f) by this args h z fits closed a l =
+    let d = callee_live f by this args h z fits closed a l in
+    record { later = d.later; closed = d.closed; answer = d.answer; kept = fits_later (kept_by f args h z) h (done_by f by this args h).heap (callee_fits f args h z fits l) d.later }
+answer_live None by this args h z fits closed a l = record { later = later_refl h; closed = closed; answer = tt; kept = fits }
 
 pub text_keeps_live : KeepsLive text_fits text_natives
 unfolding text_natives
 text_keeps_live = record {
-  called = λ which by this args h z there closed a l. answer_live (built_in which) by this args h there closed a l;
-  touched = λ i h z there. there;
-  later = λ h g z there later. le_trans there later.more;
+  called = λ which by this args h z fits closed a l. answer_live (callee_of which) by this args h z fits closed a l;
+  touched = λ i h z fits. fits;
+  later = λ h g z fits later. fits_later z h g fits later;
 }

@@ -1,5 +1,6 @@
+pub mod BuiltIns
 pub mod Keeps
 pub mod Natives
 pub mod Objects
 pub mod Opening
-pub mod Outcomes
+pub mod OwnFunctions

@@ -1,76 +1,114 @@
--- The natives of a text that runs as it stands: what each answers, by its number.
-use Rattle.std.specs.Prelude.{ℕ, ◌-◌, List, Option, Some, None, slice_get, nat_lt, if◌then◌else◌, ⊤}
+-- The natives of a text that runs as it stands: what each answers, by its number, and what they keep.
+use Rattle.std.specs.Prelude.{ℕ, ◌<◌, Bool, false, List, [], ◌∷◌, ◌++◌, Option, Some, None, Result, Ok, Err, All, length, is_some, nat_eq, codes, if◌then◌else◌}
+use Rattle.plans.specs.Plans.{Fault}
 use Rattle.es3_heap.specs.declared.value.Value.{Value}
 use Rattle.es3_heap.specs.declared.value.Value.TheVariants as v
-use Rattle.es3_heap.specs.Objects.{Objects}
+use Rattle.es3_heap.specs.declared.value.Class.{Class}
+use Rattle.es3_heap.specs.declared.value.Class.TheVariants as class
+use Rattle.es3_heap.specs.declared.value.FuncKind.{FuncKind}
+use Rattle.es3_heap.specs.declared.value.FuncKind.TheVariants as kind
+use Rattle.es3_heap.specs.Objects.{Objects, object_at, class_of, callable_of}
+use Rattle.es3_heap.specs.Properties.{own}
+use Rattle.es3_heap.specs.Reading.{kind_of}
+use Rattle.es3_convert.specs.Conversions.{text_of}
 use Rattle.es3_language.specs.Natives.{throw_reply, Turn, Table}
-use Rattle.rows.specs.Rows as r
-use Rattle.heap_rows.specs.Doing.{Done}
-use Rattle.heap_rows.specs.Opening.{built_ins_there}
-use Rattle.row_outcomes.specs.Comes.{row_done}
-use Rattle.row_outcomes.specs.Arguments.{argument}
-use Rattle.global_names.specs.declared.natives.Method.{Method}
-use Rattle.global_names.specs.declared.natives.Method.TheVariants as m
-use Rattle.global_names.specs.declared.natives.BuiltIn.{BuiltIn}
-use Rattle.global_names.specs.declared.natives.BuiltIn.TheVariants as b
-use Rattle.global_names.specs.declared.natives.TheConstants.{ROWS, OBJECT_FUNCTIONS}
-use Rattle.global_names.specs.Objects.{object_from, function_from, array_from, to_text, to_value}
+use Rattle.es3_live.specs.Live.{IsLive}
+use Rattle.heap_rows.specs.Marks.{simple_mark}
+use Rattle.heap_rows.specs.Doing.{Done, gives}
+use Rattle.heap_rows.specs.Opening.{load_module as load_module_number, runtime_id, imports_id}
+use Rattle.row_outcomes.specs.Comes.{throws}
+use Rattle.row_outcomes.specs.Arguments.{argument, after}
+use Rattle.guard_runtime.specs.declared.Guard.{Guard}
+use Rattle.guard_runtime.specs.Guards as guards
+use Rattle.module_loader.specs.Answered.{turn_of}
+use Rattle.global_names.specs.declared.built_ins.BuiltIn.{BuiltIn}
+use Rattle.global_names.specs.declared.natives.Callee.{Callee}
+use Rattle.global_names.specs.declared.natives.Callee.TheVariants as c
+use Rattle.global_names.specs.declared.natives.TextNatives.{TextNatives}
+use Rattle.global_names.specs.BuiltIns.{done_of, built_in}
 
--- the row of a method of texts or of arrays
-abbrev pub method_done : Method → ℕ → Value → List Value → Objects → Done
-method_done m.CharAt by this args h = row_done r.char_at by this args h
-method_done m.CharCodeAt by this args h = row_done r.char_code_at by this args h
-method_done m.IndexOf by this args h = row_done r.index_of by this args h
-method_done m.LastIndexOf by this args h = row_done r.last_index_of by this args h
-method_done m.SliceText by this args h = row_done r.slice_text by this args h
-method_done m.Substring by this args h = row_done r.substring by this args h
-method_done m.Split by this args h = row_done r.split by this args h
-method_done m.ConcatText by this args h = row_done r.concat_text by this args h
-method_done m.Concat by this args h = row_done r.concat by this args h
-method_done m.Join by this args h = row_done r.join by this args h
-method_done m.Slice by this args h = row_done r.slice by this args h
-method_done m.Push by this args h = row_done r.push by this args h
-method_done m.Unshift by this args h = row_done r.unshift by this args h
-method_done m.Pop by this args h = row_done r.pop by this args h
-method_done m.Shift by this args h = row_done r.shift by this args h
-method_done m.Reverse by this args h = row_done r.turn by this args h
+-- what is kept: the texts that were said, in order, and the functions that wait to be called
+pub record Said : Type 0 where
+  pub lines : List (List ℕ)
+  pub queue : List Value
 
--- the row of a built-in function; five are no rows, since only texts have them
-abbrev pub done_of : BuiltIn → ℕ → Value → List Value → Objects → Done
-done_of b.Abs by this args h = row_done r.abs by this args h
-done_of b.Floor by this args h = row_done r.floor by this args h
-done_of b.Ceil by this args h = row_done r.ceil by this args h
-done_of b.Round by this args h = row_done r.round by this args h
-done_of b.Max by this args h = row_done r.max by this args h
-done_of b.Min by this args h = row_done r.min by this args h
-done_of b.Number by this args h = row_done r.number_from by this args h
-done_of b.String by this args h = row_done r.text_from by this args h
-done_of b.Boolean by this args h = row_done r.truth_from by this args h
-done_of b.Error by this args h = row_done (r.makes r.error) by this args h
-done_of b.TypeError by this args h = row_done (r.makes r.type_error) by this args h
-done_of b.RangeError by this args h = row_done (r.makes r.range_error) by this args h
-done_of b.Call by this args h = row_done r.call by this args h
-done_of b.Apply by this args h = row_done r.apply by this args h
-done_of (b.Method m) by this args h = method_done m by this args h
-done_of b.Object by this args h = object_from by (argument 0 args) h
-done_of b.Function by this args h = function_from by h
-done_of b.Array by this args h = array_from by args h
-done_of b.ToString by this args h = to_text this h
-done_of b.ValueOf by this args h = to_value this h
+abbrev pub said_of : TextNatives → Said
+said_of n = record { lines = n.lines.items; queue = n.queue.items }
 
--- the built-in function of a number: the rows from 9 on in the order of their numbers, and the five from 59 on; no text has those of `cajita` and of nodes
-abbrev pub built_in : ℕ → Option BuiltIn
-built_in n = if nat_lt n 9 then None else if nat_lt n 59 then slice_get ROWS (n - 9) else slice_get OBJECT_FUNCTIONS (n - 59)
+abbrev pub nothing_said : Said
+nothing_said = record { lines = []; queue = [] }
+
+-- `say` and `later` are a module's own functions, and the numbers of the guards stand behind all others
+
+abbrev pub say_number : ℕ
+say_number = 52
+
+abbrev pub later_number : ℕ
+later_number = 53
+
+abbrev pub other_callee : Option BuiltIn → Option Guard → Option Callee
+other_callee (Some f) g = Some (c.BuiltIn f)
+other_callee None (Some g) = Some (c.Guard g)
+other_callee None None = None
+
+abbrev pub callee_of : ℕ → Option Callee
+callee_of n =
+    if nat_eq n say_number then Some c.Say else if nat_eq n later_number then Some c.Later else if nat_eq n load_module_number then Some c.LoadModule
+    else other_callee (built_in n) (guards.guard_at n)
+
+-- whether a value is a function of a text that modules may use
+abbrev pub is_closure : Bool → Option FuncKind → Bool
+is_closure marked (Some (kind.Code n)) = marked
+is_closure marked k = false
+
+abbrev pub can_wait_by : Class → Objects → ℕ → Bool
+can_wait_by class.Function h o = is_closure (is_some (own h o simple_mark)) (kind_of (callable_of (object_at h o)))
+can_wait_by c h o = false
+
+abbrev pub can_wait : Objects → Value → Bool
+can_wait h (v.Obj o) = can_wait_by (class_of (object_at h o)) h o
+can_wait h x = false
+
+-- say(v): the text of v is kept as a line
+
+abbrev pub say_done : Result (List ℕ) Fault → Objects → Done
+say_done t h = after t h (λ us. gives v.Undefined h [])
+
+abbrev pub with_line : Result (List ℕ) Fault → Said → Said
+with_line (Ok us) z = record { lines = z.lines ++ us ∷ []; queue = z.queue }
+with_line (Err f) z = z
+
+-- later(f): f is kept
+
+abbrev pub later_done : Bool → ℕ → Objects → Done
+later_done waits by h = if waits then gives v.Undefined h [] else throws (codes "bad argument") by h
+
+abbrev pub with_waiting : Bool → Value → Said → Said
+with_waiting waits x z = if waits then record { lines = z.lines; queue = z.queue ++ x ∷ [] } else z
+
+-- what a callee comes to, and what is kept then
+
+abbrev pub done_by : Callee → ℕ → Value → List Value → Objects → Done
+done_by (c.BuiltIn f) by this args h = done_of f by this args h
+done_by c.Say by this args h = say_done (text_of h (argument 0 args)) h
+done_by c.Later by this args h = later_done (can_wait h (argument 0 args)) by h
+done_by c.LoadModule by this args h = guards.load_module runtime_id imports_id by (argument 0 args) h
+done_by (c.Guard g) by this args h = guards.done_of g by args h
+
+abbrev pub kept_by : Callee → List Value → Objects → Said → Said
+kept_by c.Say args h z = with_line (text_of h (argument 0 args)) z
+kept_by c.Later args h z = with_waiting (can_wait h (argument 0 args)) (argument 0 args) z
+kept_by f args h z = z
 
 -- a text has no function of another number, so what one would answer is never asked for
-abbrev pub answer_of : Option BuiltIn → ℕ → Value → List Value → Objects → Turn ⊤
-answer_of (Some f) by this args h = let d = done_of f by this args h in record { reply = d.reply; heap = d.heap; state = tt }
-answer_of None by this args h = record { reply = throw_reply v.Undefined; heap = h; state = tt }
+abbrev pub answer_of : Option Callee → ℕ → Value → List Value → Objects → Said → Turn Said
+answer_of (Some f) by this args h z = turn_of (done_by f by this args h) (kept_by f args h z)
+answer_of None by this args h z = record { reply = throw_reply v.Undefined; heap = h; state = z }
 
 -- no touch is kept yet
-unfoldable pub text_natives : Table ⊤
-text_natives = record { answer = λ which by this args h z. answer_of (built_in which) by this args h; touch = λ i z. z }
+unfoldable pub text_natives : Table Said
+text_natives = record { answer = λ which by this args h z. answer_of (callee_of which) by this args h z; touch = λ i z. z }
 
--- all functions that rows name are there
-abbrev pub text_fits : ⊤ → Objects → Type 0
-text_fits z h = built_ins_there h
+-- all that a page of one module begins with is there, and so are the functions that wait
+abbrev pub text_fits : Said → Objects → Type 0
+text_fits z h = (imports_id < length h.list) × All (IsLive (length h.list)) z.queue

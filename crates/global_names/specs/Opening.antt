@@ -1,5 +1,5 @@
 -- The store in which a text begins that runs as it stands: the global names (ES3 15.1), and what the prototypes have (15.2.4 to 15.11.4). `Object`, `Function` and `Array`
--- stand behind all that a page begins with, and the global object behind them.
+-- stand behind all that a page of one module begins with, and the global object behind them.
 use Rattle.std.specs.Prelude.{ℕ, ◌+◌, true, false, List, [], ◌∷◌, None, map, length, codes}
 use Rattle.es3_heap.specs.declared.value.Value.TheVariants.{Undefined, Obj}
 use Rattle.es3_heap.specs.declared.value.Class.TheVariants as class
@@ -11,8 +11,9 @@ use Rattle.es3_heap.specs.Objects.{Objects, hidden_attrs, fixed_attrs}
 use Rattle.es3_heap.specs.Properties.{define}
 use Rattle.es3_heap.specs.Making.{made, made_function, proto_id}
 use Rattle.rows.specs.Rows as r
-use Rattle.rows.specs.Names.{function_methods, text_methods, array_methods}
-use Rattle.heap_rows.specs.Opening.{place_of, opened}
+use Rattle.rows.specs.Names.{of_math, function_methods, text_methods, array_methods}
+use Rattle.heap_rows.specs.Marks.{call_mark, marked}
+use Rattle.heap_rows.specs.Opening.{runtime_id, place_of, place_of_tools, opened_for_one}
 
 -- the numbers of `Object`, `Function` and `Array`
 abbrev pub object_number : ℕ
@@ -26,7 +27,7 @@ array_number = 61
 
 -- the record `Math`
 abbrev pub math_place : ℕ
-math_place = 19
+math_place = place_of_tools of_math
 
 -- the global functions: the name of each, where it stands, and its prototype; the first three stand from n on
 abbrev pub constructors : ℕ → List (List ℕ × ℕ × Proto)
@@ -76,16 +77,35 @@ unfoldable pub with_prototypes : Objects → Objects
 with_prototypes h =
     with_methods (proto_id proto.Array) (placed array_methods) (with_methods (proto_id proto.String) (placed text_methods) (with_methods (proto_id proto.Function) (placed function_methods) h))
 
+-- the marks of methods that a prototype has and that modules may call
+abbrev pub with_call_marks : ℕ → List (List ℕ) → Objects → Objects
+with_call_marks o [] h = h
+with_call_marks o (k ∷ ks) h = with_call_marks o ks (marked h o (call_mark k))
+
+-- those of arrays that change none, and all of texts
+abbrev pub array_calls : List (List ℕ)
+array_calls = codes "concat" ∷ codes "join" ∷ codes "slice" ∷ []
+
+abbrev pub text_calls : List (List ℕ)
+text_calls = map (λ m. m.0) text_methods
+
+unfoldable pub with_marks : Objects → Objects
+with_marks h = with_call_marks (proto_id proto.Array) array_calls (with_call_marks (proto_id proto.String) text_calls h)
+
+-- the global object, at a place: the global functions, of which the first three stand from n on, `Math`, and the object of the runtime
+abbrev pub with_globals_named : ℕ → ℕ → Objects → Objects
+with_globals_named globals n h = with_hidden globals (codes "___") runtime_id (with_hidden globals (codes "Math") math_place (with_names globals n (with_globals globals h)))
+
 -- `Object`, `Function`, `Array` and the global object stand behind what was there
 abbrev pub named_from : ℕ → Objects → Objects
-named_from n h = with_prototypes (with_hidden (n + 3) (codes "Math") math_place (with_names (n + 3) n (with_globals (n + 3) (with_functions h))))
+named_from n h = with_marks (with_prototypes (with_globals_named (n + 3) n (with_functions h)))
 
 unfoldable pub with_global_names : Objects → Objects
 with_global_names h = named_from (length h.list) h
 
 unfoldable pub text_objects : Objects
-text_objects = with_global_names opened
+text_objects = with_global_names opened_for_one
 
--- what a page begins with are 70 objects
+-- what a page of one module begins with are 85 objects
 abbrev pub text_globals : ℕ
-text_globals = 73
+text_globals = 88

@@ -1,234 +1,208 @@
-//! The natives of a text that runs as it stands: the built-in functions (ES3 15), each by its number.
+//! What a text that runs as it stands may call, each by its number, and what that keeps.
 
-ghost use Rattle.std.specs.Prelude.{◌≡◌, ◌≤◌, ⊤, length, slice_get};
-ghost use Rattle.es3_heap.specs.Objects.{Objects};
+ghost use Rattle.std.specs.Prelude.{◌≡◌, ◌≤◌, true, IfOk, OnOk, is_some, length};
+ghost use Rattle.es3_heap.specs.Objects.{object_at, class_of};
+ghost use Rattle.es3_heap.specs.Properties.{own};
+ghost use Rattle.heap_rows.specs.Marks.{simple_mark};
+ghost use Rattle.es3_convert.specs.Conversions.{text_of};
 ghost use Rattle.es3_moves.specs.Answers.{Answers};
-ghost use Rattle.row_outcomes.specs.Comes.{Comes};
-ghost use Rattle.global_names.specs.Natives.{method_done, done_of, built_in, answer_of, text_natives, text_fits};
-ghost use Rattle.global_names.specs.Outcomes.{answered};
+ghost use Rattle.global_names.specs.Natives.{Said, said_of, nothing_said, callee_of, is_closure, can_wait_by, can_wait, say_done, with_line, later_done, with_waiting, done_by, kept_by, text_natives, text_fits};
+ghost use Rattle.module_loader.specs.Answered.{answered, turn_of};
 ghost use Rattle.global_names.specs.Keeps.{text_keeps_live};
 
-use crate::objects::{array_from, function_from, object_from, to_string, value_of};
-use builtin_array::{concat, join, pop, push, reverse, shift, slice, unshift};
-use builtin_core::{
-    abs, apply_function, call_function, ceil, floor, max, min, new_error, new_range_error,
-    new_type_error, number_from, round, text_from, truth_from,
-};
-use builtin_string::{
-    char_at, char_code_at, concat_text, index_of, last_index_of, slice_text, split, substring,
-};
+use crate::built_ins::{BuiltIn, built_in, done};
 use caja_units::{Memory, Units};
-use es3_heap::{Heap, Stop, Tag, Value};
+use es3_convert::{out_of_memory, to_text};
+use es3_heap::{Class, FuncKind, Heap, ObjId, Stop, Tag, Value};
 use es3_language::Touch;
 use es3_moves::natives::{Answer, Natives};
-use row_outcomes::Outcome;
+use guard_marks::SIMPLE_MARK;
+use guard_runtime::{Guard, call_guard, guard_at, load_module};
+use module_loader::answer_of;
+use row_outcomes::{Outcome, thrown, value_or};
 use std::alloc::Global;
 
-/// A method of texts or of arrays (ES3 15.5.4, 15.4.4).
+/// The number of `say`.
+const SAY: u32 = 52;
+
+/// The number of `later`.
+const LATER: u32 = 53;
+
+/// The number of `loadModule`.
+const LOAD_MODULE: u32 = 64;
+
+/// The object of the runtime, and that of what a module may import.
+const RUNTIME: u32 = 10;
+
+const IMPORTS: u32 = 84;
+
+/// What a text may call.
 #[derive(Clone, Copy, Debug)]
-pub enum Method {
-    CharAt,
-    CharCodeAt,
-    IndexOf,
-    LastIndexOf,
-    SliceText,
-    Substring,
-    Split,
-    ConcatText,
-    Concat,
-    Join,
-    Slice,
-    Push,
-    Unshift,
-    Pop,
-    Shift,
-    Reverse,
+pub enum Callee {
+    BuiltIn(BuiltIn),
+    Say,
+    Later,
+    LoadModule,
+    Guard(Guard),
 }
 
-/// A built-in function of a text.
-#[derive(Clone, Copy, Debug)]
-pub enum BuiltIn {
-    Abs,
-    Floor,
-    Ceil,
-    Round,
-    Max,
-    Min,
-    Number,
-    String,
-    Boolean,
-    Error,
-    TypeError,
-    RangeError,
-    Call,
-    Apply,
-    Method(Method),
-    Object,
-    Function,
-    Array,
-    ToString,
-    ValueOf,
-}
-
-/// The number of the first of the rows.
-const FIRST_ROW: u32 = 9;
-
-/// The number of the first of the functions that are no rows.
-const FIRST_OBJECT_FUNCTION: u32 = 59;
-
-/// The rows in the order of their numbers.
-const ROWS: [BuiltIn; 30] = [
-    BuiltIn::Abs,
-    BuiltIn::Floor,
-    BuiltIn::Ceil,
-    BuiltIn::Round,
-    BuiltIn::Max,
-    BuiltIn::Min,
-    BuiltIn::Number,
-    BuiltIn::String,
-    BuiltIn::Boolean,
-    BuiltIn::Error,
-    BuiltIn::TypeError,
-    BuiltIn::RangeError,
-    BuiltIn::Call,
-    BuiltIn::Apply,
-    BuiltIn::Method(Method::CharAt),
-    BuiltIn::Method(Method::CharCodeAt),
-    BuiltIn::Method(Method::IndexOf),
-    BuiltIn::Method(Method::LastIndexOf),
-    BuiltIn::Method(Method::SliceText),
-    BuiltIn::Method(Method::Substring),
-    BuiltIn::Method(Method::Split),
-    BuiltIn::Method(Method::ConcatText),
-    BuiltIn::Method(Method::Concat),
-    BuiltIn::Method(Method::Join),
-    BuiltIn::Method(Method::Slice),
-    BuiltIn::Method(Method::Push),
-    BuiltIn::Method(Method::Unshift),
-    BuiltIn::Method(Method::Pop),
-    BuiltIn::Method(Method::Shift),
-    BuiltIn::Method(Method::Reverse),
-];
-
-/// The functions that are no rows, in the order of their numbers.
-const OBJECT_FUNCTIONS: [BuiltIn; 5] = [
-    BuiltIn::Object,
-    BuiltIn::Function,
-    BuiltIn::Array,
-    BuiltIn::ToString,
-    BuiltIn::ValueOf,
-];
-
-/// The function at a place, where there is one.
-fn function_at(functions: &[BuiltIn], place: u32) -> Option<BuiltIn>
-    ensures { result ≡ slice_get functions.now place }
+/// What a number stands for, where a text may call it.
+fn callee_of(which: u32) -> Option<Callee>
+    ensures { result ≡ callee_of which }
 {
-    functions.get(place as usize).copied()
-}
-
-/// The built-in function of a number, where a text has it.
-fn built_in(which: u32) -> Option<BuiltIn>
-    ensures { result ≡ built_in which }
-{
-    if which < FIRST_ROW {
-        None
-    } else if which < FIRST_OBJECT_FUNCTION {
-        function_at(&ROWS, which - FIRST_ROW)
-    } else {
-        function_at(&OBJECT_FUNCTIONS, which - FIRST_OBJECT_FUNCTION)
+    match which {
+        SAY => Some(Callee::Say),
+        LATER => Some(Callee::Later),
+        LOAD_MODULE => Some(Callee::LoadModule),
+        _ => match built_in(which) {
+            Some(function) => Some(Callee::BuiltIn(function)),
+            None => Some(Callee::Guard(guard_at(which)?)),
+        },
     }
 }
 
-/// What a method of a text or an array comes to.
-fn method_done(
-    alloc: Global,
-    h: &mut Heap,
-    method: Method,
-    by: u32,
-    this: &Value,
-    args: &[Value],
-) -> Result<Outcome, Stop>
-    ensures outcome { Comes (method_done method by this.now args.now h.old) result h.new }
-    ensures live { length h.old.list ≤ length h.new.list }
+/// Whether a kind of function, with or without the mark of one that modules may use, is that of a function of a text with it.
+fn is_closure(marked: bool, kind: Option<FuncKind>) -> bool
+    ensures { result ≡ is_closure marked kind }
 {
-    match method {
-        Method::CharAt => char_at(alloc, h, by, this, args),
-        Method::CharCodeAt => char_code_at(alloc, h, by, this, args),
-        Method::IndexOf => index_of(alloc, h, by, this, args),
-        Method::LastIndexOf => last_index_of(alloc, h, by, this, args),
-        Method::SliceText => slice_text(alloc, h, by, this, args),
-        Method::Substring => substring(alloc, h, by, this, args),
-        Method::Split => split(alloc, h, by, this, args),
-        Method::ConcatText => concat_text(alloc, h, by, this, args),
-        Method::Concat => concat(alloc, h, by, this, args),
-        Method::Join => join(alloc, h, by, this, args),
-        Method::Slice => slice(alloc, h, by, this, args),
-        Method::Push => push(alloc, h, by, this, args),
-        Method::Unshift => unshift(alloc, h, by, this, args),
-        Method::Pop => pop(alloc, h, by, this, args),
-        Method::Shift => shift(alloc, h, by, this, args),
-        Method::Reverse => reverse(alloc, h, by, this, args),
+    match kind {
+        Some(FuncKind::Code(_)) => marked,
+        _ => false,
     }
 }
 
-/// What a built-in function comes to.
-fn done(
-    alloc: Global,
-    h: &mut Heap,
-    function: BuiltIn,
-    by: u32,
-    this: &Value,
-    args: &[Value],
-) -> Result<Outcome, Stop>
-    ensures outcome { Comes (done_of function by this.now args.now h.old) result h.new }
-    ensures live { length h.old.list ≤ length h.new.list }
+/// Whether an object has the mark of a function that modules may use.
+fn is_simple(alloc: Global, h: &Heap, o: ObjId) -> Result<bool, Memory>
+    ensures { IfOk result (λ b. b ≡ is_some (own h.now o simple_mark)) }
 {
-    match function {
-        BuiltIn::Abs => abs(alloc, h, by, this, args),
-        BuiltIn::Floor => floor(alloc, h, by, this, args),
-        BuiltIn::Ceil => ceil(alloc, h, by, this, args),
-        BuiltIn::Round => round(alloc, h, by, this, args),
-        BuiltIn::Max => max(alloc, h, by, this, args),
-        BuiltIn::Min => min(alloc, h, by, this, args),
-        BuiltIn::Number => number_from(alloc, h, by, this, args),
-        BuiltIn::String => text_from(alloc, h, by, this, args),
-        BuiltIn::Boolean => truth_from(h, by, this, args),
-        BuiltIn::Error => new_error(alloc, h, by, this, args),
-        BuiltIn::TypeError => new_type_error(alloc, h, by, this, args),
-        BuiltIn::RangeError => new_range_error(alloc, h, by, this, args),
-        BuiltIn::Call => call_function(alloc, h, by, this, args),
-        BuiltIn::Apply => apply_function(alloc, h, by, this, args),
-        BuiltIn::Object => object_from(alloc, h, by, args),
-        BuiltIn::Function => function_from(alloc, h, by),
-        BuiltIn::Array => array_from(alloc, h, by, args),
-        BuiltIn::ToString => to_string(alloc, h, this),
-        BuiltIn::ValueOf => value_of(alloc, h, this),
-        BuiltIn::Method(method) => method_done(alloc, h, method, by, this, args),
+    let mark = Units::from_ascii(alloc, SIMPLE_MARK)?;
+    Ok(h.own(o, &mark).is_some())
+}
+
+/// Whether an object is a function of a text that modules may use.
+fn object_can_wait(alloc: Global, h: &Heap, o: ObjId) -> Result<bool, Memory>
+    ensures { IfOk result (λ b. b ≡ can_wait_by (class_of (object_at h.now o)) h.now o) }
+{
+    match h.class(o) {
+        Class::Function => Ok(is_closure(is_simple(alloc, h, o)?, h.kind(o))),
+        _ => Ok(false),
     }
 }
 
-/// The answer of a native that comes to this.
-fn answer_of(outcome: Result<Outcome, Stop>) -> Answer
-    ensures { result ≡ answered outcome }
+/// Whether a value is a function of a text that modules may use.
+fn can_wait(alloc: Global, h: &Heap, value: &Value) -> Result<bool, Memory>
+    ensures { IfOk result (λ b. b ≡ can_wait h.now value.now) }
 {
-    match outcome {
-        Ok(Outcome::Value(value)) => Answer::Value(value),
-        Ok(Outcome::Throw(value)) => Answer::Throw(value),
-        Ok(Outcome::Invoke(recorded, function, this, args)) => {
-            Answer::Invoke(recorded, function, this, args)
-        }
-        Err(stop) => Answer::Stop(stop),
+    match value {
+        Value::Obj(o) => object_can_wait(alloc, h, *o),
+        _ => Ok(false),
     }
 }
 
-/// The natives of a text.
+/// The natives of a text, which keep what it said and what it wants to be called later.
 #[derive(Drop)]
-pub struct TextNatives;
+pub struct TextNatives {
+    /// The texts that were said, in order.
+    pub lines: Vec<Units>,
+    /// The functions that wait to be called, in order.
+    pub queue: Vec<Value>,
+}
+
+impl TextNatives {
+    /// Natives of which none was called.
+    pub fn new(alloc: Global) -> TextNatives
+        ensures { said_of result ≡ nothing_said }
+    {
+        TextNatives {
+            lines: Vec::new(alloc),
+            queue: Vec::new(alloc),
+        }
+    }
+
+    /// Keeps a text as the last line.
+    fn keep_line(&mut self, text: Units) -> Result<(), Memory>
+        ensures { OnOk result (said_of self.new ≡ with_line (Ok text) (said_of self.old)) }
+    {
+        self.lines.push(text)?;
+        Ok(())
+    }
+
+    /// Keeps a function as the last one that waits.
+    fn keep_waiting(&mut self, function: Value) -> Result<(), Memory>
+        ensures { OnOk result (said_of self.new ≡ with_waiting true function (said_of self.old)) }
+    {
+        self.queue.push(function)?;
+        Ok(())
+    }
+
+    /// `say(v)`: the text of the argument is kept as a line. The run stops where it has none.
+    fn say(&mut self, alloc: Global, h: &Heap, value: &Value) -> Result<Outcome, Stop>
+        ensures { let text = text_of h.now value.now in Answers (turn_of (say_done text h.now) (with_line text (said_of self.old))) (answered result) h.now (said_of self.new) }
+    {
+        let text = to_text(alloc, h, value)?;
+        self.keep_line(text).map_err(out_of_memory)?;
+        Ok(Outcome::Value(Value::Undefined))
+    }
+
+    /// `later(f)`: the argument waits to be called. It throws a TypeError `bad argument` where that is no function of a text
+    /// that modules may use.
+    fn later(
+        &mut self,
+        alloc: Global,
+        h: &mut Heap,
+        by: u32,
+        value: &Value,
+    ) -> Result<Outcome, Stop>
+        ensures answers { let waits = can_wait h.old value.now in Answers (turn_of (later_done waits by h.old) (with_waiting waits value.now (said_of self.old))) (answered result) h.new (said_of self.new) }
+        ensures live { length h.old.list ≤ length h.new.list }
+    {
+        if !can_wait(alloc, h, value).map_err(out_of_memory)? {
+            return thrown(alloc, h, by, b"bad argument");
+        }
+        let function = value.copy(alloc).map_err(out_of_memory)?;
+        self.keep_waiting(function).map_err(out_of_memory)?;
+        Ok(Outcome::Value(Value::Undefined))
+    }
+
+    /// What a callee comes to.
+    #[tactic(auto, using(module_loader::proofs::Answered::comes_answers))]
+    fn outcome(
+        &mut self,
+        alloc: Global,
+        h: &mut Heap,
+        callee: Callee,
+        by: u32,
+        this: &Value,
+        args: &[Value],
+    ) -> Result<Outcome, Stop>
+        ensures answers { Answers (turn_of (done_by callee by this.now args.now h.old) (kept_by callee args.now h.old (said_of self.old))) (answered result) h.new (said_of self.new) }
+        ensures live { length h.old.list ≤ length h.new.list }
+    {
+        let absent = Value::Undefined;
+        let first = value_or(args, 0, &absent);
+        match callee {
+            Callee::BuiltIn(function) => done(alloc, h, function, by, this, args),
+            Callee::Say => self.say(alloc, h, first),
+            Callee::Later => self.later(alloc, h, by, first),
+            Callee::LoadModule => {
+                load_module(
+                    alloc,
+                    h,
+                    by,
+                    first,
+                    ObjId::new(RUNTIME),
+                    ObjId::new(IMPORTS),
+                )
+            }
+            Callee::Guard(guard) => call_guard(alloc, h, guard, by, args),
+        }
+    }
+}
 
 impl Natives for TextNatives {
-    ghost State = { ⊤ };
+    ghost State = { Said };
 
-    ghost state = { λ _. tt };
+    ghost state = { said_of };
 
     ghost table = { text_natives };
 
@@ -244,8 +218,8 @@ impl Natives for TextNatives {
         this: &Value,
         args: &[Value],
     ) -> Answer {
-        match built_in(which) {
-            Some(function) => answer_of(done(alloc, h, function, by, this, args)),
+        match callee_of(which) {
+            Some(callee) => answer_of(self.outcome(alloc, h, callee, by, this, args)),
             None => Answer::Throw(Value::Undefined),
         }
     }

@@ -2,10 +2,12 @@
 
 ghost use Rattle.std.specs.Prelude.{◌≡◌, ◌≤◌, ◌+◌, IfOk, OnOk, length, map};
 ghost use Rattle.es3_heap.specs.Making.{proto_id};
-ghost use Rattle.global_names.specs.Opening.{with_hidden, with_constructor, with_constructors, with_names, with_methods, with_functions, with_globals, with_prototypes, with_global_names};
+ghost use Rattle.heap_rows.specs.Marks.{call_mark, marked};
+ghost use Rattle.global_names.specs.Opening.{with_hidden, with_constructor, with_constructors, with_names, with_methods, with_call_marks, with_functions, with_globals, with_prototypes, with_marks, with_global_names};
 
 use caja_units::{Memory, Units};
 use es3_heap::{Attrs, Class, FuncKind, Heap, ObjId, Proto, Value};
+use row_outcomes::{ARRAY_METHODS, FUNCTION_METHODS, TEXT_METHODS};
 use std::alloc::Global;
 
 /// The attributes of `undefined` (ES3 15.1.1.3): it may be written, and not deleted.
@@ -24,34 +26,28 @@ const FUNCTION: u32 = 60;
 const ARRAY: u32 = 61;
 
 /// The record `Math`.
-const MATH: u32 = 19;
+const MATH: u32 = 31;
 
-/// The methods of functions: the name of each, and where it stands.
-const FUNCTION_METHODS: [(&[u8], u32); 2] = [(b"call", 39), (b"apply", 40)];
+/// The object of the runtime, which has the guards.
+const RUNTIME: u32 = 10;
 
-/// The methods of texts.
-const TEXT_METHODS: [(&[u8], u32); 8] = [
-    (b"charAt", 41),
-    (b"charCodeAt", 42),
-    (b"indexOf", 43),
-    (b"lastIndexOf", 44),
-    (b"slice", 45),
-    (b"substring", 46),
-    (b"split", 47),
-    (b"concat", 48),
+/// The methods of arrays that change none: modules may call them.
+const ARRAY_CALLS: [&[u8]; 3] = [b"concat", b"join", b"slice"];
+
+/// The methods of texts, which modules may call.
+const TEXT_CALLS: [&[u8]; 8] = [
+    b"charAt",
+    b"charCodeAt",
+    b"indexOf",
+    b"lastIndexOf",
+    b"slice",
+    b"substring",
+    b"split",
+    b"concat",
 ];
 
-/// The methods of arrays.
-const ARRAY_METHODS: [(&[u8], u32); 8] = [
-    (b"concat", 49),
-    (b"join", 50),
-    (b"slice", 51),
-    (b"push", 52),
-    (b"unshift", 53),
-    (b"pop", 54),
-    (b"shift", 55),
-    (b"reverse", 56),
-];
+/// How the key of a mark for calling ends.
+const CALL_END: &[u8] = b"_canCall___";
 
 /// Gives an object a property that `for in` passes over and that holds an object.
 fn hide(alloc: Global, heap: &mut Heap, o: ObjId, name: &[u8], place: u32) -> Result<(), Memory>
@@ -115,12 +111,12 @@ fn add_names(alloc: Global, heap: &mut Heap, first: u32, globals: ObjId) -> Resu
         (b"Object", first, Proto::Object),
         (b"Function", first + 1, Proto::Function),
         (b"Array", first + 2, Proto::Array),
-        (b"String", 34, Proto::String),
-        (b"Number", 33, Proto::Number),
-        (b"Boolean", 35, Proto::Boolean),
-        (b"Error", 36, Proto::Error),
-        (b"TypeError", 37, Proto::TypeError),
-        (b"RangeError", 38, Proto::RangeError),
+        (b"String", 46, Proto::String),
+        (b"Number", 45, Proto::Number),
+        (b"Boolean", 47, Proto::Boolean),
+        (b"Error", 48, Proto::Error),
+        (b"TypeError", 49, Proto::TypeError),
+        (b"RangeError", 50, Proto::RangeError),
     ];
     add_constructors(alloc, heap, globals, &constructors)
 }
@@ -152,6 +148,42 @@ fn add_prototypes(alloc: Global, heap: &mut Heap) -> Result<(), Memory>
     add_methods(alloc, heap, Proto::Array, &ARRAY_METHODS)
 }
 
+/// Marks a method of an object as one that modules may call.
+fn add_call_mark(alloc: Global, heap: &mut Heap, o: ObjId, name: &[u8]) -> Result<(), Memory>
+    ensures store { OnOk result (heap.new ≡ marked heap.old o (call_mark name.now)) }
+    ensures live { length heap.new.list ≡ length heap.old.list }
+{
+    let end = Units::from_ascii(alloc, CALL_END)?;
+    let mark = Units::from_ascii(alloc, name)?.join(alloc, &end)?;
+    heap.define(o, &mark, Value::Bool(true), Attrs::HIDDEN)
+}
+
+/// Marks methods of a prototype as ones that modules may call.
+fn add_call_marks(
+    alloc: Global,
+    heap: &mut Heap,
+    proto: Proto,
+    names: &[&[u8]],
+) -> Result<(), Memory>
+    ensures store { OnOk result (heap.new ≡ with_call_marks (proto_id proto) (map (λ k. k.now) names.now) heap.old) }
+    ensures live { length heap.new.list ≡ length heap.old.list }
+{
+    let proto = heap.proto(proto);
+    for name in names {
+        add_call_mark(alloc, heap, proto, name)?;
+    }
+    Ok(())
+}
+
+/// Marks the methods of arrays and of texts that modules may call.
+fn add_marks(alloc: Global, heap: &mut Heap) -> Result<(), Memory>
+    ensures store { OnOk result (heap.new ≡ with_marks heap.old) }
+    ensures live { length heap.new.list ≡ length heap.old.list }
+{
+    add_call_marks(alloc, heap, Proto::String, &TEXT_CALLS)?;
+    add_call_marks(alloc, heap, Proto::Array, &ARRAY_CALLS)
+}
+
 /// Makes `Object`, `Function` and `Array`. The answer is the first of them.
 fn add_functions(heap: &mut Heap) -> Result<ObjId, Memory>
     ensures id { IfOk result (λ o. o ≡ length heap.old.list) }
@@ -176,8 +208,9 @@ fn add_globals(alloc: Global, heap: &mut Heap) -> Result<ObjId, Memory>
     Ok(globals)
 }
 
-/// Makes the global object of a text behind what a page begins with: the global functions, `Math` and `undefined`, and the
-/// methods of the prototypes (ES3 15). The answer is the global object.
+/// Makes the global object of a text behind what a page begins with: the global functions, `Math`, `undefined` and the object
+/// of the runtime, `___`; and the methods of the prototypes (ES3 15), with marks of those that modules may call. The answer is
+/// the global object.
 ///
 /// # Errors
 ///
@@ -191,6 +224,8 @@ pub fn add_global_names(alloc: Global, heap: &mut Heap) -> Result<ObjId, Memory>
     let globals = add_globals(alloc, heap)?;
     add_names(alloc, heap, object.number(), globals)?;
     hide(alloc, heap, globals, b"Math", MATH)?;
+    hide(alloc, heap, globals, b"___", RUNTIME)?;
     add_prototypes(alloc, heap)?;
+    add_marks(alloc, heap)?;
     Ok(globals)
 }

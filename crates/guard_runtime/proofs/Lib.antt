@@ -1,3 +1,4 @@
-mod Keyed
-mod Reading
+pub mod Pairs
+pub mod ArgsRow
+pub mod GuardNames
 pub mod Live

@@ -1,136 +1,139 @@
--- What guards answer names live objects alone, and they keep objects closed.
-use Rattle.std.proofs.Common.{◌≡◌, ℕ, ◌<◌, ◌≤◌, Bool, true, false, ◌||◌, ◌&&◌, not, List, [], ◌∷◌, Option, Some, None, Result, Ok, Err, All, length, cond, refl, subst, arith}
-use Rattle.std.specs.Prelude.{nat_eq, nat_lt, is_some, codes}
-use Rattle.std.proofs.lemmas.Bool.Decides.{nat_tests}
+-- What guards come to names live objects alone, and they keep objects closed.
+use Rattle.std.proofs.Common.{◌≡◌, ℕ, zero, suc, ◌+◌, ◌<◌, ◌≤◌, Bool, true, false, List, [], ◌∷◌, Option, Some, None, Result, Ok, Err, All, length, arith}
+use Rattle.std.specs.Prelude.{codes}
 use Rattle.std.proofs.lemmas.List.Elements.{All-nil, All-cons, All-head, All-tail, All-weaker}
 use Rattle.plans.specs.Plans.{Fault}
-use Rattle.caja_units.specs.Units.{same_units, is_hidden}
-use Rattle.caja_units.specs.Index.{array_index, number_units}
 use Rattle.es3_heap.specs.declared.value.Value.{Value}
 use Rattle.es3_heap.specs.declared.value.Value.TheVariants as v
 use Rattle.es3_heap.specs.declared.value.Class.{Class}
 use Rattle.es3_heap.specs.declared.value.Class.TheVariants as class
 use Rattle.es3_heap.specs.declared.value.Proto.TheVariants as proto
-use Rattle.es3_heap.specs.declared.value.Stop.TheVariants as stop
-use Rattle.es3_heap.specs.Objects.{Objects, plain_attrs, hidden_attrs, object_at, class_of, callable_of, with_object}
-use Rattle.es3_heap.specs.Properties.{own, length_key, define}
-use Rattle.es3_heap.specs.Reading.{kind_of}
-use Rattle.es3_heap.specs.Making.{proto_id, plain_object, made, error_object}
-use Rattle.es3_convert.specs.Conversions.{and_then, text_of, array_items}
+use Rattle.es3_heap.specs.Objects.{Objects, plain_attrs, hidden_attrs, object_at, class_of}
+use Rattle.es3_heap.specs.Properties.{own, value_of, length_key, define}
+use Rattle.es3_heap.specs.Making.{proto_id, plain_object, made}
+use Rattle.es3_convert.specs.Conversions.{and_then, text_of}
 use Rattle.es3_live.specs.Live.{IsLive, AreClosed}
 use Rattle.es3_live.proofs.Growth.{live_more, later_refl}
 use Rattle.es3_live.proofs.Reading.{own_live, array_items_live}
 use Rattle.es3_live.proofs.Writing.{Grown, same_objects, grown_trans, define_grown, named_grown}
-use Rattle.es3_live.proofs.Making.{made_grown, error_grown, new_within, proto_there}
-use Rattle.rows.specs.Rows.{Native}
-use Rattle.rows.specs.Names.{text_methods, array_methods, function_methods}
-use Rattle.heap_rows.specs.Marks.{read_mark, grant_read, simple_mark}
-use Rattle.heap_rows.specs.Opening.{place_of, built_ins_there, initialize_map as initialize_map_number, read_public as read_public_number}
-use Rattle.guard_runtime.specs.declared.reply.Guarded.{Guarded}
-use Rattle.guard_runtime.specs.declared.reply.Guarded.TheVariants as g
-use Rattle.guard_runtime.specs.Guards.{Row, argument, thrown, read_pub, keyed, with_pairs, new_record, record_of, initialize_map, guard}
-use Rattle.guard_runtime.specs.Reading.{method_value, item_count, item_or_method, is_for_modules, object_value, public_value, public_read, record_read, after_read}
-use Rattle.guard_runtime.specs.Answers.{GuardAnswers}
-use Rattle.guard_runtime.specs.Live.{LiveRow, LeavesLive}
-use Rattle.guard_runtime.proofs.Reading.{read_by_text, read_row, read_pub-is}
+use Rattle.es3_live.proofs.Making.{made_grown, new_within, proto_there}
+use Rattle.rows.specs.Rows.{Native, Row}
+use Rattle.rows.specs.Guards as rows
+use Rattle.heap_rows.specs.Natives.{is_common}
+use Rattle.heap_rows.specs.Marks.{simple_mark, frozen_mark, marked}
+use Rattle.heap_rows.specs.Doing.{Done}
+use Rattle.heap_rows.specs.Opening.{place_of, built_ins_there, empty_page}
+use Rattle.live_rows.specs.Named.{RowNames}
+use Rattle.live_rows.specs.Live.{IsThere, LiveDone}
+use Rattle.live_rows.proofs.Named.{common_there}
+use Rattle.live_rows.proofs.Rows.{does_live}
+use Rattle.live_rows.proofs.Ends.{gives_live, stops_live}
+use Rattle.live_rows.proofs.Made.{throws_live}
+use Rattle.row_outcomes.specs.Comes.{throws}
+use Rattle.row_outcomes.specs.Arguments.{argument, told, after}
+use Rattle.freeze_marks.specs.Records.{with_pairs}
+use Rattle.guard_runtime.specs.declared.Guard.{Guard}
+use Rattle.guard_runtime.specs.declared.Guard.TheVariants as g
+use Rattle.guard_runtime.specs.Guards.{by_row, list_in, list_of, on_list, load_by, load_module, read_import, func_of, func, is_length, counted_items, items_of, initialize_array_of, initialize_array, keyed, new_record, initialize_map, without_list, call_pub_on, done_of}
+use Rattle.guard_runtime.proofs.GuardNames as names
 
--- an answer that is a guard's row is live
-pub leaves_live : (h : Objects) (row : Row) (answer : Guarded) (heap : Objects) → LiveRow h row → GuardAnswers row answer heap → LeavesLive answer heap
-leaves_live h row (g.Value x) heap live is =
-    let l = subst (LiveRow h) is live in
-    (l.closed, l.answer)
-leaves_live h row (g.Throw x) heap live is =
-    let l = subst (LiveRow h) is live in
-    (l.closed, l.answer)
-leaves_live h row (g.Stop stop.Memory) heap live is = tt
-leaves_live h row (g.Stop stop.Number) heap live is = (subst (LiveRow h) is live).closed
-leaves_live h row (g.Stop stop.Depth) heap live is = (subst (LiveRow h) is live).closed
-leaves_live h row (g.Stop stop.Convert) heap live is = (subst (LiveRow h) is live).closed
-leaves_live h row (g.Stop stop.Steps) heap live is = absurd is
+-- arguments
 
-pub thrown_live : (message : List ℕ) (by : ℕ) (h : Objects) → AreClosed h → LiveRow h (thrown message by h)
-thrown_live message by h closed =
-    let x = error_object proto.TypeError (codes "TypeError") message in
-    let first = error_grown h proto.TypeError (codes "TypeError") message closed in
-    let second = named_grown (with_object h x) (length h.list) by first.closed in
-    let new = new_within h x in
-    let more = second.later.more in
-    record { later = (grown_trans first second).later; closed = second.closed; answer = omega arith }
+argument_live : (n i : ℕ) (xs : List Value) → All (IsLive n) xs → IsLive n (argument i xs)
+argument_live n i [] live = tt
+argument_live n zero (x ∷ xs) live = All-head (IsLive n) x xs live
+argument_live n (suc i) (x ∷ xs) live = argument_live n i xs (All-tail (IsLive n) x xs live)
 
--- what readPub answers
+one_live : (n : ℕ) (x : Value) → IsLive n x → All (IsLive n) (x ∷ [])
+one_live n x live = All-cons (IsLive n) x [] live (All-nil (IsLive n))
 
--- a method is one of the built-in functions
-abbrev AreBuilt : List (List ℕ × Native) → Type 0
-AreBuilt [] = Unit {0}
-AreBuilt (m ∷ table) = (nat_lt (place_of m.1) 70 ≡ true) × AreBuilt table
+thrown_live : (message : List ℕ) (by : ℕ) (h : Objects) → AreClosed h → LiveDone h (throws message by h)
+thrown_live message by h closed = throws_live by message h [] closed
 
-below : (a n : ℕ) → nat_lt a 70 ≡ true → 70 ≤ n → a < n
-below a n less many = grind (arith, nat_tests)
+-- the rows of the tables
 
-method_live : (n : ℕ) (table : List (List ℕ × Native)) (k : List ℕ) → AreBuilt table → 70 ≤ n → IsLive n (method_value table k)
-method_live n [] k are many = tt
-method_live n (m ∷ table) k are many =
-    elim (same_units k m.0) as (λ b. IsLive n (cond b (v.Obj (place_of m.1)) (method_value table k))) [
-      | true ↦ below (place_of m.1) n are.0 many
-      | false ↦ method_live n table k are.1 many
-    ]
+row_live : (q : Row) (by : ℕ) (vs : List Value) (h : Objects) → built_ins_there h → AreClosed h → All (IsLive (length h.list)) vs → ((P : Native → Type 0) → ((f : Native) → is_common f ≡ true → P f) → RowNames P q) → LiveDone h (by_row q by vs h)
+row_live q by vs h there closed live named =
+    (does_live place_of by q vs h empty_page [] (named (IsThere place_of h) (λ f common. common_there h f there common)) closed live (record { cells = λ c. tt; queues = λ m. All-nil (IsLive (length h.list)) })).done
 
-function_method_live : (n : ℕ) (k : List ℕ) → 70 ≤ n → IsLive n (method_value function_methods k)
-function_method_live n k many = method_live n function_methods k (refl, (refl, tt)) many
+-- lists
 
-text_method_live : (n : ℕ) (k : List ℕ) → 70 ≤ n → IsLive n (method_value text_methods k)
-text_method_live n k many = method_live n text_methods k (refl, (refl, (refl, (refl, (refl, (refl, (refl, (refl, tt)))))))) many
+abbrev LiveList : ℕ → Option (List Value) → Type 0
+LiveList n None = Unit {0}
+LiveList n (Some xs) = All (IsLive n) xs
 
-array_method_live : (n : ℕ) (k : List ℕ) → 70 ≤ n → IsLive n (method_value array_methods k)
-array_method_live n k many = method_live n array_methods k (refl, (refl, (refl, (refl, (refl, (refl, (refl, (refl, tt)))))))) many
+list_in_live : (c : Class) (h : Objects) (o : ℕ) → AreClosed h → LiveList (length h.list) (list_in c h o)
+list_in_live class.Array h o closed = array_items_live h o closed
+list_in_live c h o closed = tt
 
-live_if : (n : ℕ) (b : Bool) (x y : Value) → IsLive n x → IsLive n y → IsLive n (cond b x y)
-live_if n true x y first second = first
-live_if n false x y first second = second
+list_live : (h : Objects) (x : Value) → AreClosed h → LiveList (length h.list) (list_of h x)
+list_live h (v.Obj o) closed = list_in_live (class_of (object_at h o)) h o closed
+list_live h x closed = tt
 
-item_live : (i : Option ℕ) (h : Objects) (o : ℕ) (k : List ℕ) → built_ins_there h → AreClosed h → IsLive (length h.list) (item_or_method i h o k)
-item_live None h o k there closed = array_method_live (length h.list) k there
-item_live (Some i) h o k there closed = live_if (length h.list) (nat_lt i (item_count h o)) _ _ (own_live h o (number_units i) closed) (array_method_live (length h.list) k there)
+on_list_live : (found : Option (List Value)) (by : ℕ) (h : Objects) (go : List Value → Done) → AreClosed h → LiveList (length h.list) found → ((xs : List Value) → All (IsLive (length h.list)) xs → LiveDone h (go xs)) → LiveDone h (on_list found by h go)
+on_list_live None by h go closed live each = thrown_live (codes "bad argument") by h closed
+on_list_live (Some xs) by h go closed live each = each xs live
 
-object_value_live : (c : Class) (h : Objects) (o : ℕ) (k : List ℕ) → built_ins_there h → AreClosed h → IsLive (length h.list) (object_value c h o k)
-object_value_live class.Object h o k there closed = own_live h o k closed
-object_value_live class.Array h o k there closed = live_if (length h.list) (same_units k length_key) _ _ tt (item_live (array_index k) h o k there closed)
-object_value_live class.Function h o k there closed = live_if (length h.list) (is_for_modules (is_some (own h o simple_mark)) (kind_of (callable_of (object_at h o)))) _ _ (function_method_live (length h.list) k there) tt
-object_value_live class.Error h o k there closed = live_if (length h.list) (same_units k (codes "name") || same_units k (codes "message")) _ _ tt tt
-object_value_live class.Node h o k there closed = tt
+counted_live : (b : Bool) (h : Objects) (o : ℕ) → AreClosed h → LiveList (length h.list) (counted_items b h o)
+counted_live true h o closed = array_items_live h o closed
+counted_live false h o closed = tt
 
-public_value_live : (h : Objects) (x : Value) (k : List ℕ) → built_ins_there h → AreClosed h → IsLive (length h.list) (public_value h x k)
-public_value_live h (v.Text us) k there closed = live_if (length h.list) (same_units k length_key) _ _ tt (text_method_live (length h.list) k there)
-public_value_live h (v.Obj o) k there closed = object_value_live (class_of (object_at h o)) h o k there closed
-public_value_live h x k there closed = tt
+items_live : (h : Objects) (x : Value) → AreClosed h → LiveList (length h.list) (items_of h x)
+items_live h (v.Obj o) closed = counted_live (is_length (value_of (own h o length_key))) h o closed
+items_live h x closed = tt
 
-record_read_grown : (c : Class) (h : Objects) (o : ℕ) (k : List ℕ) → AreClosed h → Grown h (record_read c h o k)
-record_read_grown class.Object h o k closed =
-    elim (is_some (own h o k) && not (is_hidden k)) as (λ b. Grown h (cond b (grant_read h o k) h)) [
-      | true ↦ define_grown h o (read_mark k) (v.Bool true) hidden_attrs closed tt
-      | false ↦ same_objects h closed
-    ]
-record_read_grown c h o k closed = same_objects h closed
+-- a conversion, and then the rest
+after_live : {A : Type 0} (t : Result A Fault) (h : Objects) (go : A → Done) → AreClosed h → ((x : A) → LiveDone h (go x)) → LiveDone h (after t h go)
+after_live (Ok x) h go closed live = live x
+after_live (Err f) h go closed live = stops_live f h [] closed
 
-after_read_grown : (h : Objects) (x : Value) (k : List ℕ) → AreClosed h → Grown h (after_read h x k)
-after_read_grown h (v.Obj o) k closed = record_read_grown (class_of (object_at h o)) h o k closed
-after_read_grown h x k closed = same_objects h closed
+-- loadModule
 
-read_live : (t : Result (List ℕ) Fault) (x : Value) (h : Objects) → built_ins_there h → AreClosed h → LiveRow h (read_by_text t x h)
-read_live (Ok us) x h there closed =
-    let grown = after_read_grown h x us closed in
-    record { later = grown.later; closed = grown.closed; answer = live_more (public_read h x us) grown.later.more (live_if (length h.list) (is_hidden us) _ _ tt (public_value_live h x us there closed)) }
-read_live (Err f) x h there closed = record { later = later_refl h; closed = closed; answer = tt }
+load_by_live : (c : Class) (runtime imports by o : ℕ) (h : Objects) → AreClosed h → runtime < length h.list → imports < length h.list → o < length h.list → LiveDone h (load_by c runtime imports by o h)
+load_by_live class.Function runtime imports by o h closed first second live =
+    let n = length h.list in
+    record { later = later_refl h; closed = closed; answer = (live, tt, All-cons (IsLive n) (v.Obj runtime) (v.Obj imports ∷ []) first (one_live n (v.Obj imports) second)) }
+load_by_live c runtime imports by o h closed first second live = thrown_live (codes "not a function") by h closed
 
-read_row_live : (by : ℕ) (x k : Value) (h : Objects) → built_ins_there h → AreClosed h → LiveRow h (read_row by x k h)
-read_row_live by v.Undefined k h there closed = thrown_live (codes "no object") by h closed
-read_row_live by v.Null k h there closed = thrown_live (codes "no object") by h closed
-read_row_live by x k h there closed = read_live (text_of h k) x h there closed
+pub load_module_live : (runtime imports by : ℕ) (f : Value) (h : Objects) → AreClosed h → runtime < length h.list → imports < length h.list → IsLive (length h.list) f → LiveDone h (load_module runtime imports by f h)
+load_module_live runtime imports by (v.Obj o) h closed first second live = load_by_live (class_of (object_at h o)) runtime imports by o h closed first second live
+load_module_live runtime imports by f h closed first second live = thrown_live (codes "not a function") by h closed
 
-pub read_pub_live : (by : ℕ) (x k : Value) (h : Objects) → built_ins_there h → AreClosed h → LiveRow h (read_pub by x k h)
-read_pub_live by x k h there closed = rw (read_pub-is by x k h) (read_row_live by x k h there closed)
+-- readImport
 
--- keys and values
+told_live : (t : Result (List ℕ) Fault) (h : Objects) (o : ℕ) → AreClosed h → LiveDone h (told (and_then t (λ us. Ok (value_of (own h o us)))) h)
+told_live (Ok us) h o closed = gives_live (value_of (own h o us)) h h [] (same_objects h closed) (own_live h o us closed)
+told_live (Err f) h o closed = stops_live f h [] closed
+
+read_import_live : (by : ℕ) (x k : Value) (h : Objects) → AreClosed h → LiveDone h (read_import by x k h)
+read_import_live by (v.Obj o) k h closed = told_live (text_of h k) h o closed
+read_import_live by x k h closed = thrown_live (codes "bad argument") by h closed
+
+-- func
+
+func_of_live : (c : Class) (by o : ℕ) (h : Objects) → AreClosed h → o < length h.list → LiveDone h (func_of c by o h)
+func_of_live class.Function by o h closed live =
+    let first = define_grown h o simple_mark (v.Bool true) hidden_attrs closed tt in
+    let second = define_grown (marked h o simple_mark) o frozen_mark (v.Bool true) hidden_attrs first.closed tt in
+    let third = named_grown (marked (marked h o simple_mark) o frozen_mark) o by second.closed in
+    gives_live (v.Obj o) h _ [] (grown_trans first (grown_trans second third)) live
+func_of_live c by o h closed live = thrown_live (codes "not a function") by h closed
+
+func_live : (by : ℕ) (x : Value) (h : Objects) → AreClosed h → IsLive (length h.list) x → LiveDone h (func by x h)
+func_live by (v.Obj o) h closed live = func_of_live (class_of (object_at h o)) by o h closed live
+func_live by x h closed live = thrown_live (codes "not a function") by h closed
+
+-- initializeArray
+
+initialize_array_of_live : (c : Class) (by o : ℕ) (h : Objects) → AreClosed h → o < length h.list → LiveDone h (initialize_array_of c by o h)
+initialize_array_of_live class.Array by o h closed live = gives_live (v.Obj o) h _ [] (named_grown h o by closed) live
+initialize_array_of_live c by o h closed live = thrown_live (codes "bad argument") by h closed
+
+initialize_array_live : (by : ℕ) (x : Value) (h : Objects) → AreClosed h → IsLive (length h.list) x → LiveDone h (initialize_array by x h)
+initialize_array_live by (v.Obj o) h closed live = initialize_array_of_live (class_of (object_at h o)) by o h closed live
+initialize_array_live by x h closed live = thrown_live (codes "bad argument") by h closed
+
+-- initializeMap
 
 abbrev Pair : Type 0
 Pair = List ℕ × Value
@@ -166,11 +169,11 @@ with_pairs_grown [] o h closed live = same_objects h closed
 with_pairs_grown (p ∷ rest) o h closed live =
     let n = length h.list in
     let first = define_grown h o p.0 p.1 plain_attrs closed (All-head (λ (q : Pair). IsLive n q.1) p rest live) in
-    let after = define h o p.0 p.1 plain_attrs in
-    grown_trans first (with_pairs_grown rest o after first.closed (pairs_more n (length after.list) rest first.later.more (All-tail (λ (q : Pair). IsLive n q.1) p rest live)))
+    let next = define h o p.0 p.1 plain_attrs in
+    grown_trans first (with_pairs_grown rest o next first.closed (pairs_more n (length next.list) rest first.later.more (All-tail (λ (q : Pair). IsLive n q.1) p rest live)))
 
-new_record_live : (by : ℕ) (h : Objects) (r : Result (List Pair) Fault) → AreClosed h → LiveKeyed (length h.list) r → LiveRow h (new_record by h r)
-new_record_live by h (Ok ps) closed live =
+new_record_live : (by : ℕ) (h : Objects) (ps : List Pair) → AreClosed h → LivePairs (length h.list) ps → LiveDone h (new_record by h ps)
+new_record_live by h ps closed live =
     let p = Some (proto_id proto.Object) in
     let first = made_grown h class.Object p closed (proto_there h proto.Object closed) in
     let empty = made class.Object p h in
@@ -180,24 +183,60 @@ new_record_live by h (Ok ps) closed live =
     let filled = second.later.more in
     let more = third.later.more in
     record { later = (grown_trans first (grown_trans second third)).later; closed = third.closed; answer = omega arith }
-new_record_live by h (Err e) closed live = record { later = later_refl h; closed = closed; answer = tt }
 
-record_of_live : (c : Class) (o by : ℕ) (h : Objects) → AreClosed h → LiveRow h (record_of c o by h)
-record_of_live class.Array o by h closed = new_record_live by h (keyed h (array_items h o)) closed (keyed_live (length h.list) h (array_items h o) (array_items_live h o closed))
-record_of_live c o by h closed = thrown_live (codes "bad argument") by h closed
+keyed_record_live : (by : ℕ) (h : Objects) (pairs : Result (List Pair) Fault) → AreClosed h → LiveKeyed (length h.list) pairs → LiveDone h (after pairs h (new_record by h))
+keyed_record_live by h (Ok ps) closed live = new_record_live by h ps closed live
+keyed_record_live by h (Err f) closed live = stops_live f h [] closed
 
-pub initialize_map_live : (by : ℕ) (x : Value) (h : Objects) → AreClosed h → LiveRow h (initialize_map by x h)
-initialize_map_live by (v.Obj o) h closed = record_of_live (class_of (object_at h o)) o by h closed
-initialize_map_live by x h closed = thrown_live (codes "bad argument") by h closed
+initialize_map_live : (by : ℕ) (x : Value) (h : Objects) → AreClosed h → LiveDone h (initialize_map by x h)
+initialize_map_live by x h closed =
+    on_list_live (list_of h x) by h (λ xs. after (keyed h xs) h (new_record by h)) closed (list_live h x closed) (λ xs live. keyed_record_live by h (keyed h xs) closed (keyed_live (length h.list) h xs live))
 
-pub guard_live : (row by : ℕ) (args : List Value) (h : Objects) → built_ins_there h → AreClosed h → LiveRow h (guard row by args h)
-guard_live row by args h there closed =
-    let other = thrown (codes "not a function") by h in
-    let read = read_pub by (argument 0 args) (argument 1 args) h in
-    elim (nat_eq row initialize_map_number) as (λ b. LiveRow h (cond b (initialize_map by (argument 0 args) h) (cond (nat_eq row read_public_number) read other))) [
-      | true ↦ initialize_map_live by (argument 0 args) h closed
-      | false ↦ elim (nat_eq row read_public_number) as (λ b. LiveRow h (cond b read other)) [
-        | true ↦ read_pub_live by (argument 0 args) (argument 1 args) h there closed
-        | false ↦ thrown_live (codes "not a function") by h closed
-      ]
-    ]
+-- callPub
+
+without_list_live : (by : ℕ) (o k : Value) (h : Objects) → AreClosed h → LiveDone h (without_list by o k h)
+without_list_live by (v.Obj o) k h closed = after_live (text_of h k) h (λ us. throws (codes "bad argument") by h) closed (λ us. thrown_live (codes "bad argument") by h closed)
+without_list_live by o k h closed = thrown_live (codes "bad argument") by h closed
+
+call_pub_on_live : (found : Option (List Value)) (by : ℕ) (o k : Value) (h : Objects) → built_ins_there h → AreClosed h → IsLive (length h.list) o → IsLive (length h.list) k → LiveList (length h.list) found → LiveDone h (call_pub_on found by o k h)
+call_pub_on_live None by o k h there closed receiver key live = without_list_live by o k h closed
+call_pub_on_live (Some xs) by o k h there closed receiver key live =
+    let n = length h.list in
+    row_live (rows.call_pub (2 + length xs)) by (o ∷ k ∷ xs) h there closed (All-cons (IsLive n) o (k ∷ xs) receiver (All-cons (IsLive n) k xs key live)) (λ P common. names.call_pub_names P common (2 + length xs))
+
+-- each guard
+
+module _ (by : ℕ) (vs : List Value) (h : Objects) (there : built_ins_there h) (closed : AreClosed h) (live : All (IsLive (length h.list)) vs) where
+  at : (i : ℕ) → IsLive (length h.list) (argument i vs)
+  at i = argument_live (length h.list) i vs live
+
+  two : All (IsLive (length h.list)) (argument 0 vs ∷ argument 1 vs ∷ [])
+  two = All-cons (IsLive (length h.list)) (argument 0 vs) (argument 1 vs ∷ []) (at 0) (one_live (length h.list) (argument 1 vs) (at 1))
+
+  three : All (IsLive (length h.list)) (argument 0 vs ∷ argument 1 vs ∷ argument 2 vs ∷ [])
+  three =
+      All-cons (IsLive (length h.list)) (argument 0 vs) (argument 1 vs ∷ argument 2 vs ∷ []) (at 0)
+      (All-cons (IsLive (length h.list)) (argument 1 vs) (argument 2 vs ∷ []) (at 1) (one_live (length h.list) (argument 2 vs) (at 2)))
+
+  each_live : (guard : Guard) → LiveDone h (done_of guard by vs h)
+  each_live g.ReadImport = read_import_live by (argument 0 vs) (argument 1 vs) h closed
+  each_live g.Func = func_live by (argument 0 vs) h closed (at 0)
+  each_live g.Args =
+      on_list_live (items_of h (argument 0 vs)) by h (λ xs. by_row (rows.args (length xs)) by xs h) closed (items_live h (argument 0 vs) closed) (λ xs items. row_live (rows.args (length xs)) by xs h there closed items (λ P common. names.args_names P common (length xs)))
+  each_live g.InitializeArray = initialize_array_live by (argument 0 vs) h closed (at 0)
+  each_live g.InitializeMap = initialize_map_live by (argument 0 vs) h closed
+  each_live g.Key = row_live rows.key by (argument 0 vs ∷ []) h there closed (one_live (length h.list) (argument 0 vs) (at 0)) (λ P common. names.key_names P common)
+  each_live g.ReadPub = row_live (rows.read_pub 2) by (argument 0 vs ∷ argument 1 vs ∷ []) h there closed two (λ P common. names.read_pub_names P common)
+  each_live g.SetPub = row_live (rows.set_pub 3) by (argument 0 vs ∷ argument 1 vs ∷ argument 2 vs ∷ []) h there closed three (λ P common. names.set_pub_names P common)
+  each_live g.DeletePub = row_live (rows.delete_pub 2) by (argument 0 vs ∷ argument 1 vs ∷ []) h there closed two (λ P common. names.delete_pub_names P common)
+  each_live g.InPub = row_live rows.in_pub by (argument 0 vs ∷ argument 1 vs ∷ []) h there closed two (λ P common. names.in_pub_names P common)
+  each_live g.KeysPub = row_live rows.keys_pub by (argument 0 vs ∷ []) h there closed (one_live (length h.list) (argument 0 vs) (at 0)) (λ P common. names.keys_pub_names P common)
+  each_live g.CallPub = call_pub_on_live (list_of h (argument 2 vs)) by (argument 0 vs) (argument 1 vs) h there closed (at 0) (at 1) (list_live h (argument 2 vs) closed)
+  each_live g.AsSimpleFunc = row_live rows.as_simple_func by (argument 0 vs ∷ []) h there closed (one_live (length h.list) (argument 0 vs) (at 0)) (λ P common. names.as_simple_func_names P common)
+  each_live g.Construct =
+      on_list_live (list_of h (argument 1 vs)) by h (λ xs. by_row (rows.construct (suc (length xs))) by (argument 0 vs ∷ xs) h) closed (list_live h (argument 1 vs) closed)
+      (λ xs items. row_live (rows.construct (suc (length xs))) by (argument 0 vs ∷ xs) h there closed (All-cons (IsLive (length h.list)) (argument 0 vs) xs (at 0) items) (λ P common. names.construct_names P common (suc (length xs))))
+  each_live g.InstanceOf = row_live rows.instance_of by (argument 0 vs ∷ argument 1 vs ∷ []) h there closed two (λ P common. names.instance_of_names P common)
+
+pub guard_live : (guard : Guard) (by : ℕ) (vs : List Value) (h : Objects) → built_ins_there h → AreClosed h → All (IsLive (length h.list)) vs → LiveDone h (done_of guard by vs h)
+guard_live guard by vs h there closed live = each_live by vs h there closed live guard

@@ -20,13 +20,13 @@ behind (b ∷ before) x rest (suc n) len = behind before x rest n (omega (arith,
 longer : (before : List Value) (x : Value) (n : ℕ) → length before ≡ n → length (before ++ x ∷ []) ≡ n + 1
 longer before x n len = length-append before (x ∷ []) ∙ omega (arith, len)
 
--- an item by its handle
-pub item_held : (fs : Native → ℕ) (before xs : List Value) (n i : ℕ) → length before ≡ n → option_map (value_in fs (before ++ xs)) (slice_get (handles n xs) i) ≡ slice_get xs i
-item_held fs before [] n i len = refl
-item_held fs before (x ∷ xs) n zero len = rw (behind before x xs n len) refl
-item_held fs before (x ∷ xs) n (suc i) len =
-    subst (λ l. option_map (value_in fs l) (slice_get (handles (n + 1) xs) i) ≡ slice_get xs i) (append_assoc before (x ∷ []) xs)
-    (item_held fs (before ++ x ∷ []) xs (n + 1) i (longer before x n len))
+-- an item by its handle, whatever else stands behind
+pub item_held : (fs : Native → ℕ) (before xs more : List Value) (n i : ℕ) → length before ≡ n → option_map (value_in fs (before ++ (xs ++ more))) (slice_get (handles n xs) i) ≡ slice_get xs i
+item_held fs before [] more n i len = refl
+item_held fs before (x ∷ xs) more n zero len = rw (behind before x (xs ++ more) n len) refl
+item_held fs before (x ∷ xs) more n (suc i) len =
+    subst (λ l. option_map (value_in fs l) (slice_get (handles (n + 1) xs) i) ≡ slice_get xs i) (append_assoc before (x ∷ []) (xs ++ more))
+    (item_held fs (before ++ x ∷ []) xs more (n + 1) i (longer before x n len))
 
 pub length-handles : (n : ℕ) (xs : List Value) → length (handles n xs) ≡ length xs
 length-handles n [] = refl
@@ -41,16 +41,17 @@ seen_apart j k seen hidden =
     ] in cases refl
 
 -- a record's value by the handle of its key
-pub key_held : (fs : Native → ℕ) (k : List ℕ) (before : List Value) (ps : List Property) (n : ℕ) → length before ≡ n → is_hidden k ≡ false
-    → option_map (value_in fs (before ++ map (λ p. p.1) (guests ps))) (value_at k (keyed_handles n (guests ps))) ≡ option_map (λ p. p.value) (find k ps)
-key_held fs k before [] n len seen = refl
-key_held fs k before (p ∷ ps) n len seen =
+pub key_held : (fs : Native → ℕ) (k : List ℕ) (before : List Value) (ps : List Property) (more : List Value) (n : ℕ) → length before ≡ n → is_hidden k ≡ false
+    → option_map (value_in fs (before ++ (map (λ p. p.1) (guests ps) ++ more))) (value_at k (keyed_handles n (guests ps))) ≡ option_map (λ p. p.value) (find k ps)
+key_held fs k before [] more n len seen = refl
+key_held fs k before (p ∷ ps) more n len seen =
     let qs = guests ps in
-    let cases = elim (is_hidden p.key) as (λ b. is_hidden p.key ≡ b → option_map (value_in fs (before ++ map (λ p. p.1) (cond b qs ((p.key, p.value) ∷ qs)))) (value_at k (keyed_handles n (cond b qs ((p.key, p.value) ∷ qs)))) ≡ option_map (λ p. p.value) (cond (same_units k p.key) (Some p) (find k ps))) [
-      | true ↦ λ hidden. rw (seen_apart k p.key seen hidden) (key_held fs k before ps n len seen)
-      | false ↦ λ hidden. elim (same_units k p.key) as (λ b. option_map (value_in fs (before ++ p.value ∷ map (λ p. p.1) qs)) (cond b (Some (held n)) (value_at k (keyed_handles (n + 1) qs))) ≡ option_map (λ p. p.value) (cond b (Some p) (find k ps))) [
-        | true ↦ rw (behind before p.value (map (λ p. p.1) qs) n len) refl
-        | false ↦ subst (λ l. option_map (value_in fs l) (value_at k (keyed_handles (n + 1) qs)) ≡ option_map (λ p. p.value) (find k ps)) (append_assoc before (p.value ∷ []) (map (λ p. p.1) qs))
-            (key_held fs k (before ++ p.value ∷ []) ps (n + 1) (longer before p.value n len) seen)
+    let rest = map (λ p. p.1) qs ++ more in
+    let cases = elim (is_hidden p.key) as (λ b. is_hidden p.key ≡ b → option_map (value_in fs (before ++ (map (λ p. p.1) (cond b qs ((p.key, p.value) ∷ qs)) ++ more))) (value_at k (keyed_handles n (cond b qs ((p.key, p.value) ∷ qs)))) ≡ option_map (λ p. p.value) (cond (same_units k p.key) (Some p) (find k ps))) [
+      | true ↦ λ hidden. rw (seen_apart k p.key seen hidden) (key_held fs k before ps more n len seen)
+      | false ↦ λ hidden. elim (same_units k p.key) as (λ b. option_map (value_in fs (before ++ p.value ∷ rest)) (cond b (Some (held n)) (value_at k (keyed_handles (n + 1) qs))) ≡ option_map (λ p. p.value) (cond b (Some p) (find k ps))) [
+        | true ↦ rw (behind before p.value rest n len) refl
+        | false ↦ subst (λ l. option_map (value_in fs l) (value_at k (keyed_handles (n + 1) qs)) ≡ option_map (λ p. p.value) (find k ps)) (append_assoc before (p.value ∷ []) rest)
+            (key_held fs k (before ++ p.value ∷ []) ps more (n + 1) (longer before p.value n len) seen)
       ]
     ] in cases refl

@@ -1,6 +1,7 @@
 -- What the objects of the opening are: each is made behind the others, and then changed where it stands.
-use Rattle.std.proofs.Common.{◌≡◌, ℕ, true, List, [], ◌∷◌, ◌++◌, length, Option, Some, None, cond, refl, ap, ◌∙◌, append_assoc}
+use Rattle.std.proofs.Common.{◌≡◌, ℕ, suc, ◌+◌, true, List, [], ◌∷◌, ◌++◌, length, Option, Some, None, cond, refl, ap, ◌∙◌, append_assoc, arith}
 use Rattle.std.specs.Prelude.{slice_get, slice_set}
+use Rattle.std.proofs.lemmas.List.{length-append}
 use Rattle.es3_heap.specs.declared.value.Value.{Value}
 use Rattle.es3_heap.specs.declared.value.Value.TheVariants.{Obj, Bool}
 use Rattle.es3_heap.specs.declared.value.Attrs.{Attrs}
@@ -11,11 +12,13 @@ use Rattle.es3_heap.specs.declared.value.Tag.TheVariants as tag
 use Rattle.es3_heap.specs.Objects.{Property, Callable, Object, Objects, plain_attrs, hidden_attrs, props_of}
 use Rattle.es3_heap.specs.Properties.{define, defined, with_props}
 use Rattle.es3_heap.specs.Making.{tagged, with_tag, awaits_name}
+use Rattle.rows.specs.Rows as r
 use Rattle.rows.specs.Rows.{Native}
 use Rattle.rows.specs.Names.{Tools, of_cajita, of_math, tools}
 use Rattle.heap_rows.specs.Marks.{marked, freeze, frozen_mark, without_set_marks}
 use Rattle.heap_rows.specs.Natives.{kind_of, tag_of_native, tag_of_tools}
-use Rattle.heap_rows.specs.Opening.{first, common, place_of, with_tools, with_record, with_native, with_natives, opened}
+use Rattle.heap_rows.specs.Opening.{first, first_count, common, place_of, with_tools, with_record, with_native, with_natives, opened, named_function, with_module, begun, fixed_values, first_say, imports_id, opened_for_one}
+use Rattle.heap_rows.specs.Doing.{copied, record_object as record_of}
 
 -- the last object of a store
 
@@ -119,3 +122,37 @@ built a b fs h =
 pub opened_is : opened ≡ stored first.counts (first.list ++ record_object of_cajita ∷ record_object of_math ∷ native_objects common)
 unfolding opened
 opened_is = built of_cajita of_math common first
+
+-- how many there are
+
+first_long : length first.list ≡ first_count
+unfolding first
+first_long = refl
+
+natives_long : (fs : List Native) → length (native_objects fs) ≡ length fs
+unfolding native_objects
+natives_long [] = refl
+natives_long (f ∷ fs) = ap suc (natives_long fs)
+
+pub opened_long : length opened.list ≡ first_count + 52
+opened_long =
+    let l = ap (λ h. length h.list) opened_is in
+    let m = length-append first.list (record_object of_cajita ∷ record_object of_math ∷ native_objects common) in
+    let n = natives_long common in
+    let f = first_long in
+    omega (arith, l, m, n, f)
+
+pub module_long : (m : ℕ) (h : Objects) → length (with_module m h).list ≡ length h.list + 2
+module_long m h =
+    let say = named_function r.say (tag.Own m 0) in
+    let later = named_function r.later (tag.Own m 1) in
+    let a = length-append h.list (say ∷ []) in
+    let b = length-append (h.list ++ say ∷ []) (later ∷ []) in
+    omega (arith, a, b)
+
+pub begun_long : length (begun 1 0).list ≡ imports_id
+begun_long = let a = module_long 0 opened in let b = opened_long in omega (arith, a, b)
+
+pub one_long : length opened_for_one.list ≡ imports_id + 1
+unfolding opened_for_one
+one_long = let a = length-append (begun 1 0).list (record_of (copied (fixed_values first_say)) ∷ []) in let b = begun_long in omega (arith, a, b)

@@ -1,6 +1,7 @@
--- A store in which a page begins: the ten prototypes, the object of the runtime with its guards, what a module may import, and the global object; then the records
--- `cajita` and `Math`, and the built-in functions.
+-- A store in which a page begins: the ten prototypes, the object of the runtime with its guards, and the global object; then the records `cajita` and `Math`, and the
+-- built-in functions; then each module's own functions, each cell, and what a module may import.
 use Rattle.std.specs.Prelude.{ℕ, zero, suc, ◌+◌, ◌≤◌, true, List, [], ◌∷◌, None, Some, length, codes}
+use Rattle.es3_heap.specs.declared.value.Value.{Value}
 use Rattle.es3_heap.specs.declared.value.Value.TheVariants.{Obj, Bool, Undefined}
 use Rattle.es3_heap.specs.declared.value.Class.TheVariants as class
 use Rattle.es3_heap.specs.declared.value.FuncKind.TheVariants.{Simple}
@@ -10,57 +11,57 @@ use Rattle.es3_heap.specs.declared.value.Tag.TheVariants as tag
 use Rattle.es3_heap.specs.Objects.{Object, Objects, plain_attrs, hidden_attrs, with_object}
 use Rattle.es3_heap.specs.Properties.{define}
 use Rattle.es3_heap.specs.Making.{new_objects, made, made_function, tagged, proto_id}
-use Rattle.es3_convert.specs.Conversions.{to_string, value_of_object}
+use Rattle.es3_convert.specs.Conversions.{to_string}
 use Rattle.rows.specs.Rows as r
 use Rattle.rows.specs.Names.{Tools, of_cajita, of_math, tools}
 use Rattle.heap_rows.specs.Marks.{freeze, frozen_mark}
 use Rattle.heap_rows.specs.Natives.{number_of, tag_of_native, tag_of_tools, kind_of}
-use Rattle.heap_rows.specs.Doing.{Page}
+use Rattle.heap_rows.specs.Doing.{Page, record_object, copied}
 
 -- what has no name
 
--- a function by its number, as a property of an object that `for in` passes over: a guard of the runtime's object
-abbrev pub with_guard : List ℕ → ℕ → ℕ → Objects → Objects
-with_guard name number runtime h = define (made_function (Simple number) 0 h) runtime name (Obj (length h.list)) hidden_attrs
+-- a function by its number, as a property that `for in` passes over
+abbrev pub with_hidden_function : List ℕ → ℕ → ℕ → Objects → Objects
+with_hidden_function name number o h = define (made_function (Simple number) 0 h) o name (Obj (length h.list)) hidden_attrs
 
--- the object `___`, the imports object and the global object stand behind the ten prototypes
+-- functions by their names, whose numbers follow one another
+abbrev pub with_hidden_functions : List (List ℕ) → ℕ → ℕ → Objects → Objects
+with_hidden_functions [] number o h = h
+with_hidden_functions (name ∷ names) number o h = with_hidden_functions names (suc number) o (with_hidden_function name number o h)
+
+-- the object `___` and the global object stand behind the ten prototypes
 abbrev pub runtime_id : ℕ
 runtime_id = 10
 
-abbrev pub imports_id : ℕ
-imports_id = 11
-
 abbrev pub globals_id : ℕ
-globals_id = 12
+globals_id = 11
 
--- the numbers of the guards that there are: those of the built-in functions are below 64
+-- `loadModule` and the guards, by their names in the order of their numbers; those of the built-in functions are below 64
 abbrev pub load_module : ℕ
 load_module = 64
 
-abbrev pub initialize_map : ℕ
-initialize_map = 69
-
-abbrev pub read_public : ℕ
-read_public = 71
+abbrev pub guard_names : List (List ℕ)
+guard_names =
+    codes "loadModule" ∷ codes "readImport" ∷ codes "func" ∷ codes "args" ∷ codes "initializeArray" ∷ codes "initializeMap" ∷ codes "key" ∷ codes "readPub"
+    ∷ codes "setPub" ∷ codes "deletePub" ∷ codes "inPub" ∷ codes "keysPub" ∷ codes "callPub" ∷ codes "asSimpleFunc" ∷ codes "construct" ∷ codes "instanceOf" ∷ []
 
 abbrev pub with_objects : Objects → Objects
-with_objects h = made class.Object None (made class.Object (Some (proto_id proto.Object)) (made class.Object (Some (proto_id proto.Object)) h))
+with_objects h = made class.Object None (made class.Object (Some (proto_id proto.Object)) h)
 
-abbrev pub with_guards : ℕ → Objects → Objects
-with_guards runtime h =
-    with_guard (codes "readPub") read_public runtime (with_guard (codes "initializeMap") initialize_map runtime (with_guard (codes "loadModule") load_module runtime h))
+abbrev pub with_guards : Objects → Objects
+with_guards h = with_hidden_functions guard_names load_module runtime_id h
 
 -- 15.2.4.2, 15.2.4.4: `toString` and `valueOf` of the prototype of Object
 abbrev pub with_conversions : Objects → Objects
-with_conversions h = with_guard (codes "valueOf") value_of_object (proto_id proto.Object) (with_guard (codes "toString") to_string (proto_id proto.Object) h)
+with_conversions h = with_hidden_functions (codes "toString" ∷ codes "valueOf" ∷ []) to_string (proto_id proto.Object) h
 
 -- the only global name is `___`
 unfoldable pub first : Objects
-first = with_conversions (define (with_guards runtime_id (with_objects new_objects)) globals_id (codes "___") (Obj runtime_id) hidden_attrs)
+first = with_conversions (define (with_guards (with_objects new_objects)) globals_id (codes "___") (Obj runtime_id) hidden_attrs)
 
 -- so many objects have no name
 abbrev pub first_count : ℕ
-first_count = 18
+first_count = 30
 
 -- the built-ins
 
@@ -75,7 +76,7 @@ common =
 
 -- where each stands: behind the objects without a name, by its number
 abbrev pub place_of : r.Native → ℕ
-place_of f = number_of f + 18
+place_of f = number_of f + 30
 
 -- the last of them has the number 51
 abbrev pub built_ins_there : Objects → Type 0
@@ -138,3 +139,32 @@ with_cells (suc k) h = with_cell k (with_cells k h)
 -- with so many modules and so many cells
 abbrev pub begun : ℕ → ℕ → Objects
 begun n k = with_cells k (with_modules n opened)
+
+-- what a module may import
+
+-- where `cajita` and `Math` stand
+abbrev pub place_of_tools : Tools → ℕ
+place_of_tools of_cajita = 30
+place_of_tools of_math = 31
+
+-- the values of the fixed names; the module's own `say` stands at a place, and its `later` behind it
+abbrev pub fixed_values : ℕ → List (List ℕ × Value)
+fixed_values say =
+    (codes "undefined", Undefined) ∷ (codes "cajita", Obj (place_of_tools of_cajita)) ∷ (codes "Math", Obj (place_of_tools of_math))
+    ∷ (codes "Error", Obj (place_of (r.makes r.error))) ∷ (codes "TypeError", Obj (place_of (r.makes r.type_error))) ∷ (codes "RangeError", Obj (place_of (r.makes r.range_error)))
+    ∷ (codes "Number", Obj (place_of r.number_from)) ∷ (codes "String", Obj (place_of r.text_from)) ∷ (codes "Boolean", Obj (place_of r.truth_from))
+    ∷ (codes "say", Obj say) ∷ (codes "later", Obj (say + 1)) ∷ []
+
+-- an object that has them, without a name
+abbrev pub with_imports : ℕ → Objects → Objects
+with_imports say h = with_object h (record_object (copied (fixed_values say)))
+
+-- where a page of one module without grants begins: its `say` stands behind the built-ins, and what it may import behind its `later`
+abbrev pub first_say : ℕ
+first_say = first_count + 52
+
+abbrev pub imports_id : ℕ
+imports_id = first_say + 2
+
+unfoldable pub opened_for_one : Objects
+opened_for_one = with_imports first_say (begun 1 0)

@@ -7,7 +7,6 @@ ghost use Rattle.es3_tree.specs.Measure.{nest, count};
 ghost use Rattle.cajita_tree.specs.Tree as tree;
 ghost use Rattle.cajita_tree.specs.View.{expr, module_view};
 ghost use Rattle.cajita_rewrite.specs.Rewrite.{program_of};
-ghost use Rattle.cajita_rewrite.specs.Given.{IsGiven};
 
 use caja_num::Whole;
 use caja_units::Units;
@@ -45,7 +44,6 @@ fn sum(alloc: Global) -> Result<CExpr, Fail>
 // `var o = {x: 1}; o.x + 2;`
 #[tactic(auto, unfolding(cajita_rewrite::specs::Rewrite::rewritten))]
 fn module(alloc: Global) -> Result<Module, Fail>
-    ensures given { IfOk result (λ m. IsGiven tree.program (module_view m)) }
     ensures measures { IfOk result (λ m.
         (nest target.program (program_of (module_view m)) ≡ 10)
         × (count target.program (program_of (module_view m)) ≡ 26)) }

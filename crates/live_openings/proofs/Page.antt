@@ -1,23 +1,28 @@
--- The store in which a page begins names live objects alone: the first objects, the two records, and the functions.
-use Rattle.std.proofs.Common.{◌≡◌, ℕ, ◌<◌, true, rules, List, [], ◌∷◌, ◌++◌, Option, Some, None, All, length, refl, ap, ◌∙◌, sym, subst, arith}
+-- The store in which a page of one module begins names live objects alone: the first objects, the two records, the functions, the module's own, and what it may import.
+use Rattle.std.proofs.Common.{◌≡◌, ℕ, suc, ◌+◌, ◌<◌, ◌≤◌, true, rules, List, [], ◌∷◌, ◌++◌, Option, Some, None, All, length, ap, ◌∙◌, sym, subst, arith}
 use Rattle.std.specs.Prelude.{replicate, drop}
 use Rattle.std.proofs.lemmas.List.Elements.{All-nil, All-cons, All-head, All-tail, All-append, All-from_recursion}
-use Rattle.std.specs.List.{AllByRecursion as ByRecursion}
 use Rattle.es3_heap.specs.declared.value.Value.TheVariants.{Obj, Bool}
 use Rattle.es3_heap.specs.declared.value.Class.{Class}
 use Rattle.es3_heap.specs.declared.value.Class.TheVariants as class
-use Rattle.es3_heap.specs.Objects.{Property, Callable, Object, plain_attrs, hidden_attrs}
-use Rattle.es3_heap.specs.Making.{bare}
-use Rattle.es3_convert.specs.Conversions.{to_string, value_of_object}
-use Rattle.es3_live.specs.Live.{IsLive, IsLiveId, HoldsLive, AreClosed}
+use Rattle.es3_heap.specs.declared.value.Tag.{Tag}
+use Rattle.es3_heap.specs.declared.value.Tag.TheVariants as tag
+use Rattle.es3_heap.specs.Objects.{Property, Callable, Object, Objects, plain_attrs, hidden_attrs}
+use Rattle.es3_heap.specs.Making.{bare, first_objects}
+use Rattle.es3_convert.specs.Conversions.{to_string}
+use Rattle.es3_live.specs.Live.{IsLive, HoldsLive, AreClosed}
 use Rattle.es3_live.proofs.Reading.{LiveProps}
+use Rattle.es3_live.proofs.Writing.{Grown, grown_trans}
+use Rattle.es3_live.proofs.Making.{with_object_grown}
 use Rattle.live_rows.proofs.Changes.{defined_live}
+use Rattle.rows.specs.Rows as r
 use Rattle.rows.specs.Rows.{Native}
 use Rattle.rows.specs.Names.{Tools, of_cajita, of_math, tools}
 use Rattle.heap_rows.specs.Marks.{frozen_mark}
-use Rattle.heap_rows.specs.Opening.{load_module, initialize_map, read_public, common, place_of, built_ins_there, opened}
-use Rattle.heap_rows.proofs.Made.{stored, entries, frozen_entries, record_object, native_object, native_objects, opened_is}
-use Rattle.row_simulation.proofs.First.{guard, holder, guards, global_names, conversions, first_list, first_list_is}
+use Rattle.heap_rows.specs.Doing.{copied, record_object as record_of}
+use Rattle.heap_rows.specs.Opening.{load_module, guard_names, common, place_of, built_ins_there, opened, named_function, with_module, begun, fixed_values, with_imports, first_say, opened_for_one}
+use Rattle.heap_rows.proofs.Made.{stored, entries, frozen_entries, record_object, native_object, native_objects, opened_is, opened_long, begun_long, one_long}
+use Rattle.row_simulation.proofs.First.{simple_function, holder, hidden, hidden_props, hidden_functions, conversion_names, guards, global_names, conversions, first_list, first_list_is}
 
 -- named functions that stand below a number
 abbrev Below : ℕ → List ℕ × Native → Type 0
@@ -31,89 +36,133 @@ entries_live n [] ps below live = live
 entries_live n ((k, f) ∷ es) ps below live =
     entries_live n es _ (All-tail (Below n) (k, f) es below) (defined_live n k (Obj (place_of f)) plain_attrs ps (All-head (Below n) (k, f) es below) live)
 
-tools_below : (t : Tools) → All (Below 70) (tools t)
+tools_below : (t : Tools) → All (Below 82) (tools t)
 tools_below of_cajita = search (rules, arith)
 tools_below of_math = search (rules, arith)
 
-record_holds : (t : Tools) → HoldsLive 70 (record_object t)
+record_holds : (t : Tools) → HoldsLive 82 (record_object t)
 unfolding frozen_entries record_object
 record_holds t = record {
   proto = omega arith;
-  values = defined_live 70 frozen_mark (Bool true) hidden_attrs (entries (tools t) []) tt (entries_live 70 (tools t) [] (tools_below t) (All-nil (λ (p : Property). IsLive 70 p.value)));
+  values = defined_live 82 frozen_mark (Bool true) hidden_attrs (entries (tools t) []) tt (entries_live 82 (tools t) [] (tools_below t) (All-nil (λ (p : Property). IsLive 82 p.value)));
 }
 
 -- the functions
 
-native_holds : (f : Native) → HoldsLive 70 (native_object f)
+native_holds : (f : Native) → HoldsLive 82 (native_object f)
 unfolding native_object
-native_holds f = record { proto = omega arith; values = All-nil (λ (p : Property). IsLive 70 p.value) }
+native_holds f = record { proto = omega arith; values = All-nil (λ (p : Property). IsLive 82 p.value) }
 
-natives_hold : (fs : List Native) → All (HoldsLive 70) (native_objects fs)
+natives_hold : (fs : List Native) → All (HoldsLive 82) (native_objects fs)
 unfolding native_objects
-natives_hold [] = All-nil (HoldsLive 70)
-natives_hold (f ∷ fs) = All-cons (HoldsLive 70) (native_object f) (native_objects fs) (native_holds f) (natives_hold fs)
+natives_hold [] = All-nil (HoldsLive 82)
+natives_hold (f ∷ fs) = All-cons (HoldsLive 82) (native_object f) (native_objects fs) (native_holds f) (natives_hold fs)
 
 -- the first objects: those that have no properties, and those that hold others
 
-plain_holds : (c : Class) (up : ℕ) (f : Option Callable) → up < 70 → HoldsLive 70 (bare c (Some up) f)
-plain_holds c up f lt = record { proto = lt; values = All-nil (λ (p : Property). IsLive 70 p.value) }
+plain_holds : (c : Class) (up : ℕ) (f : Option Callable) → up < 82 → HoldsLive 82 (bare c (Some up) f)
+plain_holds c up f lt = record { proto = lt; values = All-nil (λ (p : Property). IsLive 82 p.value) }
 
-below_top : HoldsLive 70 (bare class.Object (Some 0) None)
+below_top : HoldsLive 82 (bare class.Object (Some 0) None)
 below_top = plain_holds class.Object 0 None (omega arith)
 
-below_error : HoldsLive 70 (bare class.Object (Some 6) None)
+below_error : HoldsLive 82 (bare class.Object (Some 6) None)
 below_error = plain_holds class.Object 6 None (omega arith)
 
-guard_holds : (number : ℕ) → HoldsLive 70 (guard number)
-guard_holds number = plain_holds class.Function 1 _ (omega arith)
+function_holds : (number : ℕ) → HoldsLive 82 (simple_function number)
+function_holds number = plain_holds class.Function 1 _ (omega arith)
 
-holder_holds : (up : Option ℕ) (ps : List Property) → IsLiveId 70 up → ByRecursion (λ (p : Property). IsLive 70 p.value) ps → HoldsLive 70 (holder up ps)
-holder_holds up ps proto live = record { proto = proto; values = All-from_recursion (λ (p : Property). IsLive 70 p.value) ps live }
+-- functions by their names
 
-top_holds : HoldsLive 70 (holder None conversions)
-top_holds = holder_holds None conversions tt (omega arith, (omega arith, tt))
+functions_hold : (names : List (List ℕ)) (number : ℕ) → All (HoldsLive 82) (hidden_functions names number)
+unfolding hidden_functions
+functions_hold [] number = All-nil (HoldsLive 82)
+functions_hold (name ∷ names) number = All-cons (HoldsLive 82) (simple_function number) (hidden_functions names (suc number)) (function_holds number) (functions_hold names (suc number))
 
-runtime_holds : HoldsLive 70 (holder (Some 0) guards)
-runtime_holds = holder_holds (Some 0) guards (omega arith) (omega arith, (omega arith, (omega arith, tt)))
+hidden_live : (names : List (List ℕ)) (at : ℕ) → at + length names ≤ 82 → LiveProps 82 (hidden_props names at)
+unfolding hidden_props
+hidden_live [] at few = All-nil (λ (p : Property). IsLive 82 p.value)
+hidden_live (name ∷ names) at few = All-cons (λ (p : Property). IsLive 82 p.value) (hidden name at) (hidden_props names (suc at)) (omega (arith, few)) (hidden_live names (suc at) (omega (arith, few)))
 
-globals_hold : HoldsLive 70 (holder None global_names)
-globals_hold = holder_holds None global_names tt (omega arith, tt)
+top_holds : HoldsLive 82 (holder None conversions)
+top_holds = record { proto = tt; values = hidden_live conversion_names 28 (omega arith) }
 
--- behind the ten prototypes
-behind_hold : ByRecursion (HoldsLive 70) (drop 10 first_list)
+runtime_holds : HoldsLive 82 (holder (Some 0) guards)
+runtime_holds = record { proto = omega arith; values = hidden_live guard_names 12 (omega arith) }
+
+globals_hold : HoldsLive 82 (holder None global_names)
+globals_hold = record { proto = tt; values = All-from_recursion (λ (p : Property). IsLive 82 p.value) global_names (omega arith, tt) }
+
+-- the prototypes, the object of the runtime and the global object
+abbrev front : List Object
+front = holder None conversions ∷ drop 1 first_objects ++ holder (Some 0) guards ∷ holder None global_names ∷ []
+
+front_holds : All (HoldsLive 82) front
+front_holds =
+    All-from_recursion (HoldsLive 82) front
+    (top_holds, (below_top, (below_top, (below_top, (below_top, (below_top, (below_top, (below_error, (below_error, (below_top, (runtime_holds, (globals_hold, tt))))))))))))
+
+first_hold : All (HoldsLive 82) first_list
 unfolding first_list
-behind_hold = (runtime_holds, (below_top, (globals_hold, (guard_holds load_module, (guard_holds initialize_map, (guard_holds read_public, (guard_holds to_string, (guard_holds value_of_object, tt))))))))
-
-first_hold : All (HoldsLive 70) first_list
-unfolding first_list
-first_hold = All-from_recursion (HoldsLive 70) first_list (top_holds, (below_top, (below_top, (below_top, (below_top, (below_top, (below_top, (below_error, (below_error, (below_top, behind_hold))))))))))
+first_hold =
+    All-append (HoldsLive 82) front (hidden_functions guard_names load_module ++ hidden_functions conversion_names to_string) front_holds
+    (All-append (HoldsLive 82) (hidden_functions guard_names load_module) (hidden_functions conversion_names to_string) (functions_hold guard_names load_module) (functions_hold conversion_names to_string))
 
 -- all of them
 
 abbrev later_objects : List Object
 later_objects = record_object of_cajita ∷ record_object of_math ∷ native_objects common
 
-all_hold : All (HoldsLive 70) (first_list ++ later_objects)
+all_hold : All (HoldsLive 82) (first_list ++ later_objects)
 all_hold =
-    All-append (HoldsLive 70) first_list later_objects first_hold
-    (All-cons (HoldsLive 70) (record_object of_cajita) (record_object of_math ∷ native_objects common) (record_holds of_cajita)
-    (All-cons (HoldsLive 70) (record_object of_math) (native_objects common) (record_holds of_math) (natives_hold common)))
-
-seventy : length (first_list ++ later_objects) ≡ 70
-unfolding first_list native_objects
-seventy = refl
+    All-append (HoldsLive 82) first_list later_objects first_hold
+    (All-cons (HoldsLive 82) (record_object of_cajita) (record_object of_math ∷ native_objects common) (record_holds of_cajita)
+    (All-cons (HoldsLive 82) (record_object of_math) (native_objects common) (record_holds of_math) (natives_hold common)))
 
 opened_objects : opened ≡ stored (replicate 64 0) (first_list ++ later_objects)
 opened_objects = opened_is ∙ ap (λ h. stored h.counts (h.list ++ later_objects)) first_list_is
 
-pub opened_long : length opened.list ≡ 70
-opened_long = ap (λ h. length h.list) opened_objects ∙ seventy
-
-pub opened_there : built_ins_there opened
+opened_there : built_ins_there opened
 opened_there = let long = opened_long in omega (arith, long)
 
-pub opened_closed : AreClosed opened
+objects_long : length (first_list ++ later_objects) ≡ 82
+objects_long = ap (λ h. length h.list) (sym opened_objects) ∙ opened_long
+
+opened_closed : AreClosed opened
 opened_closed = subst AreClosed (sym opened_objects) (record {
-  prototypes = let long = seventy in omega (arith, long);
-  objects = subst (λ n. All (HoldsLive n) (first_list ++ later_objects)) (sym seventy) all_hold;
+  prototypes = let long = objects_long in omega (arith, long);
+  objects = subst (λ n. All (HoldsLive n) (first_list ++ later_objects)) (sym objects_long) all_hold;
 })
+
+-- a module's own functions, and what it may import
+
+module_grown : (m : ℕ) (h : Objects) → AreClosed h → Grown h (with_module m h)
+module_grown m h closed =
+    let first = with_object_grown h (named_function r.say (tag.Own m 0)) closed (named_holds (length h.list) r.say (tag.Own m 0) closed.prototypes) in
+    let second = with_object_grown _ (named_function r.later (tag.Own m 1)) first.closed (named_holds _ r.later (tag.Own m 1) first.closed.prototypes) in
+    grown_trans first second
+  where
+    named_holds : (n : ℕ) (f : Native) (t : Tag) → 10 ≤ n → HoldsLive n (named_function f t)
+    named_holds n f t ten = record { proto = omega (arith, ten); values = All-nil (λ (p : Property). IsLive n p.value) }
+
+fixed_live : (n say : ℕ) → 82 ≤ n → say + 1 < n → LiveProps n (copied (fixed_values say))
+fixed_live n say many below =
+    All-from_recursion (λ (p : Property). IsLive n p.value) (copied (fixed_values say))
+    (tt, (omega (arith, many), (omega (arith, many), (omega (arith, many), (omega (arith, many), (omega (arith, many), (omega (arith, many), (omega (arith, many), (omega (arith, many), (omega (arith, below), (omega (arith, below), tt)))))))))))
+
+imports_grown : (say : ℕ) (h : Objects) → AreClosed h → 82 ≤ length h.list → say + 1 < length h.list → Grown h (with_imports say h)
+imports_grown say h closed many below =
+    with_object_grown h (record_of (copied (fixed_values say))) closed (record { proto = let ten = closed.prototypes in omega (arith, ten); values = fixed_live (length h.list) say many below })
+
+one_grown : Grown opened opened_for_one
+unfolding opened_for_one
+one_grown =
+    let first = module_grown 0 opened opened_closed in
+    let long = begun_long in
+    grown_trans first (imports_grown first_say (begun 1 0) first.closed (omega (arith, long)) (omega (arith, long)))
+
+pub one_there : built_ins_there opened_for_one
+one_there = let long = one_long in omega (arith, long)
+
+pub one_closed : AreClosed opened_for_one
+one_closed = one_grown.closed

@@ -1,22 +1,24 @@
 -- The global names keep a store closed, and so the store in which a text begins names live objects alone.
-use Rattle.std.proofs.Common.{ℕ, ◌+◌, ◌<◌, ◌≤◌, List, [], ◌∷◌, None, All, length, rules, arith, lt_of_lt_of_le, le_trans}
+use Rattle.std.proofs.Common.{ℕ, ◌+◌, ◌<◌, ◌≤◌, true, List, [], ◌∷◌, None, All, length, rules, arith, lt_of_lt_of_le, le_trans}
 use Rattle.std.specs.Prelude.{codes}
-use Rattle.std.proofs.lemmas.List.Elements.{All-head, All-tail, All-from_recursion}
-use Rattle.es3_heap.specs.declared.value.Value.TheVariants.{Undefined, Obj}
+use Rattle.std.proofs.lemmas.List.Elements.{All-nil, All-head, All-tail, All-from_recursion}
+use Rattle.es3_heap.specs.declared.value.Value.TheVariants.{Undefined, Bool, Obj}
 use Rattle.es3_heap.specs.declared.value.Class.TheVariants as class
 use Rattle.es3_heap.specs.declared.value.FuncKind.TheVariants.{Constructor}
 use Rattle.es3_heap.specs.declared.value.Proto.{Proto}
 use Rattle.es3_heap.specs.declared.value.Proto.TheVariants as proto
 use Rattle.es3_heap.specs.Objects.{Object, Objects, with_object, hidden_attrs, fixed_attrs}
 use Rattle.es3_heap.specs.Making.{made, proto_id}
-use Rattle.es3_live.specs.Live.{AreClosed}
+use Rattle.es3_live.specs.Live.{IsLive, AreClosed}
 use Rattle.es3_live.proofs.Writing.{Grown, same_objects, grown_trans, define_grown}
 use Rattle.es3_live.proofs.Making.{new_within, made_grown, made_function_grown, proto_there}
 use Rattle.rows.specs.Names.{function_methods, text_methods, array_methods}
-use Rattle.heap_rows.specs.Opening.{opened, built_ins_there}
-use Rattle.global_names.specs.Opening.{object_number, function_number, array_number, math_place, constructors, with_hidden, with_constructor, with_constructors, with_names, placed, with_methods, global_attrs, with_functions, with_globals, with_prototypes, with_global_names, text_objects, text_globals}
-use Rattle.global_names.specs.Natives.{text_fits}
-use Rattle.live_openings.proofs.Page.{opened_there, opened_closed}
+use Rattle.heap_rows.specs.Marks.{call_mark}
+use Rattle.heap_rows.specs.Opening.{runtime_id, built_ins_there, opened_for_one}
+use Rattle.heap_rows.proofs.Made.{one_long}
+use Rattle.global_names.specs.Opening.{object_number, function_number, array_number, math_place, constructors, with_hidden, with_constructor, with_constructors, with_names, placed, with_methods, with_call_marks, array_calls, text_calls, with_marks, global_attrs, with_functions, with_globals, with_prototypes, with_global_names, text_objects, text_globals}
+use Rattle.global_names.specs.Natives.{nothing_said, text_fits}
+use Rattle.live_openings.proofs.Page.{one_there, one_closed}
 
 -- a property that holds an object which is there
 
@@ -42,7 +44,7 @@ constructors_grown n globals (c ∷ cs) h closed many below =
     let first = constructor_grown n globals c h closed many (All-head (ConstructorBelow n) c cs below) in
     grown_trans first (constructors_grown n globals cs _ first.closed (le_trans many first.later.more) (All-tail (ConstructorBelow n) c cs below))
 
-constructors_below : (n : ℕ) → 70 ≤ n → All (ConstructorBelow (n + 3)) (constructors n)
+constructors_below : (n : ℕ) → 82 ≤ n → All (ConstructorBelow (n + 3)) (constructors n)
 constructors_below n many =
     All-from_recursion (ConstructorBelow (n + 3)) (constructors n)
     (omega arith, (omega arith, (omega arith, (omega (arith, many), (omega (arith, many), (omega (arith, many), (omega (arith, many), (omega (arith, many), (omega (arith, many), tt)))))))))
@@ -52,19 +54,19 @@ constructors_below n many =
 abbrev MethodBelow : ℕ → List ℕ × ℕ → Type 0
 MethodBelow n m = m.1 < n
 
-methods_grown : (o : ℕ) (ms : List (List ℕ × ℕ)) (h : Objects) → AreClosed h → 70 ≤ length h.list → All (MethodBelow 70) ms → Grown h (with_methods o ms h)
+methods_grown : (o : ℕ) (ms : List (List ℕ × ℕ)) (h : Objects) → AreClosed h → 82 ≤ length h.list → All (MethodBelow 82) ms → Grown h (with_methods o ms h)
 methods_grown o [] h closed many below = same_objects h closed
 methods_grown o (m ∷ ms) h closed many below =
-    let first = hidden_grown o m.0 m.1 h closed (lt_of_lt_of_le (All-head (MethodBelow 70) m ms below) many) in
-    grown_trans first (methods_grown o ms _ first.closed (le_trans many first.later.more) (All-tail (MethodBelow 70) m ms below))
+    let first = hidden_grown o m.0 m.1 h closed (lt_of_lt_of_le (All-head (MethodBelow 82) m ms below) many) in
+    grown_trans first (methods_grown o ms _ first.closed (le_trans many first.later.more) (All-tail (MethodBelow 82) m ms below))
 
-function_methods_below : All (MethodBelow 70) (placed function_methods)
+function_methods_below : All (MethodBelow 82) (placed function_methods)
 function_methods_below = search (rules, arith)
 
-text_methods_below : All (MethodBelow 70) (placed text_methods)
+text_methods_below : All (MethodBelow 82) (placed text_methods)
 text_methods_below = search (rules, arith)
 
-array_methods_below : All (MethodBelow 70) (placed array_methods)
+array_methods_below : All (MethodBelow 82) (placed array_methods)
 array_methods_below = search (rules, arith)
 
 prototypes_grown : (h : Objects) → built_ins_there h → AreClosed h → Grown h (with_prototypes h)
@@ -74,6 +76,20 @@ prototypes_grown h there closed =
     let second = methods_grown (proto_id proto.String) (placed text_methods) _ first.closed (le_trans there first.later.more) text_methods_below in
     let both = grown_trans first second in
     grown_trans both (methods_grown (proto_id proto.Array) (placed array_methods) _ second.closed (le_trans there both.later.more) array_methods_below)
+
+-- the marks of methods that modules may call
+
+call_marks_grown : (o : ℕ) (ks : List (List ℕ)) (h : Objects) → AreClosed h → Grown h (with_call_marks o ks h)
+call_marks_grown o [] h closed = same_objects h closed
+call_marks_grown o (k ∷ ks) h closed =
+    let first = define_grown h o (call_mark k) (Bool true) hidden_attrs closed tt in
+    grown_trans first (call_marks_grown o ks _ first.closed)
+
+marks_grown : (h : Objects) → AreClosed h → Grown h (with_marks h)
+unfolding with_marks
+marks_grown h closed =
+    let first = call_marks_grown (proto_id proto.String) text_calls h closed in
+    grown_trans first (call_marks_grown (proto_id proto.Array) array_calls _ first.closed)
 
 -- the three functions and the global object behind them
 
@@ -113,18 +129,21 @@ global_names_kept h there closed =
     let both = grown_trans first.grown second in
     let third = hidden_grown (n + 3) (codes "Math") math_place _ second.closed (let many = le_trans there both.later.more in omega (arith, many)) in
     let three = grown_trans both third in
-    let last = prototypes_grown _ (le_trans there three.later.more) third.closed in
-    record { grown = grown_trans three last; globals = lt_of_lt_of_le first.globals (le_trans second.later.more (le_trans third.later.more last.later.more)) }
+    let fourth = hidden_grown (n + 3) (codes "___") runtime_id _ third.closed (let many = le_trans there three.later.more in omega (arith, many)) in
+    let four = grown_trans three fourth in
+    let fifth = prototypes_grown _ (le_trans there four.later.more) fourth.closed in
+    let last = grown_trans fifth (marks_grown _ fifth.closed) in
+    record { grown = grown_trans four last; globals = lt_of_lt_of_le first.globals (le_trans second.later.more (le_trans third.later.more (le_trans fourth.later.more last.later.more))) }
 
-text_kept : WithNames opened text_objects
+text_kept : WithNames opened_for_one text_objects
 unfolding text_objects
-text_kept = global_names_kept opened opened_there opened_closed
+text_kept = global_names_kept opened_for_one one_there one_closed
 
-pub text_there : text_fits tt text_objects
-text_there = le_trans opened_there text_kept.grown.later.more
+pub text_there : text_fits nothing_said text_objects
+text_there = let long = one_long in let more = text_kept.grown.later.more in (omega (arith, long, more), All-nil (IsLive (length text_objects.list)))
 
 pub text_globals_there : text_globals < length text_objects.list
-text_globals_there = let long = opened_there in let more = text_kept.globals in omega (arith, long, more)
+text_globals_there = let long = one_long in let more = text_kept.globals in omega (arith, long, more)
 
 pub text_closed : AreClosed text_objects
 text_closed = text_kept.grown.closed

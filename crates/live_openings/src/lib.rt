@@ -2,20 +2,20 @@
 //! here have no bodies, and each one's contract is a law.
 #![tactic(auto)]
 
-ghost use Rattle.std.specs.Prelude.{ℕ, [], ⊤};
+ghost use Rattle.std.specs.Prelude.{ℕ, []};
 ghost use Rattle.es3_tree.specs.Tree as t;
 ghost use Rattle.es3_language.specs.Meaning.{run_program};
 ghost use Rattle.es3_live.specs.Live.{AreClosed};
 ghost use Rattle.es3_kept.specs.Kept.{KeptRun};
-ghost use Rattle.heap_rows.specs.Opening.{opened};
+ghost use Rattle.heap_rows.specs.Opening.{opened_for_one};
 ghost use Rattle.module_loader.specs.Page.{kept_fits, module_run};
 ghost use Rattle.global_names.specs.Opening.{text_objects, text_globals};
-ghost use Rattle.global_names.specs.Natives.{text_natives, text_fits};
+ghost use Rattle.global_names.specs.Natives.{nothing_said, text_natives, text_fits};
 
-/// The store in which a page begins names live objects alone.
-#[tactic(auto, using(crate::proofs::Page::opened_closed))]
+/// The store in which a page of one module begins names live objects alone.
+#[tactic(auto, using(crate::proofs::Page::one_closed))]
 pub fn a_page_begins_closed()
-    ensures { AreClosed opened }
+    ensures { AreClosed opened_for_one }
 {}
 
 /// So does the store in which a text begins, with the global names.
@@ -28,12 +28,12 @@ pub fn a_text_begins_closed()
 /// gone or of another class; and what the natives keep fits the objects still.
 #[tactic(auto, using(crate::proofs::Runs::module_kept))]
 pub fn a_module_keeps_objects_live()
-    ensures { (p : t.Tree t.program) (by n : ℕ) → KeptRun kept_fits opened (module_run p by n) }
+    ensures { (p : t.Tree t.program) (by n : ℕ) → KeptRun kept_fits opened_for_one (module_run p by n) }
 {}
 
 /// A text that runs as it stands: the same.
 #[tactic(auto, using(crate::proofs::Runs::text_run_kept))]
 pub fn a_text_keeps_objects_live()
     ensures { (p : t.Tree t.program) (by n : ℕ)
-        → KeptRun text_fits text_objects (run_program text_natives p by (record { heap = text_objects; scopes = []; codes = []; globals = text_globals; shared = [] }) tt n) }
+        → KeptRun text_fits text_objects (run_program text_natives p by (record { heap = text_objects; scopes = []; codes = []; globals = text_globals; shared = [] }) nothing_said n) }
 {}

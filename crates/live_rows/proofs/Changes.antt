@@ -1,5 +1,5 @@
 -- What changes an object keeps objects closed; and properties with live values, where some are defined anew.
-use Rattle.std.proofs.Common.{ℕ, Bool, true, false, List, [], ◌∷◌, length, cond}
+use Rattle.std.proofs.Common.{ℕ, Bool, true, false, List, [], ◌∷◌, All, length, cond}
 use Rattle.std.proofs.lemmas.List.Elements.{All-cons, All-head, All-tail, All-filter}
 use Rattle.std.specs.List.{filter}
 use Rattle.caja_units.specs.Units.{same_units}
@@ -9,11 +9,11 @@ use Rattle.es3_heap.specs.declared.value.Attrs.{Attrs}
 use Rattle.es3_heap.specs.declared.value.Class.{Class}
 use Rattle.es3_heap.specs.declared.value.Class.TheVariants as class
 use Rattle.es3_heap.specs.Objects.{Property, Objects, hidden_attrs, object_at, props_of}
-use Rattle.es3_heap.specs.Properties.{defined, with_props}
+use Rattle.es3_heap.specs.Properties.{defined, without, with_props}
 use Rattle.es3_live.specs.Live.{IsLive, AreClosed}
 use Rattle.es3_live.proofs.Reading.{LiveProps, object_holds, props_live}
 use Rattle.es3_live.proofs.Writing.{Grown, same_objects, grown_trans, with_props_grown, define_grown, delete_grown}
-use Rattle.heap_rows.specs.Marks.{read_mark, set_mark, frozen_mark, without_set_marks, drop_marks, freeze}
+use Rattle.heap_rows.specs.Marks.{read_mark, set_mark, frozen_mark, set_marks, without_keys, without_set_marks, drop_marks, freeze}
 use Rattle.heap_rows.specs.Doing.{on_object, of_record, of_array, of_either}
 
 pub grown_if : (h : Objects) (b : Bool) (f g : Objects) → Grown h f → Grown h g → Grown h (cond b f g)
@@ -59,12 +59,29 @@ defined_live n k x a (p ∷ ps) value live =
       | false ↦ All-cons (LiveProp n) p (defined k x a ps) (All-head (LiveProp n) p ps live) (defined_live n k x a ps value rest)
     ]
 
+-- what holds of all properties holds of those that a deletion leaves
+without_all : (P : Property → Type 0) (k : List ℕ) (ps : List Property) → All P ps → All P (without k ps)
+without_all P k [] all = all
+without_all P k (p ∷ ps) all =
+    let rest = All-tail P p ps all in
+    elim (same_units k p.key) as (λ b. All P (cond b (cond p.attrs.dont_delete (p ∷ ps) ps) (p ∷ without k ps))) [
+      | true ↦ elim p.attrs.dont_delete as (λ b. All P (cond b (p ∷ ps) ps)) [
+        | true ↦ all
+        | false ↦ rest
+      ]
+      | false ↦ All-cons P p (without k ps) (All-head P p ps all) (without_all P k ps rest)
+    ]
+
+without_keys_all : (P : Property → Type 0) (ks : List (List ℕ)) (ps : List Property) → All P ps → All P (without_keys ks ps)
+without_keys_all P [] ps all = all
+without_keys_all P (k ∷ ks) ps all = without_keys_all P ks (without k ps) (without_all P k ps all)
+
 -- marks
 
 pub freeze_grown : (h : Objects) (o : ℕ) → AreClosed h → Grown h (freeze h o)
 freeze_grown h o closed =
     let ps = without_set_marks (props_of (object_at h o)) in
-    let first = with_props_grown h o ps closed (filter_live (length h.list) _ (props_of (object_at h o)) (props_of_live h o closed)) in
+    let first = with_props_grown h o ps closed (without_keys_all (LiveProp (length h.list)) (set_marks (props_of (object_at h o))) (props_of (object_at h o)) (props_of_live h o closed)) in
     grown_trans first (define_grown (with_props h o (object_at h o) ps) o frozen_mark (v.Bool true) hidden_attrs first.closed tt)
 
 pub drop_marks_grown : (h : Objects) (o : ℕ) (k : List ℕ) → AreClosed h → Grown h (drop_marks h o k)

@@ -1,158 +1,194 @@
-//! Calls of the guards, each once where it succeeds.
+//! Calls of the guards: each where it succeeds, and the errors that they throw.
 
-use crate::samples::{made, nested, put_conversion};
-use caja_num::Whole;
-use caja_units::{Memory, Units};
-use es3_convert::out_of_memory;
+use crate::samples::{made, nested, put_conversion, text_value};
+use caja_units::Units;
+use es3_convert::{out_of_memory, strict_equal};
 use es3_heap::{Heap, Stop, Tag, Value};
-use guard_runtime::{Guarded, guard_row, initialize_map, read_public};
+use guard_runtime::{Guard, call_guard};
 use module_loader::open;
+use row_outcomes::Outcome;
 use std::alloc::Global;
 use std::test::Fail;
 
-fn number(v: i64) -> Value {
-    Whole::new(v).map_or(Value::Null, Value::Num)
+/// What the guard of these arguments comes to.
+fn called(
+    alloc: Global,
+    heap: &mut Heap,
+    guard: Guard,
+    samples: &[&str; 3],
+) -> Result<Outcome, Stop> {
+    let mut args = Vec::new(alloc);
+    for sample in samples {
+        let value = made(alloc, heap, sample)?;
+        args.push(value).map_err(|_| Stop::Memory)?;
+    }
+    call_guard(alloc, heap, guard, 3, &args)
 }
 
-fn text(alloc: Global, bytes: &[u8]) -> Result<Value, Memory> {
-    Ok(Value::Text(Units::from_ascii(alloc, bytes)?))
-}
+/// A guard, its arguments, and what it answers.
+static ANSWERS: [(Guard, [&str; 3], &str); 14] = [
+    (Guard::ReadImport, ["[7,8]", "1", "undefined"], "8"),
+    (Guard::ReadImport, ["{}", "'x'", "undefined"], "undefined"),
+    (Guard::Key, ["5", "undefined", "undefined"], "'5'"),
+    (Guard::Key, ["null", "undefined", "undefined"], "'null'"),
+    (Guard::ReadPub, ["[7,8]", "1", "undefined"], "8"),
+    (Guard::ReadPub, ["{}", "'x'", "undefined"], "undefined"),
+    (Guard::SetPub, ["{}", "'x'", "5"], "5"),
+    (Guard::SetPub, ["[7,8]", "2", "9"], "9"),
+    (Guard::DeletePub, ["{}", "'x'", "undefined"], "true"),
+    (Guard::InPub, ["'length'", "[7]", "undefined"], "true"),
+    (Guard::InPub, ["1", "[7]", "undefined"], "false"),
+    (Guard::InPub, ["'x'", "{}", "undefined"], "false"),
+    (Guard::InPub, ["'push'", "[7]", "undefined"], "false"),
+    (Guard::InPub, ["'x'", "function", "undefined"], "false"),
+];
 
-fn in_number(v: &Value) -> Option<i64> {
-    match v {
-        Value::Num(n) => Some(n.get()),
-        _ => None,
+/// Whether a guard answers this.
+fn answers(
+    alloc: Global,
+    heap: &mut Heap,
+    guard: Guard,
+    samples: &[&str; 3],
+    expected: &str,
+) -> Result<bool, Stop> {
+    let expected = made(alloc, heap, expected)?;
+    match called(alloc, heap, guard, samples)? {
+        Outcome::Value(value) => Ok(strict_equal(&value, &expected)),
+        _other => Ok(false),
     }
 }
 
-/// The number that a guard answers.
-fn number_of(answer: Guarded) -> Option<i64> {
-    match answer {
-        Guarded::Value(v) => in_number(&v),
-        _other => None,
+#[test]
+fn a_guard_answers(rt: HostRuntime) -> Result<(), Fail> {
+    let mut heap = Heap::new(rt.alloc())?;
+    for (guard, samples, expected) in ANSWERS.iter() {
+        assert!(rt;
+            answers(rt.alloc(), &mut heap, *guard, samples, expected)?,
+            "{expected}"
+        );
     }
+    Ok(())
 }
 
-fn is_undefined(answer: Guarded) -> bool {
-    match answer {
-        Guarded::Value(v) => matches!(&v, Value::Undefined),
-        _other => false,
-    }
-}
+/// A guard, its arguments, and the message of the error that it throws.
+static ERRORS: [(Guard, [&str; 3], &str); 25] = [
+    (Guard::ReadImport, ["5", "'x'", "undefined"], "bad argument"),
+    (
+        Guard::Func,
+        ["{}", "undefined", "undefined"],
+        "not a function",
+    ),
+    (
+        Guard::Args,
+        ["{}", "undefined", "undefined"],
+        "bad argument",
+    ),
+    (
+        Guard::InitializeArray,
+        ["{}", "undefined", "undefined"],
+        "bad argument",
+    ),
+    (
+        Guard::InitializeMap,
+        ["{}", "undefined", "undefined"],
+        "bad argument",
+    ),
+    (Guard::ReadPub, ["null", "'x'", "undefined"], "no object"),
+    (Guard::SetPub, ["undefined", "'x__'", "5"], "no object"),
+    (Guard::SetPub, ["{}", "'x__'", "5"], "bad key"),
+    (Guard::SetPub, ["{}", "'toString'", "5"], "bad key"),
+    (Guard::SetPub, ["5", "'valueOf'", "5"], "bad key"),
+    (Guard::SetPub, ["5", "'x'", "5"], "not writable"),
+    (Guard::SetPub, ["[7]", "2", "5"], "not writable"),
+    (Guard::SetPub, ["[7]", "'x'", "5"], "not writable"),
+    (Guard::SetPub, ["function", "'x'", "5"], "not writable"),
+    (Guard::DeletePub, ["null", "'x'", "undefined"], "no object"),
+    (Guard::DeletePub, ["{}", "'x__'", "undefined"], "bad key"),
+    (Guard::DeletePub, ["[7]", "0", "undefined"], "not deletable"),
+    (
+        Guard::InPub,
+        ["'length'", "'abc'", "undefined"],
+        "no object",
+    ),
+    (
+        Guard::KeysPub,
+        ["null", "undefined", "undefined"],
+        "no object",
+    ),
+    (Guard::CallPub, ["null", "'x'", "{}"], "bad argument"),
+    (Guard::CallPub, ["null", "'x'", "[]"], "no object"),
+    (Guard::CallPub, ["{}", "'x'", "[]"], "not a function"),
+    (
+        Guard::AsSimpleFunc,
+        ["function", "undefined", "undefined"],
+        "not a function",
+    ),
+    (
+        Guard::Construct,
+        ["function", "[]", "undefined"],
+        "not a constructor",
+    ),
+    (
+        Guard::InstanceOf,
+        ["{}", "function", "undefined"],
+        "not a function",
+    ),
+];
 
-/// An array of a key and its value, in turn.
-fn pairs(alloc: Global, heap: &mut Heap, all: &[(&str, i64)]) -> Result<Value, Memory> {
-    let mut items = Vec::new(alloc);
-    for (key, value) in all {
-        items.push(text(alloc, key.as_bytes())?)?;
-        items.push(number(*value))?;
-    }
-    Ok(Value::Obj(heap.make_array(items)?))
-}
-
-/// The name for the log of the error that a guard throws, and its message.
-fn error_of(alloc: Global, heap: &Heap, answer: Guarded) -> Result<(Tag, Value), Memory> {
-    let key = Units::from_ascii(alloc, b"message")?;
-    let thrown = match answer {
-        Guarded::Throw(v) => v,
+/// What is thrown, undefined where nothing is.
+fn thrown_of(outcome: Outcome) -> Value {
+    match outcome {
+        Outcome::Throw(value) => value,
         _other => Value::Undefined,
-    };
-    match &thrown {
+    }
+}
+
+/// The name for the log of an error, and its message.
+fn error_of(alloc: Global, heap: &Heap, thrown: &Value) -> Result<(Tag, Value), Stop> {
+    let key = Units::from_ascii(alloc, b"message").map_err(out_of_memory)?;
+    match thrown {
         Value::Obj(error) => {
-            let message = heap.get(*error, &key).copy(alloc)?;
+            let message = heap.get(*error, &key).copy(alloc).map_err(out_of_memory)?;
             Ok((heap.tag(*error), message))
         }
         _ => Ok((Tag::None, Value::Undefined)),
     }
 }
 
-fn is_text(v: &Value, units: &Units) -> bool {
-    match v {
-        Value::Text(text) => text.same(units),
-        _ => false,
-    }
-}
-
-/// The value that a guard answers, and undefined where it throws.
-fn value_of(answer: Guarded) -> Value {
-    match answer {
-        Guarded::Value(v) => v,
-        _other => Value::Undefined,
-    }
-}
-
-/// What the key `x` reads in a record of these keys and values.
-fn x_of(alloc: Global, heap: &mut Heap, all: &[(&str, i64)]) -> Result<Option<i64>, Memory> {
-    let x = text(alloc, b"x")?;
-    let items = pairs(alloc, heap, all)?;
-    let record = value_of(initialize_map(alloc, heap, 2, &items));
-    Ok(number_of(read_public(alloc, heap, 2, &record, &x)))
-}
-
-#[test]
-fn a_record_has_the_last_value_of_each_key(rt: HostRuntime) -> Result<(), Fail> {
-    let mut heap = Heap::new(rt.alloc())?;
-    let once = x_of(rt.alloc(), &mut heap, &[("x", 1)])?;
-    assert_eq!(rt; once, Some(1));
-    let twice = x_of(rt.alloc(), &mut heap, &[("x", 1), ("x", 2)])?;
-    assert_eq!(rt; twice, Some(2));
-    Ok(())
-}
-
-/// Whether the record has no public property of this name.
-fn lacks(alloc: Global, heap: &mut Heap, record: &Value, name: &str) -> Result<bool, Memory> {
-    let key = text(alloc, name.as_bytes())?;
-    Ok(is_undefined(read_public(alloc, heap, 2, record, &key)))
-}
-
-#[test]
-fn what_is_absent_or_hidden_reads_as_undefined(rt: HostRuntime) -> Result<(), Fail> {
-    let mut heap = Heap::new(rt.alloc())?;
-    let items = pairs(rt.alloc(), &mut heap, &[("x", 1), ("x__", 2)])?;
-    let record = value_of(guard_row(rt.alloc(), &mut heap, 69, 2, &[items]));
-    assert!(rt; lacks(rt.alloc(), &mut heap, &record, "y")?);
-    assert!(rt; lacks(rt.alloc(), &mut heap, &record, "x__")?);
-    Ok(())
-}
-
-/// The number of a guard's row, that of the error that it throws, and the message.
-static ERRORS: [(u32, u32, &str); 3] = [
-    (71, 0, "no object"),
-    (69, 1, "bad argument"),
-    (64, 2, "not a function"),
-];
-
-/// Whether a guard throws this error.
+/// Whether a guard throws this error, the next one of the running module.
 fn throws(
     alloc: Global,
     heap: &mut Heap,
-    row: u32,
+    guard: Guard,
+    samples: &[&str; 3],
     number: u32,
     message: &str,
-) -> Result<bool, Memory> {
-    let expected = Units::from_ascii(alloc, message.as_bytes())?;
-    let answer = guard_row(alloc, heap, row, 3, &[]);
-    let (tag, thrown) = error_of(alloc, heap, answer)?;
-    Ok(tag == Tag::Made(3, number) && is_text(&thrown, &expected))
+) -> Result<bool, Stop> {
+    let thrown = thrown_of(called(alloc, heap, guard, samples)?);
+    let (tag, found) = error_of(alloc, heap, &thrown)?;
+    let expected = text_value(alloc, message)?;
+    Ok(tag == Tag::Made(3, number) && strict_equal(&found, &expected))
 }
 
 #[test]
 fn an_error_of_a_guard_is_named_for_the_running_module(rt: HostRuntime) -> Result<(), Fail> {
     let mut heap = Heap::new(rt.alloc())?;
-    for (row, number, message) in ERRORS.iter() {
+    let mut number = 0u32;
+    for (guard, samples, message) in ERRORS.iter() {
         assert!(rt;
-            throws(rt.alloc(), &mut heap, *row, *number, message)?,
-            "{message}"
+            throws(rt.alloc(), &mut heap, *guard, samples, number, message)?,
+            "{message} {number}"
         );
+        number = number.saturating_add(1);
     }
     Ok(())
 }
 
 /// Why a guard stops the run, if it does.
-fn stop_of(answer: Guarded) -> Option<Stop> {
-    match answer {
-        Guarded::Stop(stop) => Some(stop),
-        _other => None,
+fn stop_of(outcome: Result<Outcome, Stop>) -> Option<Stop> {
+    match outcome {
+        Err(stop) => Some(stop),
+        Ok(_outcome) => None,
     }
 }
 
@@ -163,14 +199,15 @@ fn stops_of(
     key: &Value,
 ) -> Result<(Option<Stop>, Option<Stop>), Stop> {
     let object = made(alloc, heap, "{}")?;
-    let read = stop_of(read_public(alloc, heap, 2, &object, key));
     let mut items = Vec::new(alloc);
     for part in [key, &object] {
         let part = part.copy(alloc).map_err(out_of_memory)?;
         items.push(part).map_err(|_| Stop::Memory)?;
     }
     let items = Value::Obj(heap.make_array(items).map_err(out_of_memory)?);
-    let record = stop_of(initialize_map(alloc, heap, 2, &items));
+    let record = stop_of(call_guard(alloc, heap, Guard::InitializeMap, 2, &[items]));
+    let key = key.copy(alloc).map_err(out_of_memory)?;
+    let read = stop_of(call_guard(alloc, heap, Guard::ReadPub, 2, &[object, key]));
     Ok((read, record))
 }
 

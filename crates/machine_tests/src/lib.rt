@@ -24,3 +24,5 @@ mod read_rows;
 mod runner_rows;
 #[cfg(test)]
 mod samples;
+#[cfg(test)]
+mod write_rows;

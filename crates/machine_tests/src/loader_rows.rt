@@ -39,7 +39,7 @@ fn load_module_calls_a_function_and_no_record(rt: HostRuntime) -> Result<(), Fai
 #[test]
 fn char_at_is_the_function_of_number_23(rt: HostRuntime) -> Result<(), Fail> {
     let opened = open(rt.alloc())?;
-    let char_at = ObjId::new(41);
+    let char_at = ObjId::new(53);
     assert_eq!(rt; opened.heap.class(char_at), Class::Function);
     assert_eq!(rt; opened.heap.tag(char_at), Tag::Built(23));
     Ok(())
@@ -48,7 +48,7 @@ fn char_at_is_the_function_of_number_23(rt: HostRuntime) -> Result<(), Fail> {
 #[test]
 fn the_record_cajita_is_frozen(rt: HostRuntime) -> Result<(), Fail> {
     let opened = open(rt.alloc())?;
-    let cajita = ObjId::new(18);
+    let cajita = ObjId::new(30);
     let frozen = Units::from_ascii(rt.alloc(), b"FROZEN___")?;
     assert_eq!(rt; opened.heap.tag(cajita), Tag::Built(0));
     assert!(rt; opened.heap.own(cajita, &frozen).is_some());

@@ -28,7 +28,7 @@ fn started(alloc: Global, heap: &mut Heap, body: Vec<Stmt>) -> Result<Machine, M
 fn run(alloc: Global, body: Vec<Stmt>, steps: u64) -> Result<(Completion, u64), Stop> {
     let mut heap = Heap::new(alloc).map_err(out_of_memory)?;
     let mut machine = started(alloc, &mut heap, body).map_err(out_of_memory)?;
-    machine.run(&mut heap, &mut TextNatives, steps)
+    machine.run(&mut heap, &mut TextNatives::new(alloc), steps)
 }
 
 fn name(alloc: Global, text: &str) -> Result<Name, Memory> {
@@ -117,14 +117,14 @@ fn called_from_outside(alloc: Global, argument: Value) -> Result<(Completion, u6
     let function = identity(alloc).map_err(out_of_memory)?;
     let body = alone(alloc, Stmt::Expr(function)).map_err(out_of_memory)?;
     let mut machine = started(alloc, &mut heap, body).map_err(out_of_memory)?;
-    let (completion, _taken) = machine.run(&mut heap, &mut TextNatives, 100)?;
+    let (completion, _taken) = machine.run(&mut heap, &mut TextNatives::new(alloc), 100)?;
     let function = match completion {
         Completion::Normal(v) => v,
         Completion::Thrown(v) => v,
     };
     let args = alone(alloc, argument).map_err(out_of_memory)?;
     machine.start_call(function, Value::Undefined, args, 0);
-    machine.run(&mut heap, &mut TextNatives, 2)
+    machine.run(&mut heap, &mut TextNatives::new(alloc), 2)
 }
 
 #[test]

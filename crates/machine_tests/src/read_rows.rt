@@ -1,10 +1,11 @@
 //! What `readPub` reads of each kind of value, and the mark that it leaves.
 
-use crate::samples::{made, text_value};
+use crate::samples::{made, own_keys, text_value};
 use caja_units::Units;
 use es3_convert::{out_of_memory, strict_equal};
 use es3_heap::{FuncKind, Heap, ObjId, Proto, Stop, Value};
-use guard_runtime::{Guarded, read_public};
+use guard_runtime::{Guard, call_guard};
+use row_outcomes::Outcome;
 use std::alloc::Global;
 use std::test::Fail;
 
@@ -24,27 +25,22 @@ static PLAIN: [(&str, &str, &str); 10] = [
 
 /// A value, a key, and the place of the built-in function that is read.
 static METHODS: [(&str, &str, u32); 6] = [
-    ("'abc'", "charAt", 41),
-    ("'abc'", "concat", 48),
-    ("''", "slice", 45),
-    ("[7,8]", "concat", 49),
-    ("[7,8]", "push", 52),
-    ("[]", "reverse", 56),
+    ("'abc'", "charAt", 53),
+    ("'abc'", "concat", 60),
+    ("''", "slice", 57),
+    ("[7,8]", "concat", 61),
+    ("[7,8]", "push", 64),
+    ("[]", "reverse", 68),
 ];
-
-/// What a guard answers.
-fn answered(answer: Guarded) -> Result<Value, Stop> {
-    match answer {
-        Guarded::Value(v) => Ok(v),
-        Guarded::Throw(_) => Err(Stop::Convert),
-        Guarded::Stop(stop) => Err(stop),
-    }
-}
 
 /// What a key of a value reads as.
 fn read(alloc: Global, heap: &mut Heap, x: &Value, key: &str) -> Result<Value, Stop> {
     let key = text_value(alloc, key)?;
-    answered(read_public(alloc, heap, 2, x, &key))
+    let x = x.copy(alloc).map_err(out_of_memory)?;
+    match call_guard(alloc, heap, Guard::ReadPub, 2, &[x, key])? {
+        Outcome::Value(value) => Ok(value),
+        _other => Err(Stop::Convert),
+    }
 }
 
 #[test]
@@ -82,8 +78,8 @@ fn a_method_is_the_function_at_its_place(rt: HostRuntime) -> Result<(), Fail> {
         );
     }
     let function = Value::Obj(heap.make_func(FuncKind::Simple(9), 0)?);
-    assert!(rt; has_method(rt.alloc(), &mut heap, &function, "call", 39)?);
-    assert!(rt; has_method(rt.alloc(), &mut heap, &function, "apply", 40)?);
+    assert!(rt; has_method(rt.alloc(), &mut heap, &function, "call", 51)?);
+    assert!(rt; has_method(rt.alloc(), &mut heap, &function, "apply", 52)?);
     Ok(())
 }
 
@@ -117,17 +113,6 @@ fn an_error_has_a_name_and_a_message(rt: HostRuntime) -> Result<(), Fail> {
     let other = read(rt.alloc(), &mut heap, &error, "length")?;
     assert!(rt; matches!(&other, Value::Undefined));
     Ok(())
-}
-
-/// The own keys of an object, each with a space behind it.
-fn own_keys(alloc: Global, heap: &Heap, o: ObjId) -> Result<Units, Stop> {
-    let mut all = Units::from_ascii(alloc, b"").map_err(out_of_memory)?;
-    let space = Units::from_ascii(alloc, b" ").map_err(out_of_memory)?;
-    for key in heap.own_keys(o).map_err(out_of_memory)? {
-        let longer = all.join(alloc, &key).map_err(out_of_memory)?;
-        all = longer.join(alloc, &space).map_err(out_of_memory)?;
-    }
-    Ok(all)
 }
 
 /// What the own keys of a record are once these were read of it, that had `x` and `x__`.

@@ -5,7 +5,7 @@ use crate::lists::alone;
 use caja_num::Whole;
 use caja_units::{Memory, Units};
 use es3_convert::out_of_memory;
-use es3_heap::{Class, FuncKind, Heap, Proto, Stop, Value};
+use es3_heap::{Class, FuncKind, Heap, ObjId, Proto, Stop, Value};
 use std::alloc::Global;
 
 /// The text between a first and a last character, if those are there.
@@ -99,4 +99,15 @@ pub fn put_conversion(alloc: Global, heap: &mut Heap, object: &Value) -> Result<
         Value::Obj(o) => heap.put(*o, &key, Value::Undefined).map_err(out_of_memory),
         _ => Ok(false),
     }
+}
+
+/// The own keys of an object, each with a space behind it.
+pub fn own_keys(alloc: Global, heap: &Heap, o: ObjId) -> Result<Units, Stop> {
+    let mut all = Units::from_ascii(alloc, b"").map_err(out_of_memory)?;
+    let space = Units::from_ascii(alloc, b" ").map_err(out_of_memory)?;
+    for key in heap.own_keys(o).map_err(out_of_memory)? {
+        let longer = all.join(alloc, &key).map_err(out_of_memory)?;
+        all = longer.join(alloc, &space).map_err(out_of_memory)?;
+    }
+    Ok(all)
 }

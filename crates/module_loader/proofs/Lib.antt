@@ -1,2 +1,3 @@
+pub mod Answered
 pub mod BuiltIns
-pub mod Guarding
+pub mod Imported

@@ -1,3 +1,5 @@
+pub mod Answered
 pub mod BuiltIns
+pub mod Imports
 pub mod Page
 pub mod Keeps

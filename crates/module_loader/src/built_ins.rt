@@ -15,23 +15,23 @@ const MATH: u32 = 1;
 
 /// The functions of the record `cajita`: the name of each, and the object that it is.
 const CAJITA_FUNCTIONS: [(&[u8], u32); 7] = [
-    (b"freeze", 20),
-    (b"isFrozen", 21),
-    (b"copy", 22),
-    (b"snapshot", 23),
-    (b"isArray", 24),
-    (b"isRecord", 25),
-    (b"keys", 26),
+    (b"freeze", 32),
+    (b"isFrozen", 33),
+    (b"copy", 34),
+    (b"snapshot", 35),
+    (b"isArray", 36),
+    (b"isRecord", 37),
+    (b"keys", 38),
 ];
 
 /// The functions of the record `Math`.
 const MATH_FUNCTIONS: [(&[u8], u32); 6] = [
-    (b"abs", 27),
-    (b"floor", 28),
-    (b"ceil", 29),
-    (b"round", 30),
-    (b"max", 31),
-    (b"min", 32),
+    (b"abs", 39),
+    (b"floor", 40),
+    (b"ceil", 41),
+    (b"round", 42),
+    (b"max", 43),
+    (b"min", 44),
 ];
 
 /// The built-in functions in the order of their numbers: the two records', the conversions, the constructors of errors, and
@@ -123,7 +123,12 @@ fn add_functions(heap: &mut Heap, kinds: &[FuncKind]) -> Result<(), Memory>
 }
 
 /// Gives a record these functions, which need not be there yet.
-fn fill(alloc: Global, heap: &mut Heap, o: ObjId, functions: &[(&[u8], u32)]) -> Result<(), Memory>
+pub(crate) fn fill(
+    alloc: Global,
+    heap: &mut Heap,
+    o: ObjId,
+    functions: &[(&[u8], u32)],
+) -> Result<(), Memory>
     ensures store { OnOk result (heap.new ≡ with_entries (map (λ f. (f.0.now, f.1)) functions.now) o heap.old) }
     ensures live { length heap.new.list ≡ length heap.old.list }
 {

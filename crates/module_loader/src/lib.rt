@@ -2,8 +2,9 @@
 #![tactic(auto)]
 
 mod built_ins;
+mod imports;
 mod natives;
 mod opening;
 
-pub use natives::PageNatives;
+pub use natives::{PageNatives, answer_of};
 pub use opening::{Opened, open};

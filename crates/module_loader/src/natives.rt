@@ -1,18 +1,18 @@
 //! The natives of a page.
 
-ghost use Rattle.std.specs.Prelude.{◌≡◌, ◌≤◌, IfOk, codes, length};
-ghost use Rattle.es3_heap.specs.Objects.{Objects, object_at, class_of};
-ghost use Rattle.es3_moves.specs.Answers.{Answers};
-ghost use Rattle.guard_runtime.specs.Guards.{guard, thrown};
+ghost use Rattle.std.specs.Prelude.{◌≡◌, ◌≤◌, length};
+ghost use Rattle.row_outcomes.specs.Comes.{Comes};
+ghost use Rattle.module_loader.specs.Answered.{answered};
 ghost use Rattle.module_loader.specs.Keeps.{page_keeps_live};
-ghost use Rattle.module_loader.specs.Page.{Kept, answered, kept_of, kept_fits, turn_of, module_turn, loads, load_answer, page_table};
+ghost use Rattle.module_loader.specs.Page.{Kept, kept_of, kept_fits, page_done, page_table};
 
 use crate::opening::LOAD_MODULE;
 use caja_units::{Memory, Units};
-use es3_heap::{Class, Heap, ObjId, Stop, Tag, Value};
+use es3_heap::{Heap, ObjId, Stop, Tag, Value};
 use es3_language::Touch;
 use es3_moves::natives::{Answer, Natives};
-use guard_runtime::{Guarded, guard_row};
+use guard_runtime::{call_guard, guard_at, load_module};
+use row_outcomes::{Outcome, thrown, value_or};
 use std::alloc::Global;
 
 /// What the modules of a page may call: the guards, and `loadModule`.
@@ -22,78 +22,44 @@ pub struct PageNatives {
     pub imports: ObjId,
 }
 
-/// A guard's answer as that of a native.
-fn answer_of(guarded: Guarded) -> Answer
-    ensures { result ≡ answered guarded }
+/// The answer of a native that comes to this.
+pub fn answer_of(outcome: Result<Outcome, Stop>) -> Answer
+    ensures { result ≡ answered outcome }
 {
-    match guarded {
-        Guarded::Value(v) => Answer::Value(v),
-        Guarded::Throw(v) => Answer::Throw(v),
-        Guarded::Stop(stop) => Answer::Stop(stop),
-    }
-}
-
-/// What a guard answers.
-fn ask(
-    natives: &PageNatives,
-    alloc: Global,
-    heap: &mut Heap,
-    row: u32,
-    by: u32,
-    args: &[Value],
-) -> Answer
-    ensures answers { Answers (turn_of (guard row by args.now heap.old) (kept_of natives.now)) result heap.new (kept_of natives.now) }
-    ensures live { length heap.old.list ≤ length heap.new.list }
-{
-    let _ = natives;
-    answer_of(guard_row(alloc, heap, row, by, args))
-}
-
-/// Throws that what was to be called is no function.
-fn not_a_function(natives: &PageNatives, alloc: Global, heap: &mut Heap, by: u32) -> Answer
-    ensures answers { Answers (turn_of (thrown (codes "not a function") by heap.old) (kept_of natives.now)) result heap.new (kept_of natives.now) }
-    ensures live { length heap.old.list ≤ length heap.new.list }
-{
-    ask(natives, alloc, heap, LOAD_MODULE, by, &[])
-}
-
-/// The call of a module with the object of the runtime and that of the imports.
-fn module_call(alloc: Global, callee: ObjId, natives: &PageNatives) -> Result<Answer, Memory>
-    ensures { IfOk result (λ answer. (h : Objects) → Answers (module_turn callee h (kept_of natives.now)) answer h (kept_of natives.now)) }
-{
-    let mut args = Vec::with_capacity(alloc, 2)?;
-    args.push(Value::Obj(natives.runtime))?;
-    args.push(Value::Obj(natives.imports))?;
-    Ok(Answer::Invoke(false, Value::Obj(callee), Value::Undefined, args))
-}
-
-/// `loadModule` of an object.
-fn load_object(
-    natives: &PageNatives,
-    alloc: Global,
-    heap: &mut Heap,
-    by: u32,
-    callee: ObjId,
-) -> Answer
-    ensures answers { Answers (loads (class_of (object_at heap.old callee)) callee by heap.old (kept_of natives.now)) result heap.new (kept_of natives.now) }
-    ensures live { length heap.old.list ≤ length heap.new.list }
-{
-    match heap.class(callee) {
-        Class::Function => {
-            module_call(alloc, callee, natives).unwrap_or(Answer::Stop(Stop::Memory))
+    match outcome {
+        Ok(Outcome::Value(value)) => Answer::Value(value),
+        Ok(Outcome::Throw(value)) => Answer::Throw(value),
+        Ok(Outcome::Invoke(recorded, function, this, args)) => {
+            Answer::Invoke(recorded, function, this, args)
         }
-        _ => not_a_function(natives, alloc, heap, by),
+        Err(stop) => Answer::Stop(stop),
     }
 }
 
-/// `loadModule`, by the value that it is called with.
-fn load(natives: &PageNatives, alloc: Global, heap: &mut Heap, by: u32, callee: &Value) -> Answer
-    ensures answers { Answers (load_answer callee.now by heap.old (kept_of natives.now)) result heap.new (kept_of natives.now) }
-    ensures live { length heap.old.list ≤ length heap.new.list }
-{
-    match callee {
-        Value::Obj(o) => load_object(natives, alloc, heap, by, *o),
-        _ => not_a_function(natives, alloc, heap, by),
+impl PageNatives {
+    /// What the native of a number comes to: `loadModule`, or a guard. It throws a TypeError `not a function` for another
+    /// number.
+    fn outcome(
+        &self,
+        alloc: Global,
+        h: &mut Heap,
+        which: u32,
+        by: u32,
+        args: &[Value],
+    ) -> Result<Outcome, Stop>
+        ensures outcome { Comes (page_done which by args.now h.old (kept_of self.now)) result h.new }
+        ensures live { length h.old.list ≤ length h.new.list }
+    {
+        if which == LOAD_MODULE {
+            let absent = Value::Undefined;
+            let callee = value_or(args, 0, &absent);
+            load_module(alloc, h, by, callee, self.runtime, self.imports)
+        } else {
+            match guard_at(which) {
+                Some(guard) => call_guard(alloc, h, guard, by, args),
+                None => thrown(alloc, h, by, b"not a function"),
+            }
+        }
     }
 }
 
@@ -106,6 +72,7 @@ impl Natives for PageNatives {
 
     ghost fits = { kept_fits };
 
+    #[tactic(auto, using(crate::proofs::Answered::comes_answers))]
     fn call(
         &mut self,
         alloc: Global,
@@ -115,12 +82,7 @@ impl Natives for PageNatives {
         _this: &Value,
         args: &[Value],
     ) -> Answer {
-        if which == LOAD_MODULE {
-            let absent = Value::Undefined;
-            load(self, alloc, h, by, args.first().unwrap_or(&absent))
-        } else {
-            ask(self, alloc, h, which, by, args)
-        }
+        answer_of(self.outcome(alloc, h, which, by, args))
     }
 
     fn touch(

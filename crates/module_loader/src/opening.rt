@@ -1,23 +1,44 @@
-//! The store that a module of a page begins in.
+//! The store that the page of one module begins in.
 
-ghost use Rattle.std.specs.Prelude.{◌≡◌, ◌≤◌, IfOk, OnOk, length};
+ghost use Rattle.std.specs.Prelude.{◌≡◌, ◌≤◌, ◌+◌, IfOk, OnOk, length, map};
 ghost use Rattle.es3_heap.specs.Properties.{define};
-ghost use Rattle.heap_rows.specs.Opening.{first, opened, with_guard, with_guards, with_conversions, runtime_id, imports_id, globals_id};
+ghost use Rattle.heap_rows.specs.Opening.{first, opened, opened_for_one, with_hidden_function, with_hidden_functions, with_guards, with_conversions, runtime_id, imports_id, globals_id};
 
 use crate::built_ins::add_built_ins;
+use crate::imports::{add_imports, add_own_functions};
 use caja_units::{Memory, Units};
-use es3_convert::{TO_STRING, VALUE_OF};
+use es3_convert::TO_STRING;
 use es3_heap::{Attrs, Class, FuncKind, Heap, ObjId, Proto, Value};
 use std::alloc::Global;
 
 /// The number of `loadModule` among the natives of a page.
 pub const LOAD_MODULE: u32 = 64;
 
-/// The number of the guard `initializeMap`.
-const INITIALIZE_MAP: u32 = 69;
+/// The number of the module that a page of one module has.
+const MAIN: u32 = 0;
 
-/// The number of the guard `readPub`.
-const READ_PUB: u32 = 71;
+/// `loadModule` and the guards, in the order of their numbers.
+const GUARD_NAMES: [&[u8]; 16] = [
+    b"loadModule",
+    b"readImport",
+    b"func",
+    b"args",
+    b"initializeArray",
+    b"initializeMap",
+    b"key",
+    b"readPub",
+    b"setPub",
+    b"deletePub",
+    b"inPub",
+    b"keysPub",
+    b"callPub",
+    b"asSimpleFunc",
+    b"construct",
+    b"instanceOf",
+];
+
+/// The conversions of objects, in the order of their numbers.
+const CONVERSION_NAMES: [&[u8]; 2] = [b"toString", b"valueOf"];
 
 /// A store that was opened, and the objects in it that a page goes on from.
 #[derive(Drop)]
@@ -25,10 +46,18 @@ pub struct Opened {
     pub heap: Heap,
     /// The object `___` that holds the guards.
     pub runtime: ObjId,
-    /// The object of what a module may import.
+    /// The object of what the module may import.
     pub imports: ObjId,
     /// The global object, whose only name is `___`.
     pub globals: ObjId,
+}
+
+/// A store without built-in functions.
+#[derive(Drop)]
+struct First {
+    heap: Heap,
+    runtime: ObjId,
+    globals: ObjId,
 }
 
 /// Gives an object a hidden property.
@@ -41,22 +70,47 @@ fn hide(alloc: Global, heap: &mut Heap, o: ObjId, name: &[u8], value: Value) -> 
 }
 
 /// Gives an object a function of the page, by its number, as a hidden property.
-fn add_guard(alloc: Global, heap: &mut Heap, name: &[u8], row: u32, o: ObjId) -> Result<(), Memory>
-    ensures store { OnOk result (heap.new ≡ with_guard name.now row o heap.old) }
+fn add_hidden_function(
+    alloc: Global,
+    heap: &mut Heap,
+    name: &[u8],
+    number: u32,
+    o: ObjId,
+) -> Result<(), Memory>
+    ensures store { OnOk result (heap.new ≡ with_hidden_function name.now number o heap.old) }
     ensures live { length heap.old.list ≤ length heap.new.list }
 {
-    let guard = heap.make_func(FuncKind::Simple(row), 0)?;
-    hide(alloc, heap, o, name, Value::Obj(guard))
+    let function = heap.make_func(FuncKind::Simple(number), 0)?;
+    hide(alloc, heap, o, name, Value::Obj(function))
 }
 
-/// Gives the object of the runtime the guards that there are.
-fn add_guards(alloc: Global, heap: &mut Heap, runtime: ObjId) -> Result<(), Memory>
-    ensures store { OnOk result (heap.new ≡ with_guards runtime heap.old) }
+/// Gives an object functions of the page as hidden properties. Their numbers follow one another.
+fn add_hidden_functions(
+    alloc: Global,
+    heap: &mut Heap,
+    names: &[&[u8]],
+    first: u32,
+    o: ObjId,
+) -> Result<(), Memory>
+    requires few { first + length names.now ≤ 4294967295 }
+    ensures store { OnOk result (heap.new ≡ with_hidden_functions (map (λ k. k.now) names.now) first o heap.old) }
     ensures live { length heap.old.list ≤ length heap.new.list }
 {
-    add_guard(alloc, heap, b"loadModule", LOAD_MODULE, runtime)?;
-    add_guard(alloc, heap, b"initializeMap", INITIALIZE_MAP, runtime)?;
-    add_guard(alloc, heap, b"readPub", READ_PUB, runtime)
+    let mut number = first;
+    for name in names {
+        add_hidden_function(alloc, heap, name, number, o)?;
+        number += 1;
+    }
+    Ok(())
+}
+
+/// Gives the object of the runtime, which stands behind the ten prototypes, `loadModule` and the guards.
+fn add_guards(alloc: Global, heap: &mut Heap, runtime: ObjId) -> Result<(), Memory>
+    requires place { runtime ≡ runtime_id }
+    ensures store { OnOk result (heap.new ≡ with_guards heap.old) }
+    ensures live { length heap.old.list ≤ length heap.new.list }
+{
+    add_hidden_functions(alloc, heap, &GUARD_NAMES, LOAD_MODULE, runtime)
 }
 
 /// Gives the prototype of Object the built-in conversions (ES3 15.2.4.2, 15.2.4.4).
@@ -65,47 +119,64 @@ fn add_conversions(alloc: Global, heap: &mut Heap) -> Result<(), Memory>
     ensures live { length heap.old.list ≤ length heap.new.list }
 {
     let proto = heap.proto(Proto::Object);
-    add_guard(alloc, heap, b"toString", TO_STRING, proto)?;
-    add_guard(alloc, heap, b"valueOf", VALUE_OF, proto)
+    add_hidden_functions(alloc, heap, &CONVERSION_NAMES, TO_STRING, proto)
 }
 
-/// A store with the prototypes, the object of the runtime, that of the imports, the global object, and the conversions.
+/// A store with the prototypes, the object of the runtime, the global object, and the conversions.
 #[tactic(auto, unfolding(heap_rows::specs::Opening::first))]
-fn open_first(alloc: Global) -> Result<Opened, Memory>
+fn open_first(alloc: Global) -> Result<First, Memory>
     ensures heap { IfOk result (λ o. o.heap ≡ first) }
     ensures runtime { IfOk result (λ o. o.runtime ≡ runtime_id) }
-    ensures imports { IfOk result (λ o. o.imports ≡ imports_id) }
     ensures globals { IfOk result (λ o. o.globals ≡ globals_id) }
 {
     let mut heap = Heap::new(alloc)?;
     let proto = heap.proto(Proto::Object);
     let runtime = heap.make(Class::Object, Some(proto))?;
-    let imports = heap.make(Class::Object, Some(proto))?;
     let globals = heap.make(Class::Object, None)?;
     add_guards(alloc, &mut heap, runtime)?;
     hide(alloc, &mut heap, globals, b"___", Value::Obj(runtime))?;
     add_conversions(alloc, &mut heap)?;
+    Ok(First {
+        heap,
+        runtime,
+        globals,
+    })
+}
+
+/// A store with the built-in functions, before any module is there.
+#[tactic(auto, using(crate::proofs::BuiltIns::opened_is))]
+fn open_built_ins(alloc: Global) -> Result<First, Memory>
+    ensures heap { IfOk result (λ o. o.heap ≡ opened) }
+    ensures runtime { IfOk result (λ o. o.runtime ≡ runtime_id) }
+    ensures globals { IfOk result (λ o. o.globals ≡ globals_id) }
+{
+    let mut page = open_first(alloc)?;
+    add_built_ins(alloc, &mut page.heap)?;
+    Ok(page)
+}
+
+/// The store that the page of one module begins in, with what the module may import.
+///
+/// # Errors
+///
+/// `Memory` where memory is wanting.
+pub fn open(alloc: Global) -> Result<Opened, Memory>
+    ensures heap { IfOk result (λ o. o.heap ≡ opened_for_one) }
+    ensures runtime { IfOk result (λ o. o.runtime ≡ runtime_id) }
+    ensures imports { IfOk result (λ o. o.imports ≡ imports_id) }
+    ensures globals { IfOk result (λ o. o.globals ≡ globals_id) }
+{
+    let First {
+        mut heap,
+        runtime,
+        globals,
+    } = open_built_ins(alloc)?;
+    let (say, later) = add_own_functions(&mut heap, MAIN)?;
+    let imports = add_imports(alloc, &mut heap, say, later)?;
     Ok(Opened {
         heap,
         runtime,
         imports,
         globals,
     })
-}
-
-/// The store that a module of a page begins in.
-///
-/// # Errors
-///
-/// `Memory` where memory is wanting.
-#[tactic(auto, using(crate::proofs::BuiltIns::opened_is))]
-pub fn open(alloc: Global) -> Result<Opened, Memory>
-    ensures heap { IfOk result (λ o. o.heap ≡ opened) }
-    ensures runtime { IfOk result (λ o. o.runtime ≡ runtime_id) }
-    ensures imports { IfOk result (λ o. o.imports ≡ imports_id) }
-    ensures globals { IfOk result (λ o. o.globals ≡ globals_id) }
-{
-    let mut page = open_first(alloc)?;
-    add_built_ins(alloc, &mut page.heap)?;
-    Ok(page)
 }

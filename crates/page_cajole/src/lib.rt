@@ -2,12 +2,10 @@
 //! to the stage that refuses it.
 #![tactic(auto)]
 
-ghost use Rattle.std.specs.Prelude.{◌≡◌, ℕ, List, IfOk, true};
+ghost use Rattle.std.specs.Prelude.{◌≡◌, ℕ, List, IfOk};
 ghost use Rattle.es3_tree.specs.View.{program as program_view};
 ghost use Rattle.es3_tree.specs.PlacedView.{of_stmts};
-ghost use Rattle.cajita_tree.specs.Tree as source_tree;
 ghost use Rattle.cajita_tree.specs.View.{module_view};
-ghost use Rattle.scope_rules.specs.Language.{is_first as is_of_the_first};
 ghost use Rattle.cajita_rewrite.specs.Rewrite.{program_of};
 ghost use Rattle.es3_printed.specs.Tokens.{printed};
 ghost use Rattle.page_cajole.specs.Cajoled.{outcome, outcome_of_body};
@@ -47,14 +45,12 @@ pub enum Answer {
     /// and the byte 0.
     Unread(u8, u32),
     /// A rule refuses it: the number of the rule, and the byte of the source where the first fault is. The rule 0 stands for what breaks
-    /// no rule and isn't of the first language, at the byte 0.
+    /// no rule and isn't of the language that is accepted so far, at the byte 0.
     Broken(u8, u32),
 }
 
 /// The program that stands for the module, and its text.
-#[tactic(auto, using(cajoled_text::proofs::Given::module_given))]
 fn cajoled(alloc: Global, resolved: &Module) -> Result<CajoledModule, Memory>
-    requires { is_of_the_first source_tree.program (module_view resolved.now) ≡ true }
     ensures program { IfOk result (λ m. program_view m.program ≡ program_of (module_view resolved.now)) }
     ensures text { IfOk result (λ m. m.text.items ≡ printed (program_view m.program)) }
 {

@@ -1,4 +1,3 @@
 pub mod Shown
 pub mod Theorem
-pub mod Accepted
 pub mod Meant

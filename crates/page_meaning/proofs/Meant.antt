@@ -1,5 +1,5 @@
 -- An accepted source is meant by its log.
-use Rattle.std.proofs.Common.{◌≡◌, ℕ, true, false, List, [], Option, Some, None, cond, refl, sym, ap, subst, ◌∙◌}
+use Rattle.std.proofs.Common.{◌≡◌, ◌<◌, ℕ, true, false, List, [], Option, Some, None, cond, refl, sym, ap, subst, ◌∙◌, arith}
 use Rattle.es3_tree.specs.Tree as t
 use Rattle.es3_tree.specs.Placed.{Placed}
 use Rattle.cajita_tree.specs.Tree as c
@@ -11,14 +11,20 @@ use Rattle.cajita_rewrite.specs.Rewrite.{program_of}
 use Rattle.page_cajole.specs.Source as s
 use Rattle.page_cajole.specs.Source.{Source, Spells, source_of, source_limits}
 use Rattle.page_cajole.specs.Cajoled.{uncut, unread, broken, outside, cajoled, rewritten, judged, statements, outcome_of, outcome}
-use Rattle.es3_printed.specs.Back.{IsSpelled, IsReadBack}
-use Rattle.es3_printed.proofs.ReadBack.{read_back, spelled_where_read}
+use Rattle.es3_printed.specs.Back.{AreTokens, IsSpelled, IsReadBack}
+use Rattle.es3_tokens.specs.Back.{IsToken}
+use Rattle.std.proofs.lemmas.List.Elements.{All-map}
+use Rattle.es3_printed.proofs.ReadBack.{read_back}
+use Rattle.es3_printed.proofs.SourceTokens.{cut_tokens}
+use Rattle.es3_grammar.specs.Spots.{spots}
+use Rattle.source_sizes.specs.Sizes.{temps_of, temps_everywhere}
+use Rattle.source_sizes.proofs.Sizes.{below_the_limit, below_the_limit_everywhere}
 use Rattle.cajoled_text.proofs.Rewritten.{rewritten_is_spelled}
 use Rattle.scope_rules.proofs.Checked.{has_module}
 use Rattle.page_cajole.proofs.Spelled as source
 use Rattle.page_cajole.proofs.Refusals.{uncut_where, uncut_there, unread_where, unread_there}
 use Rattle.page_meaning.proofs.Theorem.{guests_mean}
-use Rattle.page_meaning.proofs.Accepted.{guest_of, first_none}
+use Rattle.accepted_modules.proofs.Accepted.{guest_of, first_none}
 use Rattle.page_meaning.specs.Meant as meant
 use Rattle.page_meaning.specs.Meant.{Meant, IsCajoled, accepted, IsBroken, faulty, IsMeant}
 
@@ -45,14 +51,16 @@ read_means input (s.unread number at) p is e = absurd cc
 read_means input (s.spelled (placed.script body)) p is e =
     let j = judged_program (first (faults [] body)) (module_of [] body) p e in
     let h : Spells source_limits input (placed.script body) = source.spelled_where_read source_limits input (placed.script body) is in
-    let text : IsSpelled (program_of j.its_module) =
-    rewritten_is_spelled [] body j.its_module (spelled_where_read source_limits.longest input h.spelled_by (placed.script body) h.cut h.within.spelled) j.found j.one in
+    let few : temps_of j.its_module < 4294967296 = below_the_limit input (placed.script body) h.spelled_by [] j.its_module h.cut h.within.spelled j.found in
+    let few_everywhere : temps_everywhere j.its_module < 4294967296 = below_the_limit_everywhere input (placed.script body) h.spelled_by [] j.its_module h.cut h.within.spelled j.found in
+    let tokens : AreTokens (spots h.spelled_by) = All-map (λ c. IsToken c.0) (λ t. (t.token, t.start)) h.spelled_by (cut_tokens source_limits.longest input h.spelled_by h.cut) in
+    let text : IsSpelled (program_of j.its_module) = rewritten_is_spelled [] body (spots h.spelled_by) j.its_module h.within.spelled tokens j.found (omega (arith, few_everywhere)) in
     record {
       its_module = j.its_module;
       spelled = record { tree = placed.script body; spelled = h; resolved = j.found };
       program = j.program;
       back = subst IsReadBack (sym j.program) (read_back (program_of j.its_module) text);
-      means = guests_mean j.its_module (guest_of body j.its_module j.clean j.found j.one);
+      means = guests_mean j.its_module (guest_of body (spots h.spelled_by) j.its_module h.within.spelled j.clean j.found j.one (omega (arith, few)));
     }
 
 -- ---- each answer comes just where it is so

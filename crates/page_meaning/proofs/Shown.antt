@@ -27,7 +27,7 @@ use Rattle.cajita_meaning.specs.Direct as Source
 use Rattle.module_loader.specs.Page.{Kept}
 use Rattle.row_simulation.specs.Correspond.{EsValue, Val, Named, Is, IsNamed, IsError, value_is, Stands, ObjectsAre, tag_of_name}
 use Rattle.page_runner.specs.declared.End.TheVariants.{Convert}
-use Rattle.page_runner.specs.Log.{main_name, line_end, text_units, error_text, class_text, object_name, path_shown, after_name, value_text, load_line, completion_line, end_of, run_log, run_end}
+use Rattle.page_runner.specs.Log.{main_name, line_end, text_units, error_text, class_text, object_name, path_shown, after_name, value_text, load_line, completion_line, end_of, completion_log, run_end}
 use Rattle.cajita_simulation.specs.Alike.{GuestFault}
 use Rattle.cajita_simulation.specs.Correct.{SameEnd, EndAlike, ConvertsNothing}
 use Rattle.page_meaning.specs.DirectLog.{name_shown, error_shown, made_shown, object_shown, value_shown, line_shown, end_shown, load_log, load_end}
@@ -183,7 +183,7 @@ line_same (Source.gave v) w (Target.normal (Some e)) s p = line_alike w s.heap p
 line_same (Source.threw v) w (Target.threw e) s p = line_alike w s.heap p.1.0 p.1.1 (codes "throw") v e p.0
 line_same _ w _ s p = absurd p
 
-pub log_same : (r : Source.Run) (t : Target.Run Kept) → EndAlike r t → run_log t ≡ load_log r
+pub log_same : (r : Source.Run) (t : Target.Run Kept) → EndAlike r t → completion_log t ≡ load_log r
 log_same (over e w z n) (over e' s y n') p = line_same e w e' s p.0
 log_same (stopped f w z n) (stopped g s y n') p = refl
 log_same _ _ p = absurd p

@@ -1,5 +1,5 @@
 -- Where a rewritten module does what its source does, its page shows what the source means.
-use Rattle.std.proofs.Common.{◌≡◌, ◌≢◌, ℕ, ◌≤◌, ◌*◌, List, [], refl, sym, ◌∙◌, arith}
+use Rattle.std.proofs.Common.{◌≡◌, ◌≢◌, ℕ, ◌≤◌, ◌*◌, List, [], refl, sym, ◌∙◌, subst, arith}
 use Rattle.std.proofs.lemmas.List.{append-nil}
 use Rattle.plans.specs.Plans.{over, stopped, out}
 use Rattle.matching.specs.Sentences.{IsFinished}
@@ -9,7 +9,7 @@ use Rattle.cajita_meaning.specs.Direct as Source
 use Rattle.cajita_rewrite.specs.Rewrite.{program_of}
 use Rattle.module_loader.specs.Page.{Kept, module_run}
 use Rattle.page_runner.specs.declared.End.TheVariants.{Convert, Steps}
-use Rattle.page_runner.specs.Log.{run_log, run_end, page_log, page_end}
+use Rattle.page_runner.specs.Log.{completion_log, run_log, run_end, page_log, page_end}
 use Rattle.cajita_simulation.specs.Guest.{GuestModule}
 use Rattle.cajita_simulation.specs.Alike.{most_steps}
 use Rattle.cajita_simulation.specs.Correct.{direct_run, EndAlike, Correct}
@@ -38,18 +38,27 @@ page_finished : (m : c.Tree c.program) (s : ℕ) → page_end (program_of m) s �
 unfolding page_end
 page_finished m s h = target_finished (module_run (program_of m) 0 s) h
 
+-- no module says anything yet, so the log of its page is the line of its load
+
+nothing_said : {S : Type 0} (r : Target.Run S) → run_log (λ z. []) r ≡ completion_log r
+nothing_said r = refl
+
+page_is : (m : c.Tree c.program) (s : ℕ) → page_log (program_of m) s ≡ completion_log (module_run (program_of m) 0 s)
+unfolding page_log
+page_is m s = nothing_said (module_run (program_of m) 0 s)
+
 -- like ends are shown alike
 
 shows : (m : c.Tree c.program) (s n : ℕ) → EndAlike (direct_run m 0 n) (module_run (program_of m) 0 s) → ShowsTheSame m s n
-unfolding page_log page_end direct_log direct_end
-shows m s n p = record { log = log_same (direct_run m 0 n) (module_run (program_of m) 0 s) p; end = end_same (direct_run m 0 n) (module_run (program_of m) 0 s) p }
+unfolding page_end direct_log direct_end
+shows m s n p = record { log = page_is m s ∙ log_same (direct_run m 0 n) (module_run (program_of m) 0 s) p; end = end_same (direct_run m 0 n) (module_run (program_of m) 0 s) p }
 
 -- a run that is cut has no line
 
 front_of_same : (part all : List ℕ) → part ≡ all → IsFront part all
 front_of_same part all p = record { rest = []; is = sym p ∙ sym (append-nil part) }
 
-cut_run : (m : c.Tree c.program) (t : Target.Run Kept) → (IsFinished t → (k : ℕ) × ((n : ℕ) → k ≤ n → run_log t ≡ direct_log m n)) → (k : ℕ) × ((n : ℕ) → k ≤ n → IsFront (run_log t) (direct_log m n))
+cut_run : (m : c.Tree c.program) (t : Target.Run Kept) → (IsFinished t → (k : ℕ) × ((n : ℕ) → k ≤ n → completion_log t ≡ direct_log m n)) → (k : ℕ) × ((n : ℕ) → k ≤ n → IsFront (completion_log t) (direct_log m n))
 cut_run m (over e s y l) f = let h = f tt in (h.0, λ n le. front_of_same _ _ (h.1 n le))
 cut_run m (stopped g s y l) f = let h = f tt in (h.0, λ n le. front_of_same _ _ (h.1 n le))
 cut_run m (out s y l) f = (0, λ n le. record { rest = direct_log m n; is = refl })
@@ -65,8 +74,7 @@ module _ (m : c.Tree c.program) (does : Correct 0 m) where
   backward s le h = finished s le (page_finished m s h)
 
   cut : (s : ℕ) → s ≤ most_steps → (k : ℕ) × ((n : ℕ) → k ≤ n → IsFront (page_log (program_of m) s) (direct_log m n))
-  unfolding page_log
-  cut s le = cut_run m (module_run (program_of m) 0 s) (λ fin. let b = finished s le fin in (b.0, λ n more. (b.1 n more).log))
+  cut s le = subst (λ l. (k : ℕ) × ((n : ℕ) → k ≤ n → IsFront l (direct_log m n))) (sym (page_is m s)) (cut_run m (module_run (program_of m) 0 s) (λ fin. let b = finished s le fin in (b.0, λ n more. sym (page_is m s) ∙ (b.1 n more).log)))
 
   never_converts : (s : ℕ) → s ≤ most_steps → page_end (program_of m) s ≢ Convert
   unfolding page_end
@@ -77,4 +85,4 @@ module _ (m : c.Tree c.program) (does : Correct 0 m) where
 
 -- a module that was accepted does what its source does
 pub guests_mean : (m : c.Tree c.program) → GuestModule m → SourceMeans m
-guests_mean m guest = source_means m (correct m 0 (omega arith) guest)
+guests_mean m guest = source_means m (correct m 0 (omega arith) tt guest)

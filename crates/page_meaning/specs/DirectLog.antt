@@ -1,6 +1,6 @@
 -- The log of the direct meaning: how values of the world are shown, a line for the load of a module, and how the load ended.
 -- Nothing here knows of the interpreter's heap or of guards.
-use Rattle.std.specs.Prelude.{ℕ, zero, List, [], ◌++◌, Option, Some, None, codes, if◌then◌else◌}
+use Rattle.std.specs.Prelude.{ℕ, zero, List, [], ◌++◌, Option, Some, None, get_or, codes, if◌then◌else◌}
 use Rattle.plans.specs.Plans.{over, stopped, out}
 use Rattle.caja_units.specs.Index.{number_units}
 use Rattle.caja_units.specs.Number.{number_text}
@@ -10,18 +10,19 @@ use Rattle.rows.specs.Rows.{Maker}
 use Rattle.rows.specs.Guards.{maker_name}
 use Rattle.rows.specs.Paths.{tools_path, path_of}
 use Rattle.cajita_tree.specs.Tree as c
-use Rattle.cajita_meaning.specs.World.{Name, made_name, cell_name, built_name, tools_name, facet_name, forward_name, Value, undefined, null, truth, number, text, object, Object, a_record, an_array, an_error, a_closure, World, object_at}
+use Rattle.cajita_meaning.specs.World.{Name, made_name, cell_name, own_name, built_name, tools_name, facet_name, forward_name, Value, undefined, null, truth, number, text, object, Object, a_record, an_array, an_error, a_closure, World, object_at}
 use Rattle.cajita_meaning.specs.Direct.{Completion, gave, threw, Run}
 use Rattle.cajita_simulation.specs.Correct.{direct_run}
 use Rattle.page_runner.specs.declared.End.{End}
 use Rattle.page_runner.specs.declared.End.TheVariants.{Done, Steps}
-use Rattle.page_runner.specs.Log.{main_name, path_shown, line_end, end_of}
+use Rattle.page_runner.specs.Log.{main_name, path_shown, own_names, line_end, end_of}
 
--- a name: the number among the objects that its module made, or the path of a built-in; `?` for what the host, a cell, a grant or a module has of its own
+-- a name: the number among the objects that its module made, the path of a built-in, or that of a module's own function; `?` for what the host, a cell or a grant has of its own
 abbrev pub name_shown : Name → List ℕ
 name_shown (made_name m n) = main_name ++ codes "#" ++ number_units n
 name_shown (built_name f) = path_shown (path_of f)
 name_shown (tools_name t) = path_shown (tools_path t)
+name_shown (own_name m i) = get_or own_names i (codes "?")
 name_shown n = codes "?"
 
 -- what stands behind the name of an error: its own name, and its message as a literal

@@ -38,10 +38,15 @@ path_shown path = codes "!" ++ path
 abbrev pub built_names : List (List ℕ)
 built_names = map path_shown (tools_path of_cajita ∷ tools_path of_math ∷ map path_of common)
 
--- the name of an object: its maker and its number there, or that of a built-in; `?` where it has none
+-- the names of a module's own functions
+abbrev pub own_names : List (List ℕ)
+own_names = (main_name ++ codes "!say") ∷ (main_name ++ codes "!later") ∷ []
+
+-- the name of an object: its maker and its number there, or that of a built-in or of a module's own function; `?` where it has none
 abbrev pub object_name : Tag → List ℕ
 object_name (tag.Made m n) = main_name ++ codes "#" ++ number_units n
 object_name (tag.Built n) = get_or built_names n (codes "?")
+object_name (tag.Own m n) = get_or own_names n (codes "?")
 object_name g = codes "?"
 
 abbrev pub text_units : Value → List ℕ
@@ -89,20 +94,39 @@ end_of number_fault = Number
 end_of depth_fault = Depth
 end_of convert_fault = Convert
 
--- the log of a run, and how it ended, whatever natives keep: a load that a fault or the want of a step cut off has no line
-abbrev pub run_log : {S : Type 0} → Run S → List ℕ
-run_log (over c s z n) = completion_line s.heap (completed c)
-run_log (stopped f s z n) = []
-run_log (out s z n) = []
+-- `say main T`
+abbrev pub say_line : List ℕ → List ℕ
+say_line us = codes "say " ++ main_name ++ codes " " ++ literal us ++ line_end
 
+abbrev pub say_lines : List (List ℕ) → List ℕ
+say_lines [] = []
+say_lines (us ∷ lines) = say_line us ++ say_lines lines
+
+-- what natives keep at the end of a run
+abbrev pub state_after : {S : Type 0} → Run S → S
+state_after (over c s z n) = z
+state_after (stopped f s z n) = z
+state_after (out s z n) = z
+
+-- the line of a load: one that a fault or the want of a step cut off has none
+abbrev pub completion_log : {S : Type 0} → Run S → List ℕ
+completion_log (over c s z n) = completion_line s.heap (completed c)
+completion_log (stopped f s z n) = []
+completion_log (out s z n) = []
+
+-- the log of a run, where natives keep the texts that were said: a line for each of them, which stays where the load was cut off, and then that of the load
+abbrev pub run_log : {S : Type 0} → (S → List (List ℕ)) → Run S → List ℕ
+run_log said r = say_lines (said (state_after r)) ++ completion_log r
+
+-- how it ended
 abbrev pub run_end : {S : Type 0} → Run S → End
 run_end (over c s z n) = Done
 run_end (stopped f s z n) = end_of f
 run_end (out s z n) = Steps
 
--- the log of a page whose only module has this program
+-- the log of a page whose only module has this program; no module says anything yet
 unfoldable pub page_log : t.Tree t.program → ℕ → List ℕ
-page_log p steps = run_log (module_run p 0 steps)
+page_log p steps = run_log (λ z. []) (module_run p 0 steps)
 
 unfoldable pub page_end : t.Tree t.program → ℕ → End
 page_end p steps = run_end (module_run p 0 steps)

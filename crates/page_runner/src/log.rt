@@ -5,7 +5,7 @@ ghost use Rattle.caja_units.specs.Number.{number_text};
 ghost use Rattle.caja_units.specs.Literal.{literal};
 ghost use Rattle.es3_heap.specs.Objects.{object_at, class_of, tag_of};
 ghost use Rattle.es3_heap.specs.Properties.{own, value_of};
-ghost use Rattle.page_runner.specs.Log.{built_names, object_name, text_units, error_text, class_text, after_name, value_text, load_line, completion_line};
+ghost use Rattle.page_runner.specs.Log.{built_names, own_names, object_name, text_units, error_text, class_text, after_name, value_text, load_line, completion_line, say_line, say_lines};
 
 use caja_num::Whole;
 use caja_units::{Memory, Units};
@@ -69,6 +69,9 @@ const BUILT_NAMES: [&str; 52] = [
     "!node.on",
 ];
 
+/// The names of a module's own functions.
+const OWN_NAMES: [&str; 2] = ["main!say", "main!later"];
+
 /// Appends bytes.
 fn push(out: &mut Vec<u8>, bytes: &[u8]) -> Result<(), Memory>
     ensures { OnOk result (out.new.items ≡ out.old.items ++ bytes.now) }
@@ -112,6 +115,13 @@ fn built_name(number: u32) -> &'static str
     name_at(&BUILT_NAMES, number as usize)
 }
 
+/// The name of a module's own function with this number; `?` where there is none.
+fn own_name(number: u8) -> &'static str
+    ensures { result.now ≡ get_or own_names number (codes "?") }
+{
+    name_at(&OWN_NAMES, number as usize)
+}
+
 /// Appends the name of an object.
 fn push_name(alloc: Global, out: &mut Vec<u8>, tag: Tag) -> Result<(), Memory>
     ensures { OnOk result (out.new.items ≡ out.old.items ++ object_name tag) }
@@ -123,6 +133,7 @@ fn push_name(alloc: Global, out: &mut Vec<u8>, tag: Tag) -> Result<(), Memory>
             push(out, digits.as_bytes())
         }
         Tag::Built(number) => push(out, built_name(number).as_bytes()),
+        Tag::Own(_module, number) => push(out, own_name(number).as_bytes()),
         _other => push(out, b"?"),
     }
 }
@@ -216,4 +227,33 @@ pub fn completion_line(
         Completion::Normal(v) => load_line(alloc, heap, b"return", v),
         Completion::Thrown(v) => load_line(alloc, heap, b"throw", v),
     }
+}
+
+/// Appends `say main` and a text.
+fn push_said(alloc: Global, out: &mut Vec<u8>, text: &Units) -> Result<(), Memory>
+    ensures { OnOk result (out.new.items ≡ out.old.items ++ say_line text.now) }
+{
+    push(out, b"say main ")?;
+    push_literal(alloc, out, text)?;
+    push(out, b"\n")
+}
+
+/// Appends a line for each text that was said.
+fn push_all_said(alloc: Global, out: &mut Vec<u8>, texts: &[Units]) -> Result<(), Memory>
+    ensures { OnOk result (out.new.items ≡ out.old.items ++ say_lines texts.now) }
+{
+    for text in texts {
+        push_said(alloc, out, text)?;
+    }
+    Ok(())
+}
+
+/// What was said, and then the log of the load.
+pub fn said_first(alloc: Global, texts: &[Units], load: &[u8]) -> Result<Vec<u8>, Memory>
+    ensures { IfOk result (λ log. log.items ≡ say_lines texts.now ++ load.now) }
+{
+    let mut log = Vec::new(alloc);
+    push_all_said(alloc, &mut log, texts)?;
+    push(&mut log, load)?;
+    Ok(log)
 }

@@ -6,7 +6,7 @@ ghost use Rattle.es3_language.specs.Meaning.{Run, run_program};
 ghost use Rattle.es3_language.specs.Store.{Store};
 ghost use Rattle.es3_machine.specs.Held.{new_store};
 ghost use Rattle.es3_machine.specs.Machine.{Ran};
-ghost use Rattle.page_runner.specs.Log.{run_log, run_end};
+ghost use Rattle.page_runner.specs.Log.{state_after, completion_log, run_end};
 ghost use Rattle.page_runner.specs.Shown.{ShowsAtOnce};
 
 use crate::log::completion_line;
@@ -21,7 +21,7 @@ use std::alloc::Global;
 /// The number of the module that a page of one module has, and of a text that runs as it stands.
 const MAIN: u32 = 0;
 
-/// Runs a program among natives, over a store with this global object, with so many steps.
+/// Runs a program among natives, over a store with this global object, with so many steps. What is shown is the load alone.
 pub fn run_among<N: Natives>(
     alloc: Global,
     heap: Heap,
@@ -30,8 +30,9 @@ pub fn run_among<N: Natives>(
     p: Program,
     steps: u64,
 ) -> Result<Outcome, Memory>
-    ensures log { IfOk result (λ o. o.log.items ≡ run_log (run_program N.table (program p) 0 (new_store heap globals) (N.state natives.old) steps)) }
+    ensures log { IfOk result (λ o. o.log.items ≡ completion_log (run_program N.table (program p) 0 (new_store heap globals) (N.state natives.old) steps)) }
     ensures end { IfOk result (λ o. o.end ≡ run_end (run_program N.table (program p) 0 (new_store heap globals) (N.state natives.old) steps)) }
+    ensures kept { IfOk result (λ _. state_after (run_program N.table (program p) 0 (new_store heap globals) (N.state natives.old) steps) ≡ N.state natives.new) }
 {
     let mut heap = heap;
     let mut machine = Machine::new(alloc, globals)?;
@@ -41,14 +42,15 @@ pub fn run_among<N: Natives>(
 }
 
 /// What a run showed, by what the machine answered.
-#[tactic(auto, using(crate::proofs::Told::done_log, crate::proofs::Told::done_end, crate::proofs::Told::fault_log, crate::proofs::Told::fault_end, crate::proofs::Told::spent_log, crate::proofs::Told::spent_end))]
+#[tactic(auto, using(crate::proofs::Told::done_log, crate::proofs::Told::done_end, crate::proofs::Told::done_state, crate::proofs::Told::fault_log, crate::proofs::Told::fault_end, crate::proofs::Told::fault_state, crate::proofs::Told::spent_log, crate::proofs::Told::spent_end, crate::proofs::Told::spent_state))]
 fn shown<N: Natives>(
     alloc: Global,
     heap: &Heap,
     answer: Result<(Completion, u64), Stop>,
 ) -> Result<Outcome, Memory>
-    ensures log { IfOk result (λ o. (r : Run N.State) (steps : ℕ) (s : Store) (z : N.State) → s.heap ≡ heap.now → Ran answer r steps s z → o.log.items ≡ run_log r) }
+    ensures log { IfOk result (λ o. (r : Run N.State) (steps : ℕ) (s : Store) (z : N.State) → s.heap ≡ heap.now → Ran answer r steps s z → o.log.items ≡ completion_log r) }
     ensures end { IfOk result (λ o. (r : Run N.State) (steps : ℕ) (s : Store) (z : N.State) → Ran answer r steps s z → o.end ≡ run_end r) }
+    ensures kept { IfOk result (λ _. (r : Run N.State) (steps : ℕ) (s : Store) (z : N.State) → Ran answer r steps s z → state_after r ≡ z) }
     ensures at_once { ShowsAtOnce answer result }
 {
     match answer {

@@ -6,6 +6,7 @@ ghost use Rattle.global_names.specs.Opening.{text_objects, text_globals};
 ghost use Rattle.page_runner.specs.Text.{text_log, text_end};
 
 use crate::Outcome;
+use crate::log::said_first;
 use crate::running::run_among;
 use caja_units::Memory;
 use es3_heap::{Heap, ObjId};
@@ -15,7 +16,7 @@ use module_loader::{Opened, open};
 use std::alloc::Global;
 
 /// The store that a text begins in, and the global object in it (ES3 15.1).
-#[tactic(auto, using(live_openings::proofs::Page::opened_long))]
+#[tactic(auto, using(heap_rows::proofs::Made::one_long))]
 fn open_text(alloc: Global) -> Result<(Heap, ObjId), Memory>
     ensures heap { IfOk result (λ o. o.0 ≡ text_objects) }
     ensures globals { IfOk result (λ o. o.1 ≡ text_globals) }
@@ -36,5 +37,8 @@ pub fn run_text(alloc: Global, p: Program, steps: u64) -> Result<Outcome, Memory
     ensures end { IfOk result (λ o. o.end ≡ text_end (program p) steps) }
 {
     let (heap, globals) = open_text(alloc)?;
-    run_among(alloc, heap, globals, &mut TextNatives, p, steps)
+    let mut natives = TextNatives::new(alloc);
+    let load = run_among(alloc, heap, globals, &mut natives, p, steps)?;
+    let log = said_first(alloc, &natives.lines, &load.log)?;
+    Ok(Outcome { log, end: load.end })
 }

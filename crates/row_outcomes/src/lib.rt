@@ -4,6 +4,7 @@
 //! row touches is told by the natives that the function is among.
 #![tactic(auto)]
 
+mod methods;
 mod places;
 
 ghost use Rattle.std.specs.Prelude.{◌≡◌, ◌≤◌, IfOk, OnOk, length, unwrap_or, slice_get};
@@ -12,12 +13,13 @@ ghost use Rattle.es3_heap.specs.Making.{error_object, named};
 ghost use Rattle.es3_convert.specs.Answers.{Answers};
 ghost use Rattle.row_outcomes.specs.Comes.{Comes, throws};
 ghost use Rattle.row_outcomes.specs.Arguments.{argument, number_argument, text_argument, outcome_of};
-ghost use Rattle.row_outcomes.specs.Arrays.{new_array};
+ghost use Rattle.row_outcomes.specs.Arrays.{new_array, changed_array};
 
 use caja_num::Whole;
 use caja_units::{Memory, Units};
 use es3_convert::{out_of_memory, to_number, to_text};
 use es3_heap::{Heap, ObjId, Proto, Stop, Value};
+pub use methods::{ARRAY_METHODS, FUNCTION_METHODS, TEXT_METHODS};
 pub use places::{clamped, place};
 use std::alloc::Global;
 
@@ -162,4 +164,25 @@ pub fn new_array(h: &mut Heap, by: u32, items: Vec<Value>) -> Result<Outcome, St
     let array = h.make_array(items).map_err(out_of_memory)?;
     h.name_next(array, by);
     Ok(Outcome::Value(Value::Obj(array)))
+}
+
+/// Gives an array these items in the place of those that it had (ES3 15.4.5.1), and answers a value.
+///
+/// # Errors
+///
+/// `Stop::Number` where there are 2^32 items or more, and `Stop::Memory` where memory is wanting.
+pub fn change_array(
+    h: &mut Heap,
+    o: ObjId,
+    items: Vec<Value>,
+    answer: Value,
+) -> Result<Outcome, Stop>
+    ensures outcome { Comes (changed_array o items.items answer h.old) result h.new }
+    ensures live { length h.old.list ≤ length h.new.list }
+{
+    if items.len() >= MOST_ITEMS {
+        return Err(Stop::Number);
+    }
+    h.set_items(o, items).map_err(out_of_memory)?;
+    Ok(Outcome::Value(answer))
 }

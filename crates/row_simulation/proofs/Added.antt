@@ -1,4 +1,4 @@
--- A new object without a name leaves what corresponds: the array of keys that a loop over keys goes through.
+-- A new object without a name leaves what corresponds: the array of keys that a loop over keys goes through, or what a module may import.
 use Rattle.std.proofs.Common.{◌≡◌, ℕ, suc, ◌<◌, List, [], ◌∷◌, length, Some, sym, ap, ◌∙◌, arith}
 use Rattle.std.proofs.lemmas.Option.{none-some}
 use Rattle.std.proofs.lemmas.List.{length-append}
@@ -11,6 +11,7 @@ use Rattle.cajita_meaning.specs.World.{Name, made_name, built_name, Object}
 use Rattle.heap_rows.specs.Marks.{read_mark, set_mark}
 use Rattle.row_simulation.proofs.Names.{name_there}
 use Rattle.row_simulation.proofs.Relation.{Named, tag_of_name, Stands, IsMarked, ObjectsAre, Keeps, named_keep}
+use Rattle.row_simulation.proofs.Row.{objects_step}
 use Rattle.row_simulation.proofs.Changes.{IsNew, cases_at, get-push-other, named_within}
 
 -- no module made it
@@ -45,8 +46,8 @@ module _ {first : Objects} {places : r.Native → ℕ} {m : ℕ} (objects : ℕ 
   stands_still : (n : Name) (i : ℕ) → i < length h.list → Stands objects h n i → Stands objects (with_object h x) n i
   stands_still n i lt s = record { stored = s.stored; there = there i lt ∙ s.there; is = named_keep objects (awaiting_keeps h x new.bare) n s.stored s.is }
 
-  pub objects_added : ObjectsAre first places objects (with_object h x) (suc m)
-  objects_added = record {
+  pub objects_with : ObjectsAre first places objects (with_object h x) m
+  objects_with = record {
     each = λ n i t. stands_still n i (was n i t) (old.each n i (had n i t));
     once = λ n i j t u. old.once n i j (had n i t) (had n j u);
     natives = λ f common. (awaiting_keeps h x new.bare).named (built_name f) _ (old.natives f common);
@@ -54,8 +55,11 @@ module _ {first : Objects} {places : r.Native → ℕ} {m : ℕ} (objects : ℕ 
     sets = λ i k p e. cases_at h.list x i (λ q. find (set_mark k) (heap.props_of q) ≡ Some p → IsMarked (with_object h x) i) (λ lt f. marked_still i lt (old.sets i k p f)) (λ at f. absurd (none-some p (sym (new.sets k) ∙ f))) (λ f. absurd (none-some p f)) e;
     above = λ i p e. cases_at h.list x i (λ q. heap.proto_of q ≡ Some p → p < length first.list) (λ lt f. old.above i p f) (λ at f. new.above p f) (λ f. absurd (none-some p f)) e;
     count = old.count;
-    few = λ n. let f = old.few n in omega (arith, f);
+    few = old.few;
     opened = λ i lt. there i (omega (arith, lt, old.large)) ∙ old.opened i lt;
     unnamed = λ i n lt t. old.unnamed i n lt (had n i t);
     large = let l = length-append h.list (x ∷ []) in omega (arith, l, old.large);
   }
+
+  pub objects_added : ObjectsAre first places objects (with_object h x) (suc m)
+  objects_added = objects_step objects_with

@@ -2,6 +2,7 @@
 use Rattle.std.proofs.Common.{◌≡◌, ℕ, zero, suc, ◌+◌, ◌<◌, Bool, true, false, List, [], ◌∷◌, ◌++◌, length, Option, Some, None, cond, refl, sym, ap, ◌∙◌, subst, arith}
 use Rattle.std.specs.Prelude.{slice_get, codes, map, is_some, nat_lt}
 use Rattle.std.specs.Str.Parse.{AllDigits}
+use Rattle.std.specs.List.{filter}
 use Rattle.std.proofs.lemmas.Option.{none-some}
 use Rattle.std.proofs.lemmas.List.{append-nil, length-map}
 use Rattle.std.proofs.lemmas.Fmt.{decimal_is_IsNumeral}
@@ -32,6 +33,7 @@ use Rattle.row_simulation.proofs.ItemsSet.{items_set_are}
 use Rattle.row_simulation.proofs.Relation.{EsValue, Named, Val, Vals, closing, IsArray, Is, IsNamed, ObjectsAre, val_keep}
 use Rattle.row_simulation.proofs.Names.{made_known, cell_known, tools_known}
 use Rattle.row_simulation.specs.Among.{IsHandleAmong, AreHandlesAmong}
+use Rattle.row_simulation.proofs.SetMarks.{stays, MarksGo, others_stay}
 use Rattle.row_simulation.proofs.Props.{props_frozen}
 use Rattle.row_simulation.proofs.Row.{by_value, DoneIs, keeps_refl, objects_step, handle_is, handles_are, EndLaw}
 use Rattle.row_simulation.proofs.Sights.{frozen_no_index, closing_found}
@@ -84,9 +86,9 @@ new_props true vs few =
     rw (apart_too length_key frozen_mark refl refl) (ap (λ l. length_property (length vs) ∷ l) (ap (defined frozen_mark (es.Bool true) hidden_attrs) (sym (append-nil (item_properties 0 vs))) ∙ last_defined frozen_mark (es.Bool true) hidden_attrs 0 vs [] refl (omega (arith, few))))
 new_props false vs few = ap (λ l. length_property (length vs) ∷ l) (sym (append-nil (item_properties 0 vs)))
 
-same_parts : (frozen : Bool) (vs : List EsValue) → (let o = es3.frozen_if frozen (array_object vs) in (o.class ≡ class.Array) × (o.proto ≡ Some 2) × (o.tag ≡ tag.None))
-same_parts true vs = (refl, refl, refl)
-same_parts false vs = (refl, refl, refl)
+same_parts : (frozen : Bool) (vs : List EsValue) → (let o = es3.frozen_if frozen (array_object vs) in (o.class ≡ class.Array) × (o.proto ≡ Some 2) × (o.tag ≡ tag.None) × (o.callable ≡ None))
+same_parts true vs = (refl, refl, refl, refl)
+same_parts false vs = (refl, refl, refl, refl)
 
 pub array_new : {first : Objects} → IsFirst first → (frozen : Bool) (vs : List EsValue) → length vs < 4294967296 → IsNew first (es3.frozen_if frozen (array_object vs))
 array_new f frozen vs few =
@@ -102,7 +104,7 @@ array_new f frozen vs few =
     number_in p e = cc
 
 array_is : (h : Objects) (frozen : Bool) (vs : List Value) (es : List EsValue) → length es < 4294967296 → Vals h vs es → Is h (an_array frozen vs) (es3.frozen_if frozen (array_object es))
-array_is h frozen vs es few p = let parts = same_parts frozen es in record { class = parts.0; proto = parts.1; items = es; props = new_props frozen es few; few = few; are = p }
+array_is h frozen vs es few p = let parts = same_parts frozen es in record { class = parts.0; no_call = parts.3; proto = parts.1; items = es; props = new_props frozen es few; few = few; are = p }
 
 pub by_length : (n : ℕ) (P : Bool → Type 0) → (n < 4294967296 → P true) → P false → P (nat_lt n 4294967296)
 by_length n P few many = elim (nat_lt n 4294967296) as (λ b. nat_lt n 4294967296 ≡ b → P b) [
@@ -133,7 +135,7 @@ array_no_function is e = let clash = sym is.class ∙ e in cc
 revised_array : {first : Objects} {places : Native → ℕ} {m : ℕ} {h : Objects} (w : World) → ObjectsAre first places w.objects h m → (a b i : ℕ) (c : heap.Object) (frozen frozen' : Bool) (vs ws : List Value) (us : List EsValue) → heap.tag_of (object_at h i) ≡ tag.Made a b → object_at h i ≡ Some c → slice_get (w.objects a) b ≡ Some (an_array frozen vs) → IsArray h frozen vs c → length us < 4294967296 → Vals h ws us → Changed first places m h (with_made a b (an_array frozen' ws) w).objects (revised h i c (array_props frozen' us))
 revised_array {h = h} w old a b i c frozen frozen' vs ws us name there known is few p = record {
   left = objects_revised w.objects (with_made a b (an_array frozen' ws) w).objects old (made_name a b) i c (array_props frozen' us) name (made_known a b) there (array_no_function is)
-      (record { object = an_array frozen' ws; known = made_there w a b (an_array frozen vs) (an_array frozen' ws) known; is = record { class = is.class; proto = is.proto; items = us; props = refl; few = few; are = p } })
+      (record { object = an_array frozen' ws; known = made_there w a b (an_array frozen vs) (an_array frozen' ws) known; is = record { class = is.class; no_call = is.no_call; proto = is.proto; items = us; props = refl; few = few; are = p } })
       (λ k o ne x. made_still w h a b (an_array frozen' ws) k o ne x) (λ k. made_length w a b k (an_array frozen' ws)) (λ k q e. absurd (none-some q (sym (no_read frozen' us k few) ∙ e))) (λ k q e. absurd (none-some q (sym (no_set frozen' us k few) ∙ e)));
   keeps = revised_keeps h (made_name a b) i c (array_props frozen' us) name there (array_no_function is);
 }
@@ -181,17 +183,30 @@ items_law {first = first} {places = places} by x xs v a s es w h z y m few p o i
 
 -- freezing
 
-stay_items : (i : ℕ) (vs : List EsValue) (rest : List Property) → i + length vs < 4294967296 → without_set_marks (item_properties i vs ++ rest) ≡ item_properties i vs ++ without_set_marks rest
+item_no_mark : (i : ℕ) → i < 4294967296 → is_set_mark (number_units i) ≡ false
+item_no_mark i few = not_true _ (λ e. cc (sym (index_seen i few) ∙ set_mark_hidden (number_units i) e))
+
+stay_items : (i : ℕ) (vs : List EsValue) (rest : List Property) → i + length vs < 4294967296 → filter stays (item_properties i vs ++ rest) ≡ item_properties i vs ++ filter stays rest
 stay_items i [] rest few = refl
 stay_items i (v ∷ vs) rest few =
-    let free : is_set_mark (number_units i) ≡ false = not_true _ (λ e. cc (sym (index_seen i (omega (arith, few))) ∙ set_mark_hidden (number_units i) e)) in
-    rw free (ap (λ l. record { key = number_units i; value = v; attrs = Rattle.es3_heap.specs.Objects.plain_attrs } ∷ l) (stay_items (i + 1) vs rest (omega (arith, few))))
+    rw (item_no_mark i (omega (arith, few))) (ap (λ l. record { key = number_units i; value = v; attrs = Rattle.es3_heap.specs.Objects.plain_attrs } ∷ l) (stay_items (i + 1) vs rest (omega (arith, few))))
+
+items_go : (i : ℕ) (vs : List EsValue) (rest : List Property) → i + length vs < 4294967296 → MarksGo rest → MarksGo (item_properties i vs ++ rest)
+items_go i [] rest few go = go
+items_go i (v ∷ vs) rest few go = ((λ set. refl), items_go (i + 1) vs rest (omega (arith, few)) go)
+
+closing_go : (frozen : Bool) → MarksGo (closing frozen)
+closing_go true = ((λ set. refl), tt)
+closing_go false = tt
+
+array_go : (frozen : Bool) (vs : List EsValue) → length vs < 4294967296 → MarksGo (array_props frozen vs)
+array_go frozen vs few = ((λ set. cc), items_go 0 vs (closing frozen) (omega (arith, few)) (closing_go frozen))
 
 frozen_props : (frozen : Bool) (vs : List EsValue) → length vs < 4294967296 → defined frozen_mark (es.Bool true) hidden_attrs (without_set_marks (array_props frozen vs)) ≡ array_props true vs
 frozen_props frozen vs few =
-    ap (defined frozen_mark (es.Bool true) hidden_attrs) (ap (λ l. length_property (length vs) ∷ l) (stay_items 0 vs (closing frozen) (omega (arith, few)))) ∙ rw (apart_too length_key frozen_mark refl refl) (ap (λ l. length_property (length vs) ∷ l) (last_defined frozen_mark (es.Bool true) hidden_attrs 0 vs (without_set_marks (closing frozen)) refl (omega (arith, few)) ∙ ap (λ l. item_properties 0 vs ++ l) (last frozen)))
+    ap (defined frozen_mark (es.Bool true) hidden_attrs) (others_stay (array_props frozen vs) (array_go frozen vs few) ∙ ap (λ l. length_property (length vs) ∷ l) (stay_items 0 vs (closing frozen) (omega (arith, few)))) ∙ rw (apart_too length_key frozen_mark refl refl) (ap (λ l. length_property (length vs) ∷ l) (last_defined frozen_mark (es.Bool true) hidden_attrs 0 vs (filter stays (closing frozen)) refl (omega (arith, few)) ∙ ap (λ l. item_properties 0 vs ++ l) (last frozen)))
   where
-    last : (frozen : Bool) → defined frozen_mark (es.Bool true) hidden_attrs (without_set_marks (closing frozen)) ≡ closing true
+    last : (frozen : Bool) → defined frozen_mark (es.Bool true) hidden_attrs (filter stays (closing frozen)) ≡ closing true
     last true = refl
     last false = refl
 

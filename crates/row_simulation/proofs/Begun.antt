@@ -86,7 +86,7 @@ fresh_still h x n fresh other i t = cases_at h.list x i (λ q. heap.tag_of q ≡
 
 -- the new objects
 
-proto_few : (q p : ℕ) → q < first_count → (let x : Option ℕ = Some q in x) ≡ Some p → p < length first.list
+pub proto_few : (q p : ℕ) → q < first_count → (let x : Option ℕ = Some q in x) ≡ Some p → p < length first.list
 proto_few q p lt e = let f = up_few q p lt e in let many = first_many in omega (arith, f, many)
 
 function_is : (f : r.Native) (t : Tag) → sort_seen false (Some (record { kind = kind_of f; maker = 0 })) ≡ r.a_function r.simple → IsFunction r.simple (named_function f t)
@@ -95,7 +95,7 @@ function_is f t e = record { class = refl; proto = refl; kind = e; no_text = ref
 function_fresh : (objects : ℕ → List Object) (h : Objects) (n : Name) (f : r.Native) → name_at (tag_of_name n) ≡ Some n → Fresh h n → IsNamed objects h n (named_function f (tag_of_name n)) → ((m k : ℕ) → tag_of_name n ≡ tag.Made m k → ⊥) → IsFresh first objects h n (named_function f (tag_of_name n))
 function_fresh objects h n f known fresh is unmade = record { known = known; tagged = refl; fresh = fresh; is = is; above = λ p e. proto_few 1 p (omega arith) e; reads = λ k. refl; sets = λ k. refl; unmade = unmade }
 
-own_unmade : (n i m k : ℕ) → tag.Own n i ≡ tag.Made m k → ⊥
+pub own_unmade : (n i m k : ℕ) → tag.Own n i ≡ tag.Made m k → ⊥
 own_unmade n i m k e = cc
 
 cell_unmade : (c i m k : ℕ) → tag.Cell c i ≡ tag.Made m k → ⊥
@@ -120,7 +120,7 @@ record_fresh objects h c at a b fresh = record {
   known = cell_known c 0;
   tagged = refl;
   fresh = fresh;
-  is = record { class = refl; proto = refl; props = props_are h c at a b };
+  is = record { class = refl; no_call = refl; proto = refl; props = props_are h c at a b };
   above = λ p e. proto_few 0 p (omega arith) e;
   reads = λ k. no_read (cell_props at) (cell_guests at) k;
   sets = λ k. no_set (cell_props at) (cell_guests at) k;

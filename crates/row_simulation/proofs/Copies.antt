@@ -1,26 +1,26 @@
 -- A new record with the keys and values of another one.
 use Rattle.std.proofs.Common.{◌≡◌, ℕ, zero, suc, ◌<◌, Bool, true, false, List, [], ◌∷◌, Option, Some, None, cond, refl, sym, ap, ◌∙◌, subst, arith}
-use Rattle.std.specs.Prelude.{codes, map, is_some, not}
+use Rattle.std.specs.Prelude.{codes, map, is_some}
 use Rattle.std.proofs.lemmas.Option.{none-some}
 use Rattle.caja_units.specs.Units.{same_units, is_hidden}
 use Rattle.es3_heap.specs.declared.value.Value.TheVariants as es
 use Rattle.es3_heap.specs.Objects as heap
 use Rattle.es3_heap.specs.Objects.{Property, Objects, object_at, with_object, plain_attrs, hidden_attrs}
 use Rattle.es3_heap.specs.Properties.{find, defined}
-use Rattle.es3_heap.proofs.Keys.{same_key-refl}
 use Rattle.es3_heap.proofs.Laws.{find-defined-other}
 use Rattle.es3_language.specs.Natives.{value_reply}
 use Rattle.rows.specs.Rows as r
 use Rattle.rows.specs.Rows.{Handle, Native, Ending, Row}
 use Rattle.cajita_meaning.specs.World.{Name, made_name, cell_name, own_name, built_name, tools_name, facet_name, forward_name, Value, Pairs, Object, a_record, an_array, a_closure, an_error, World}
 use Rattle.cajita_meaning.specs.Doing as direct
-use Rattle.heap_rows.specs.Marks.{read_mark, set_mark, frozen_mark, is_set_mark, without_set_marks}
+use Rattle.heap_rows.specs.Marks.{read_mark, set_mark, frozen_mark}
 use Rattle.heap_rows.specs.Doing as es3
 use Rattle.heap_rows.specs.Doing.{guests}
 use Rattle.row_simulation.proofs.Keys.{apart, apart_too, hidden_read, hidden_set, read_frozen, set_frozen, set_mark_hidden}
 use Rattle.row_simulation.proofs.Relation.{EsValue, Val, PairsAre, Once, PropsAre, IsRecord, Is, IsNamed, ObjectsAre}
 use Rattle.row_simulation.specs.Among.{IsHandleAmong}
 use Rattle.row_simulation.proofs.Row.{by_value, handle_is, EndLaw}
+use Rattle.row_simulation.proofs.SetMarks.{all_stay}
 use Rattle.row_simulation.proofs.Props.{props_frozen}
 use Rattle.row_simulation.proofs.Changes.{IsNew}
 use Rattle.row_simulation.specs.RowLaw.{IsFirst}
@@ -146,23 +146,9 @@ record_new f false ps l c = record {
   sets = λ k. unmarked l c (set_mark k) (hidden_set k);
 }
 
-stays_whole : (props : List Property) → ((k : List ℕ) → is_set_mark k ≡ true → find k props ≡ None) → without_set_marks props ≡ props
-stays_whole [] gone = refl
-stays_whole (p ∷ ps) gone =
-    let cases = elim (is_set_mark p.key) as (λ b. is_set_mark p.key ≡ b → cond (not b) (p ∷ without_set_marks ps) (without_set_marks ps) ≡ p ∷ ps) [
-      | true ↦ λ e. absurd (none-some p (sym (gone p.key e) ∙ rw (same_key-refl p.key) refl))
-      | false ↦ λ e. ap (λ l. p ∷ l) (stays_whole ps (λ k set. rest k (gone k set)))
-    ] in cases refl
-  where
-    rest : (k : List ℕ) → find k (p ∷ ps) ≡ None → find k ps ≡ None
-    rest k e = elim (same_units k p.key) as (λ b. cond b (Some p) (find k ps) ≡ None → find k ps ≡ None) [
-      | true ↦ λ x. absurd (none-some p (sym x))
-      | false ↦ λ x. x
-    ] e
-
 record_is : (h : Objects) (frozen : Bool) (ps : Pairs) (l : List (List ℕ × EsValue)) → PropsAre h false ps (es3.copied l) → Is h (a_record frozen ps) (es3.frozen_if frozen (es3.record_object (es3.copied l)))
-record_is h true ps l c = record { class = refl; proto = refl; props = subst (λ q. PropsAre h true ps (defined frozen_mark (es.Bool true) hidden_attrs q)) (stays_whole (es3.copied l) (λ k set. unmarked l c k (set_mark_hidden k set))) (props_frozen c) }
-record_is h false ps l c = record { class = refl; proto = refl; props = c }
+record_is h true ps l c = record { class = refl; no_call = refl; proto = refl; props = subst (λ q. PropsAre h true ps (defined frozen_mark (es.Bool true) hidden_attrs q)) (all_stay (es3.copied l) (λ k set. unmarked l c k (set_mark_hidden k set))) (props_frozen c) }
+record_is h false ps l c = record { class = refl; no_call = refl; proto = refl; props = c }
 
 pub copies_law : {first : Objects} {places : Native → ℕ} (by : ℕ) → by < 64 → IsFirst first → (frozen : Bool) (x : Handle) → IsHandleAmong x → EndLaw first places by (r.copies_record frozen x)
 copies_law {places = places} by below f frozen x a s es w h z y m few p o is =

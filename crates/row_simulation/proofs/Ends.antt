@@ -55,10 +55,10 @@ calls_law by recorded f t xs a s es w h z y m few p o is = record { reply = (ref
 -- a new object
 
 pub is_tagged : (g : Objects) (o : Object) (x : heap.Object) (t : Tag) → Is g o x → Is g o (tagged x t)
-is_tagged g (a_record frozen ps) x t p = record { class = p.class; proto = p.proto; props = p.props }
-is_tagged g (an_array frozen vs) x t p = record { class = p.class; proto = p.proto; items = p.items; props = p.props; few = p.few; are = p.are }
+is_tagged g (a_record frozen ps) x t p = record { class = p.class; no_call = p.no_call; proto = p.proto; props = p.props }
+is_tagged g (an_array frozen vs) x t p = record { class = p.class; no_call = p.no_call; proto = p.proto; items = p.items; props = p.props; few = p.few; are = p.are }
 is_tagged g (a_closure f chain) x t p = record { class = p.class; proto = p.proto; kind = p.kind; no_text = p.no_text; no_value = p.no_value }
-is_tagged g (an_error maker message) x t p = record { class = p.class; proto = p.proto; has_name = p.has_name; has_message = p.has_message; no_text = p.no_text; no_value = p.no_value }
+is_tagged g (an_error maker message) x t p = record { class = p.class; no_call = p.no_call; proto = p.proto; has_name = p.has_name; has_message = p.has_message; no_text = p.no_text; no_value = p.no_value }
 
 pub makes_law : {first : Objects} {places : Native → ℕ} (by : ℕ) → by < 64 → (give : Value → direct.Outcome) (give' : EsValue → Reply) → ((g : Objects) (v : Value) (e : EsValue) → Val g v e → ReplyIs g (give v) (give' e)) → (o : Object) (x : heap.Object) (w : World) (h : Objects) (z : List direct.Item) (y : List Told) (m : ℕ) → suc m ≤ 4294967295 → IsNew first x → Is h o x → ObjectsAre first places w.objects h m → shown z ≡ y → DoneIs first places h m (direct.makes give by o w z) (es3.makes give' by x h y)
 makes_law {first = first} {places = places} by below give give' reply o x w h z y m few new is old items =
@@ -92,7 +92,7 @@ error_new f maker message = record {
 }
 
 error_is : (h : Objects) (maker : Maker) (message : List ℕ) → Is h (an_error maker message) (error_object (es3.proto_of maker) (maker_name maker) message)
-error_is h maker message = record { class = refl; proto = refl; has_name = refl; has_message = refl; no_text = refl; no_value = refl }
+error_is h maker message = record { class = refl; no_call = refl; proto = refl; has_name = refl; has_message = refl; no_text = refl; no_value = refl }
 
 pub throws_law : {first : Objects} {places : Native → ℕ} (by : ℕ) → by < 64 → IsFirst first → (message : List ℕ) → EndLaw first places by (r.throws message)
 throws_law by below f message s es w h z y m few p o is = makes_law by below direct.throws throw_reply (λ g v e q. q) (an_error r.type_error message) _ w h z y m few (error_new f r.type_error message) (error_is h r.type_error message) o is

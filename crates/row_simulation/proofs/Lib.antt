@@ -3,6 +3,7 @@ pub mod Keys
 pub mod Relation
 pub mod Items
 pub mod ItemsSet
+pub mod SetMarks
 pub mod Props
 pub mod Sights
 pub mod Row
@@ -19,6 +20,7 @@ pub mod Frozen
 pub mod First
 pub mod Opening
 pub mod Begun
+pub mod Imported
 pub mod Tables
 pub mod Marked
 pub mod InlineRead

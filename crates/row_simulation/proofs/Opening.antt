@@ -18,10 +18,10 @@ use Rattle.cajita_meaning.specs.Doing.{tool_pairs}
 use Rattle.heap_rows.specs.Marks.{read_mark, set_mark}
 use Rattle.heap_rows.specs.Natives.{kind_of, tag_of_native, tag_of_tools, is_common}
 use Rattle.heap_rows.specs.Doing.{sort_seen, guests}
-use Rattle.heap_rows.specs.Opening.{first, first_count, common, place_of, opened}
+use Rattle.heap_rows.specs.Opening.{first, first_count, common, place_of, place_of_tools, opened}
 use Rattle.heap_rows.proofs.Made as made
 use Rattle.heap_rows.proofs.Made.{native_object, native_objects, entries, frozen_entries, record_object}
-use Rattle.row_simulation.proofs.First.{AllFrom, each_at, both_from, first_list, first_list_is, first_list_count, first_many, IsUnnamed, up_few, all_unnamed, by_first}
+use Rattle.row_simulation.proofs.First.{AllFrom, each_at, both_from, hidden_functions, first_list, first_list_is, first_list_count, first_many, IsUnnamed, up_few, all_unnamed, by_first}
 use Rattle.row_simulation.proofs.Frozen.{frozen_props, all_guests, first_guest, no_read, no_set, frozen_are}
 use Rattle.row_simulation.proofs.Names.{code_of_tag, native_back, name_there, known_name, tools_known}
 use Rattle.row_simulation.proofs.Relation.{Named, tag_of_name, PairsAre, Once, IsRecord, IsFunction, IsNamed, Stands, ObjectsAre}
@@ -59,8 +59,8 @@ get_replicated (suc m) (suc n) lt = get_replicated m n (omega (arith, lt))
 
 -- where the functions are
 
-natives_there : (f : r.Native) → is_common f ≡ true → Named opened (built_name f) (place_of f)
-unfolding first_list native_object native_objects frozen_props places_of tools_object
+pub natives_there : (f : r.Native) → is_common f ≡ true → Named opened (built_name f) (place_of f)
+unfolding first_list hidden_functions native_object native_objects frozen_props places_of tools_object
 natives_there r.say e = cc
 natives_there r.later e = cc
 natives_there r.get e = cc
@@ -70,6 +70,11 @@ natives_there r.forward_set e = cc
 natives_there (r.service k) e = cc
 natives_there (r.makes r.error) e = rw opened_is refl
 natives_there f e = rw opened_is refl
+
+pub tools_there : (t : Tools) → Named opened (tools_name t) (place_of_tools t)
+unfolding first_list hidden_functions tools_object
+tools_there of_cajita = rw opened_is refl
+tools_there of_math = rw opened_is refl
 
 all_common : List (List ℕ × r.Native) → Bool
 all_common [] = true
@@ -111,6 +116,7 @@ tools_are : (t : Tools) → IsRecord opened true (tool_pairs (tools t)) (tools_o
 unfolding tools_object
 tools_are t = record {
   class = refl;
+  no_call = refl;
   proto = refl;
   props = frozen_are opened (tool_pairs (tools t)) (places_of (tools t)) (tools_guests t) (tools_once t) (tools_plain t).0 (tools_plain t).1 (tool_pairs_are (tools t) (tools_guests t) (tools_common t));
 }
@@ -158,7 +164,7 @@ tools_named t n e = subst (λ k. IsNamed empty_world.objects opened k (tools_obj
 -- what holds of each object at its place
 
 spot : Tag → ℕ
-spot (tag.Built n) = n + 18
+spot (tag.Built n) = n + 30
 spot t = 0
 
 record IsOpen (i : ℕ) (o : heap.Object) : Type 0 where
@@ -196,13 +202,13 @@ natives_open i (f ∷ fs) e =
     let y = x.0 in
     (native_open f i (grind (arith, nat_tests)), natives_open (suc i) fs x.1)
 
-common_in_order : in_order 20 common ≡ true
+common_in_order : in_order 32 common ≡ true
 unfolding in_order spot
 common_in_order = refl
 
-later_open : AllFrom IsOpen 18 (tools_object of_cajita ∷ tools_object of_math ∷ native_objects common)
+later_open : AllFrom IsOpen 30 (tools_object of_cajita ∷ tools_object of_math ∷ native_objects common)
 unfolding AllFrom spot
-later_open = (tools_open of_cajita 18 refl, (tools_open of_math 19 refl, natives_open 20 common common_in_order))
+later_open = (tools_open of_cajita 30 refl, (tools_open of_math 31 refl, natives_open 32 common common_in_order))
 
 all_open : AllFrom IsOpen 0 (first_list ++ (tools_object of_cajita ∷ tools_object of_math ∷ native_objects common))
 all_open = both_from IsOpen 0 first_list _ (all_unnamed_open 0 first_list all_unnamed) (subst (λ n. AllFrom IsOpen n (tools_object of_cajita ∷ tools_object of_math ∷ native_objects common)) (let l = first_list_count in omega (arith, l)) later_open)

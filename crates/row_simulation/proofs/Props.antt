@@ -17,6 +17,7 @@ use Rattle.heap_rows.specs.Marks.{read_mark, set_mark, frozen_mark, is_set_mark,
 use Rattle.heap_rows.specs.Doing.{guests}
 use Rattle.row_simulation.proofs.Keys.{not_true, apart, apart_too, hidden_read, hidden_set, read_set, set_read, read_frozen, set_frozen, frozen_read, frozen_set, read_read, set_set, set_is_set, read_is_no_set, set_mark_hidden}
 use Rattle.row_simulation.proofs.Relation.{EsValue, Val, PairsAre, Once, PropsAre}
+use Rattle.row_simulation.proofs.SetMarks.{stays, MarksGo, others_stay, marks_go}
 
 pub swapped : (j k : List ℕ) → same_units j k ≡ false → same_units k j ≡ false
 swapped j k e = not_true _ (λ s. cc (sym e ∙ ap (λ i. same_units i k) (sym (same_text k j (sym s))) ∙ same_key-refl k))
@@ -173,9 +174,6 @@ props_set {h = h} {ps = ps} {props = props} k has r =
 
 -- freezing
 
-abbrev stays : Property → Bool
-stays p = not (is_set_mark p.key)
-
 find_kept : (j : List ℕ) (ps : List Property) → is_set_mark j ≡ false → find j (filter stays ps) ≡ find j ps
 find_kept j [] free = refl
 find_kept j (p ∷ ps) free =
@@ -215,10 +213,14 @@ once_kept (p ∷ ps) o =
 pub guest_no_set : (k : List ℕ) → is_hidden k ≡ false → is_set_mark k ≡ false
 guest_no_set k guest = not_true _ (λ e. cc (sym guest ∙ set_mark_hidden k e))
 
+-- each mark may be deleted
+pub props_go : {h : Objects} {frozen : Bool} {ps : Pairs} {props : List Property} → PropsAre h frozen ps props → MarksGo props
+props_go {props = props} r = marks_go props r.once (λ k p set found. ap (λ a. a.dont_delete) (r.marks k p (set_mark_hidden k set) found))
+
 pub props_frozen : {h : Objects} {frozen : Bool} {ps : Pairs} {props : List Property} → PropsAre h frozen ps props → PropsAre h true ps (defined frozen_mark (es.Bool true) hidden_attrs (without_set_marks props))
 props_frozen {h = h} {ps = ps} {props = props} r =
     let l = filter stays props in
-    record {
+    subst (λ q. PropsAre h true ps (defined frozen_mark (es.Bool true) hidden_attrs q)) (sym (others_stay props (props_go r))) (record {
       pairs = subst (λ q. PairsAre h ps q) (sym (guests_marked frozen_mark (es.Bool true) hidden_attrs l refl ∙ guests_kept props)) r.pairs;
       closed = ap is_some (find-defined frozen_mark (es.Bool true) hidden_attrs l);
       reads = λ j p e. r.reads j p (sym (find-defined-other (read_mark j) frozen_mark (es.Bool true) hidden_attrs l (read_frozen j) ∙ find_kept (read_mark j) props (read_is_no_set j)) ∙ e);
@@ -228,7 +230,7 @@ props_frozen {h = h} {ps = ps} {props = props} r =
       once = once_defined frozen_mark (es.Bool true) hidden_attrs l (once_kept props r.once);
       no_text = find-defined-other (codes "toString") frozen_mark (es.Bool true) hidden_attrs l refl ∙ find_kept (codes "toString") props refl ∙ r.no_text;
       no_value = find-defined-other (codes "valueOf") frozen_mark (es.Bool true) hidden_attrs l refl ∙ find_kept (codes "valueOf") props refl ∙ r.no_value;
-    }
+    })
   where
     by_hidden : (j : List ℕ) (p : Property) → is_hidden j ≡ true → find j (defined frozen_mark (es.Bool true) hidden_attrs (filter stays props)) ≡ Some p → p.attrs ≡ hidden_attrs
     by_hidden j p hidden e = by_key j frozen_mark (λ b. p.attrs ≡ hidden_attrs)

@@ -29,11 +29,11 @@ pub props_keep : {a b : Objects} {frozen : Bool} {ps : Pairs} {props : List Prop
 props_keep k p = record { pairs = pairs_keep k _ _ p.pairs; closed = p.closed; reads = p.reads; sets = p.sets; plain = p.plain; marks = p.marks; once = p.once; no_text = p.no_text; no_value = p.no_value }
 
 record_keep : {a b : Objects} {frozen : Bool} {ps : Pairs} {o : heap.Object} → Keeps a b → IsRecord a frozen ps o → IsRecord b frozen ps o
-record_keep k p = record { class = p.class; proto = p.proto; props = props_keep k p.props }
+record_keep k p = record { class = p.class; no_call = p.no_call; proto = p.proto; props = props_keep k p.props }
 
 pub is_keep : {a b : Objects} → Keeps a b → (o : Object) (c : heap.Object) → Is a o c → Is b o c
 is_keep k (a_record frozen ps) c p = record_keep k p
-is_keep k (an_array frozen vs) c p = record { class = p.class; proto = p.proto; items = p.items; props = p.props; few = p.few; are = vals_keep k vs p.items p.are }
+is_keep k (an_array frozen vs) c p = record { class = p.class; no_call = p.no_call; proto = p.proto; items = p.items; props = p.props; few = p.few; are = vals_keep k vs p.items p.are }
 is_keep k (a_closure f chain) c p = p
 is_keep k (an_error maker message) c p = p
 

@@ -278,7 +278,7 @@ module _ {first : Objects} {places : Native → ℕ} {objects : ℕ → List Obj
             let same : i ≡ j = o.once k i j (p ∙ tags) q in grind (arith, nat_tests)))
       ] in cases refl
 
-  same_is : (v : Value) (e : EsValue) → Val h v e → (u : Value) (f : EsValue) → Val h u f → strictly_equal e f ≡ direct.strictly_equal v u
+  pub same_is : (v : Value) (e : EsValue) → Val h v e → (u : Value) (f : EsValue) → Val h u f → strictly_equal e f ≡ direct.strictly_equal v u
   same_is v e p u f q = by_value h (λ v e. strictly_equal e f ≡ direct.strictly_equal v u)
       (by_value h (λ u f. strictly_equal es.Undefined f ≡ direct.strictly_equal undefined u) refl refl (λ b. refl) (λ k. refl) (λ ws. refl) (λ k j t. refl) u f q)
       (by_value h (λ u f. strictly_equal es.Null f ≡ direct.strictly_equal null u) refl refl (λ b. refl) (λ k. refl) (λ ws. refl) (λ k j t. refl) u f q)

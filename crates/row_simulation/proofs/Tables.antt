@@ -529,6 +529,7 @@ tables = record {
   binary = binary_among;
   unary = unary_among;
   next_number = next_number;
+  to_number = unary_among un.Plus;
   read_pub = read_pub;
   set_pub = set_pub;
   delete_pub = delete_pub;

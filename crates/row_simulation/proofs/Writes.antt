@@ -64,7 +64,7 @@ record_no_function is e = let clash = sym is.class ∙ e in cc
 pub revised_record : {first : Objects} {places : Native → ℕ} {m : ℕ} {h : Objects} (w : World) → ObjectsAre first places w.objects h m → (a b i : ℕ) (c : heap.Object) (frozen frozen' : Bool) (ps qs : Pairs) (props : List Property) → heap.tag_of (object_at h i) ≡ tag.Made a b → object_at h i ≡ Some c → slice_get (w.objects a) b ≡ Some (a_record frozen ps) → IsRecord h frozen ps c → PropsAre h frozen' qs props → Changed first places m h (with_made a b (a_record frozen' qs) w).objects (revised h i c props)
 revised_record {h = h} w old a b i c frozen frozen' ps qs props name there known is new = record {
   left = objects_revised w.objects (with_made a b (a_record frozen' qs) w).objects old (made_name a b) i c props name (made_known a b) there (record_no_function is)
-      (record { object = a_record frozen' qs; known = made_there w a b (a_record frozen ps) (a_record frozen' qs) known; is = record { class = is.class; proto = is.proto; props = new } })
+      (record { object = a_record frozen' qs; known = made_there w a b (a_record frozen ps) (a_record frozen' qs) known; is = record { class = is.class; no_call = is.no_call; proto = is.proto; props = new } })
       (λ k o ne x. made_still w h a b (a_record frozen' qs) k o ne x) (λ k. made_length w a b k (a_record frozen' qs)) (λ k p e. is.class) (λ k p e. is.class);
   keeps = revised_keeps h (made_name a b) i c props name there (record_no_function is);
 }
@@ -72,7 +72,7 @@ revised_record {h = h} w old a b i c frozen frozen' ps qs props name there known
 -- a record that is the same to modules
 pub revised_same : {first : Objects} {places : Native → ℕ} {m : ℕ} {h : Objects} (objects : ℕ → List Object) → ObjectsAre first places objects h m → (n : Name) (i : ℕ) (c : heap.Object) (frozen : Bool) (ps : Pairs) (props : List Property) → Named h n i → name_at (tag_of_name n) ≡ Some n → object_at h i ≡ Some c → IsRecord h frozen ps c → ((x : heap.Object) → IsRecord h frozen ps x → IsNamed objects h n x) → PropsAre h frozen ps props → Changed first places m h objects (revised h i c props)
 revised_same {h = h} objects old n i c frozen ps props name known there is back new = record {
-  left = objects_revised objects objects old n i c props name known there (record_no_function is) (back (with_properties c props) (record { class = is.class; proto = is.proto; props = new })) (λ k o ne x. x) (λ k. refl) (λ k p e. is.class) (λ k p e. is.class);
+  left = objects_revised objects objects old n i c props name known there (record_no_function is) (back (with_properties c props) (record { class = is.class; no_call = is.no_call; proto = is.proto; props = new })) (λ k o ne x. x) (λ k. refl) (λ k p e. is.class) (λ k p e. is.class);
   keeps = revised_keeps h n i c props name there (record_no_function is);
 }
 

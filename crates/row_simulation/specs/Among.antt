@@ -81,6 +81,7 @@ pub record AreTablesAmong : Type 0 where
   pub binary : (op : BinOp) → IsAmongObjects (binary_row op)
   pub unary : (op : UnOp) → IsAmongObjects (unary_row op)
   pub next_number : (up : Bool) → IsAmongObjects (operators.next_number up)
+  pub to_number : IsAmongObjects operators.to_number
   pub read_pub : (n : ℕ) → IsAmongObjects (guards.read_pub n)
   pub set_pub : (n : ℕ) → IsAmongObjects (guards.set_pub n)
   pub delete_pub : (n : ℕ) → IsAmongObjects (guards.delete_pub n)

@@ -74,8 +74,10 @@ pub record PropsAre (h : Objects) (frozen : Bool) (ps : Pairs) (props : List Pro
   pub no_text : find (codes "toString") props ≡ None
   pub no_value : find (codes "valueOf") props ≡ None
 
+-- what is no function isn't called
 pub record IsRecord (h : Objects) (frozen : Bool) (ps : Pairs) (o : heap.Object) : Type 0 where
   pub class : o.class ≡ class.Object
+  pub no_call : o.callable ≡ None
   pub proto : o.proto ≡ Some (proto_id proto.Object)
   pub props : PropsAre h frozen ps o.props
 
@@ -87,6 +89,7 @@ closing false = []
 -- an array has no holes
 pub record IsArray (h : Objects) (frozen : Bool) (vs : List Value) (o : heap.Object) : Type 0 where
   pub class : o.class ≡ class.Array
+  pub no_call : o.callable ≡ None
   pub proto : o.proto ≡ Some (proto_id proto.Array)
   pub items : List EsValue
   pub props : o.props ≡ length_property (length items) ∷ (item_properties 0 items ++ closing frozen)
@@ -106,6 +109,7 @@ value_is (Some p) e = p.value ≡ e
 
 pub record IsError (maker : r.Maker) (message : List ℕ) (o : heap.Object) : Type 0 where
   pub class : o.class ≡ class.Error
+  pub no_call : o.callable ≡ None
   pub proto : o.proto ≡ Some (proto_id (proto_of maker))
   pub has_name : value_is (find (codes "name") o.props) (es.Text (maker_name maker))
   pub has_message : value_is (find (codes "message") o.props) (es.Text message)

@@ -1,4 +1,5 @@
 pub mod Correspond
 pub mod Among
 pub mod RowLaw
+pub mod OperatorLaw
 pub mod Inline

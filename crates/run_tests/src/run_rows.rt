@@ -43,7 +43,12 @@ run --steps= ⇒ 1; ⇒ usage
 run --steps ⇒ 1; ⇒ usage
 run --steps 1 --steps 2 ⇒ 1; ⇒ usage
 run x ⇒ 1; ⇒ usage
-solo --steps 2 ⇒ 1; ⇒ usage
+solo --steps 0 ⇒ 1; ⇒ usage
+solo --steps ⇒ 1; ⇒ usage
+solo 2 ⇒ 1; ⇒ usage
+cajole --steps 2 ⇒ 1; ⇒ usage
+cajole x ⇒ 1; ⇒ usage
+format --steps 2 ⇒ 1; ⇒ usage
 ";
 
 #[test]

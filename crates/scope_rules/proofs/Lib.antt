@@ -4,4 +4,5 @@ pub mod Front
 pub mod Given
 pub mod OnceParts
 pub mod Resolved
-pub mod Single
+pub mod Bodies
+pub mod Options

@@ -1,13 +1,12 @@
-//! What the first language asks of a module.
+//! What the language asks of a module that is accepted so far (ES3 11, 12).
 
 ghost use Rattle.std.specs.Prelude.{◌≡◌};
 ghost use Rattle.cajita_tree.specs.Tree as tree;
 ghost use Rattle.cajita_tree.specs.View as view;
-ghost use Rattle.scope_rules.specs.Language.{is_first, is_single as is_one};
+ghost use Rattle.scope_rules.specs.Language.{is_first};
 
 use caja_units::Units;
-use cajita_names::words::{is_free_key, is_free_name, is_record_key};
-use cajita_tree::{CBody, CExpr, CStmt, CVarItem, Key, Module};
+use cajita_tree::{CBody, CCase, CExpr, CFirst, CStmt, CVarItem, Key, Module, Target};
 use es3_tree::BinOp;
 
 #[cycle(first)]
@@ -16,13 +15,64 @@ fn is_first_expr(e: &CExpr) -> bool
     ensures { result ≡ is_first tree.expr (view.expr e.now) }
 {
     match e {
-        CExpr::Num(_) | CExpr::Text(_) => true,
-        CExpr::Name(name) => is_free_name(name),
+        CExpr::Null => true,
+        CExpr::Bool(_) => true,
+        CExpr::Num(_) => true,
+        CExpr::Text(_) => true,
+        CExpr::Name(_) => true,
+        CExpr::Array(items) => are_first(items),
         CExpr::Record(fields) => are_first_fields(fields),
-        CExpr::Read(object, Key::Fixed(key)) => is_free_key(key) && is_first_expr(object),
-        CExpr::Binary(BinOp::Add, left, right) => is_first_expr(left) && is_first_expr(right),
+        CExpr::Read(object, key) => is_first_expr(object) && is_first_key(key),
+        CExpr::Delete(object, key) => is_first_expr(object) && is_first_key(key),
+        CExpr::Step(_, _, target) => is_first_target(target),
+        CExpr::Assign(Some(BinOp::InObject), _, _) => false,
+        CExpr::Assign(Some(BinOp::InstanceOf), _, _) => false,
+        CExpr::Assign(_, target, value) => is_first_target(target) && is_first_expr(value),
+        CExpr::Unary(_, operand) => is_first_expr(operand),
+        CExpr::Binary(_, left, right) => is_first_expr(left) && is_first_expr(right),
+        CExpr::And(left, right) => is_first_expr(left) && is_first_expr(right),
+        CExpr::Or(left, right) => is_first_expr(left) && is_first_expr(right),
+        CExpr::Cond(test, so, otherwise) => {
+            is_first_expr(test) && is_first_expr(so) && is_first_expr(otherwise)
+        }
+        CExpr::Comma(left, right) => is_first_expr(left) && is_first_expr(right),
         _ => false,
     }
+}
+
+#[cycle(first)]
+#[tactic(auto, unfolding(crate::specs::Language::is_first))]
+fn is_first_key(key: &Key) -> bool
+    ensures { result ≡ is_first tree.key (view.key key.now) }
+{
+    match key {
+        Key::Fixed(_) => true,
+        Key::Computed(key) => is_first_expr(key),
+    }
+}
+
+#[cycle(first)]
+#[tactic(auto, unfolding(crate::specs::Language::is_first))]
+fn is_first_target(target: &Target) -> bool
+    ensures { result ≡ is_first tree.target (view.target target.now) }
+{
+    match target {
+        Target::Var(_) => true,
+        Target::Member(object, key) => is_first_expr(object) && is_first_key(key),
+    }
+}
+
+#[cycle(first)]
+#[tactic(auto, unfolding(crate::specs::Language::is_first))]
+fn are_first(list: &[CExpr]) -> bool
+    ensures { result ≡ is_first tree.exprs (view.of_exprs list.now) }
+{
+    for e in list {
+        if !is_first_expr(e) {
+            return false;
+        }
+    }
+    true
 }
 
 #[cycle(first)]
@@ -30,10 +80,7 @@ fn is_first_expr(e: &CExpr) -> bool
 fn are_first_fields(fields: &[(Units, CExpr)]) -> bool
     ensures { result ≡ is_first tree.fields (view.of_fields fields.now) }
 {
-    for (key, value) in fields {
-        if !is_record_key(key) {
-            return false;
-        }
+    for (_key, value) in fields {
         if !is_first_expr(value) {
             return false;
         }
@@ -57,9 +104,6 @@ fn are_first_items(items: &[CVarItem]) -> bool
     ensures { result ≡ is_first tree.items (view.of_items items.now) }
 {
     for item in items {
-        if !is_free_name(&item.name) {
-            return false;
-        }
         if !is_first_value(&item.value) {
             return false;
         }
@@ -67,25 +111,48 @@ fn are_first_items(items: &[CVarItem]) -> bool
     true
 }
 
-// Whether it is one variable.
-#[tactic(auto, using(crate::proofs::Single::single))]
-fn is_single(items: &[CVarItem]) -> bool
-    ensures { result ≡ is_one (view.of_items items.now) }
-{
-    items.len() == 1
-}
-
+#[cycle(statements)]
 #[tactic(auto, unfolding(crate::specs::Language::is_first), using(cajita_tree::proofs::Rows::views))]
 fn is_first_stmt(statement: &CStmt) -> bool
     ensures { result ≡ is_first tree.stmt (view.stmt statement.now) }
 {
     match statement {
-        CStmt::Var(items) => is_single(items) && are_first_items(items),
+        CStmt::Block(list) => are_first_stmts(list),
+        CStmt::Var(items) => are_first_items(items),
+        CStmt::Empty => true,
         CStmt::Expr(e) => is_first_expr(e),
+        CStmt::If(test, then, otherwise) => {
+            is_first_expr(test) && is_first_stmt(then) && is_first_maybe_stmt(otherwise)
+        }
+        CStmt::While(test, body) => is_first_expr(test) && is_first_stmt(body),
+        CStmt::Do(body, test) => is_first_stmt(body) && is_first_expr(test),
+        CStmt::For(start, test, update, body) => {
+            is_first_start(start)
+                && is_first_value(test)
+                && is_first_value(update)
+                && is_first_stmt(body)
+        }
+        CStmt::Continue(_) => true,
+        CStmt::Break(_) => true,
+        CStmt::Switch(value, cases) => is_first_expr(value) && are_first_cases(cases),
+        CStmt::Label(_, body) => is_first_stmt(body),
+        CStmt::Throw(value) => is_first_expr(value),
+        CStmt::Try(list, handler, last) => {
+            let caught = match handler {
+                Some((_name, caught)) => are_first_stmts(caught),
+                None => true,
+            };
+            let ended = match last {
+                Some(last) => are_first_stmts(last),
+                None => true,
+            };
+            are_first_stmts(list) && caught && ended
+        }
         _ => false,
     }
 }
 
+#[cycle(statements)]
 #[tactic(auto, unfolding(crate::specs::Language::is_first))]
 fn are_first_stmts(list: &[CStmt]) -> bool
     ensures { result ≡ is_first tree.stmts (view.of_stmts list.now) }
@@ -98,18 +165,59 @@ fn are_first_stmts(list: &[CStmt]) -> bool
     true
 }
 
+// The `else` of an `if`, if it has one (ES3 12.5).
+#[cycle(statements)]
+#[tactic(auto, unfolding(crate::specs::Language::is_first))]
+fn is_first_maybe_stmt(statement: &Option<Box<CStmt>>) -> bool
+    ensures { result ≡ is_first tree.maybe_stmt (view.of_maybe_stmt statement.now) }
+{
+    match statement {
+        Some(statement) => is_first_stmt(statement),
+        None => true,
+    }
+}
+
+// The first part of the head of a `for` (ES3 12.6.3).
+#[tactic(auto, unfolding(crate::specs::Language::is_first), using(cajita_tree::proofs::Rows::views))]
+fn is_first_start(start: &CFirst) -> bool
+    ensures { result ≡ is_first tree.first (view.first start.now) }
+{
+    match start {
+        CFirst::None => true,
+        CFirst::Var(items) => are_first_items(items),
+        CFirst::Expr(e) => is_first_expr(e),
+    }
+}
+
+// The clauses of a `switch` (ES3 12.11).
+#[cycle(statements)]
+#[tactic(auto, unfolding(crate::specs::Language::is_first))]
+fn are_first_cases(cases: &[CCase]) -> bool
+    ensures { result ≡ is_first tree.cases (view.of_cases cases.now) }
+{
+    for case in cases {
+        if !is_first_value(&case.test) {
+            return false;
+        }
+        if !are_first_stmts(&case.body) {
+            return false;
+        }
+    }
+    true
+}
+
 // A body that declares no function.
-#[tactic(auto, using(crate::proofs::Single::first_body))]
+#[tactic(auto, using(crate::proofs::Bodies::first_body))]
 fn is_first_body(body: &CBody) -> bool
     ensures { result ≡ is_first tree.body (view.body body.now) }
 {
     body.funcs.as_slice().is_empty() && are_first_stmts(&body.list)
 }
 
-/// Whether the module is of the first language.
+/// Whether the module is of the language that is accepted so far.
 #[tactic(auto, unfolding(crate::specs::Language::is_first))]
 pub(crate) fn is_first_module(resolved: &Module) -> bool
     ensures { result ≡ is_first tree.program (view.module_view resolved.now) }
 {
-    resolved.imports.is_empty() && is_first_body(&resolved.body)
+    is_first_body(&resolved.body)
 }

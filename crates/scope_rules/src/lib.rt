@@ -45,9 +45,8 @@ impl From<Memory> for RuleError {
     }
 }
 
-/// Whether the module is of the first language: it imports nothing and declares no function, and has numbers, texts, names, records, members
-/// with a settled key and sums, in expression statements and `var` statements (ES3 11.1, 11.2.1, 11.6.1, 12.2, 12.4), in which no name is one
-/// that modules have anyway, and no key behind a point is `length` or a method of texts.
+/// Whether the module is of the language that is accepted so far: it declares no function and has no `for` .. `in` and no `return`, no function
+/// is written or called in it, and `arguments` isn't named (ES3 11, 12).
 pub fn is_first(resolved: &Module) -> bool
     ensures { result ≡ is_of_the_first resolved_tree.program (module_view resolved.now) }
 {

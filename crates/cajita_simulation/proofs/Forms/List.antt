@@ -1,87 +1,46 @@
--- The module's own statements in order, each with its law, and then what follows them.
-use Rattle.std.proofs.Common.{◌≡◌, ℕ, suc, ◌≤◌, ◌<◌, true, false, List, [], ◌∷◌, Option, Some, None, cond, refl, sym, ap, subst, arith}
-use Rattle.std.specs.Prelude.{nat_eq}
-use Rattle.std.proofs.Math.Path.{fun_ext}
-use Rattle.std.proofs.lemmas.Bool.Decides.{nat_tests}
+-- Statements in a list within another statement, each with its law, and then what follows the list.
+use Rattle.std.proofs.Common.{◌≡◌, ℕ, suc, ◌+◌, ◌≤◌, ◌<◌, true, false, List, [], Option, Some, None, arith}
 use Rattle.plans.specs.Plans.{bind}
-use Rattle.acts.specs.Acts.{put}
-use Rattle.caja_units.specs.Units.{same_units}
 use Rattle.es3_tree.specs.Tree as t
 use Rattle.es3_language.specs.Store.{Store}
 use Rattle.es3_language.specs.Meaning as Target
 use Rattle.cajita_tree.specs.Tree as c
-use Rattle.cajita_rewrite.specs.Rewrite.{rewritten, joined, result_name}
+use Rattle.cajita_rewrite.specs.Rewrite.{rewritten, temps}
 use Rattle.cajita_meaning.specs.World.{Value, World}
-use Rattle.cajita_meaning.specs.Asking.{first}
 use Rattle.cajita_meaning.specs.Direct as Direct
 use Rattle.cajita_meaning.specs.Direct.{Item}
 use Rattle.module_loader.specs.Page.{Kept}
 use Rattle.cajita_simulation.specs.Guest.{Guest}
 use Rattle.cajita_simulation.proofs.Doing as Source
-use Rattle.cajita_simulation.proofs.Relation.{EsValue, Here, env_of, Tags, Temps, holds, Rel, Stays, stays_refl, stays_trans, stays_before, rel_less}
-use Rattle.cajita_simulation.proofs.Laws.{EffectLaw, Throws, throws_from, Cont, Cont', M, hold, after, HasResult}
+use Rattle.cajita_simulation.proofs.Relation.{EsValue, Here, env_of, Tags, Temps, Rel, stays_refl, stays_before, rel_less}
+use Rattle.cajita_simulation.proofs.Laws.{Jumps, Targets, EffectLaw, bare, NextEffect, effect_from, Cont, Cont', M, Room, room_part}
 
--- the laws of the statements at a place
+-- the laws of the statements within others
 abbrev pub Effects : Here → ℕ → Type 0
-Effects H d = (x : c.Tree c.stmt) → Guest H.vars H.free c.stmt x → EffectLaw H d x (rewritten c.stmt x)
+Effects H d = (b : ℕ) (x : c.Tree c.stmt) → Guest H.vars H.free c.stmt x → EffectLaw H d b (temps c.stmt x) x (rewritten false c.stmt b x)
 
--- the value of the last expression statement, as it is kept at a place
-abbrev pub last_of : Option Value → List Value
-last_of None = []
-last_of (Some v) = v ∷ []
+-- what goes on after a plan and what follows it
+abbrev pub behind : (Source.Completion → World → Source.Plan) → Cont → Cont
+behind end next e w = bind (end e w) next
 
-abbrev pub later : Option Value → Option Value → Option Value
-later None acc = acc
-later (Some v) acc = Some v
+abbrev pub behind' : Cont' → Cont' → Cont'
+behind' end next e s = bind (end e s) next
 
--- what goes on after the list: with the value of the last expression statement in the module's result
-pub record ListEnd (H : Here) (T : Temps) (d k : ℕ) (w0 : World) (g0 : Tags) (s0 : Store) (i : ℕ) (end' : Cont') (next : Cont) (next' : Cont') (rest' : t.Tree t.stmts) : Type 0 where
-  pub on : (a : ℕ) → a ≤ d → (acc : Option Value) (acc' : Option EsValue) (w : World) (z : List Item) (n : ℕ) (g : Tags) (s : Store) (y : Kept) (m : ℕ) → Rel H (after H T acc) k w z n g s y m → Stays w0 g0 s0 i w g s m → M H a (next (Source.gave (first (last_of acc))) w) z n (bind (Target.list true rest' acc' (env_of H) s end') next') y m
-  pub throws : (acc : Option Value) → Throws H (after H T acc) d k w0 g0 s0 i next (λ e s. bind (end' e s) next')
+-- behind a statement that came to its end stands the next one
+each_end : {d : ℕ} (v : Option Value) (xs : c.Tree c.stmts) (us : List Value) (H : Here) (end : Source.Ending → ℕ → ℕ → Source.Act) (w : World) (next : Cont) {z : List Item} {n : ℕ} {q : Target.Plan} {y : Kept} {m : ℕ} → M H d (bind (Source.list xs us H end w) next) z n q y m → M H d (bind (Source.ended_by H 1 (Source.kept us) (Direct.on_each 0 (Direct.list xs H.around end) end) (Source.normal v) w) next) z n q y m
+each_end None xs us H end w next x = x
+each_end (Some v) xs us H end w next x = x
 
-pub list_end_since : {H : Here} {T : Temps} {d c k : ℕ} {w w' : World} {g g' : Tags} {s s' : Store} {i l : ℕ} {end' : Cont'} {next : Cont} {next' : Cont'} {rest' : t.Tree t.stmts} → c ≤ d → Stays w g s (suc i) w' g' s' l → ListEnd H T d k w g s i end' next next' rest' → ListEnd H T c k w' g' s' l end' next next' rest'
-list_end_since {k = k} le keep x = record {
-  on = λ a le1 acc acc' w z n g s y m r k1. x.on a (omega arith) acc acc' w z n g s y m r (stays_trans (stays_before keep) k1);
-  throws = λ acc. throws_from {j = k} {k = k} le (omega arith) (stays_before keep) (x.throws acc);
-}
-
--- what is held is what was held last
-
-held_last : (act : ℕ) (x : List ℕ) (u v : Value) (T : Temps) (c : ℕ) (y : List ℕ) → hold act x v (hold act x u T) c y ≡ hold act x v T c y
-held_last act x u v T c y = elim (nat_eq c act) as (λ b. cond b (cond (same_units y x) (holds v) (cond b (cond (same_units y x) (holds u) (T c y)) (T c y))) (cond b (cond (same_units y x) (holds u) (T c y)) (T c y)) ≡ cond b (cond (same_units y x) (holds v) (T c y)) (T c y)) [
-  | true ↦ elim (same_units y x) as (λ b. cond b (holds v) (cond b (holds u) (T c y)) ≡ cond b (holds v) (T c y)) [
-    | true ↦ refl
-    | false ↦ refl
-  ]
-  | false ↦ refl
-]
-
-after_later : (H : Here) (T : Temps) (acc v : Option Value) → after H (after H T acc) v ≡ after H T (later v acc)
-after_later H T acc None = refl
-after_later H T None (Some v) = refl
-after_later H T (Some u) (Some v) = fun_ext (λ c. fun_ext (λ y. held_last H.act result_name u v T c y))
-
--- the result stays held
-has_after : {H : Here} {T : Temps} (acc : Option Value) → HasResult H T → HasResult H (after H T acc)
-has_after None has = has
-has_after {H = H} {T = T} (Some v) has =
-    let here : nat_eq H.act H.act ≡ true = grind (arith, nat_tests) in
-    record { value = v; is = ap (λ b. cond b (holds v) (T H.act result_name)) here }
-
--- a statement that came to its end leaves its value, or the one before it
-next_own : (H : Here) (v acc : Option Value) (rest : c.Tree c.stmts) (w : World) → Source.act_plan H 2 (put 1 (Source.values_of (Source.normal v)) (Source.kept (last_of acc))) (Direct.on_own 0 (Direct.own_list rest H.around) (Source.shape_of (Source.normal v)) 1) w ≡ Source.own_list rest H (last_of (later v acc)) w
-next_own H None acc rest w = refl
-next_own H (Some v) acc rest w = refl
-
-pub list_match : {H : Here} {T : Temps} {d : ℕ} (law : Effects H d) (ss : c.Tree c.stmts) → Guest H.vars H.free c.stmts ss → (acc : Option Value) (acc' : Option EsValue) (rest' : t.Tree t.stmts) (a k : ℕ) {w : World} {z : List Item} {n : ℕ} {g : Tags} {s : Store} {y : Kept} {m : ℕ} (end' : Cont') (next : Cont) (next' : Cont') → a < d → HasResult H T → Rel H (after H T acc) k w z n g s y m → ListEnd H T a k w g s m end' next next' rest' → M H a (bind (Source.own_list ss H (last_of acc) w) next) z n (bind (Target.list true (joined (rewritten c.stmts ss) rest') acc' (env_of H) s end') next') y m
+pub list_match : {H : Here} {T : Temps} {J : Jumps} {d : ℕ} (law : Effects H d) (xs : c.Tree c.stmts) → Guest H.vars H.free c.stmts xs → Targets J [] c.stmts xs → (b : ℕ) (us : List Value) (acc' : Option EsValue) (a k : ℕ) {w : World} {z : List Item} {n : ℕ} {g : Tags} {s : Store} {y : Kept} {m : ℕ} (end : Source.Ending → ℕ → ℕ → Source.Act) (end' : Cont') (next : Cont) (next' : Cont') → a < d → Room H T b (temps c.stmts xs) → Rel H T k w z n g s y m → NextEffect bare J H T a k w g s m (behind (Source.list_end H us end) next) (behind' end' next') → M H a (bind (Source.list xs us H end w) next) z n (bind (Target.list true (rewritten false c.stmts b xs) acc' (env_of H) s end') next') y m
 unfolding rewritten
-list_match law c.no_stmts guest acc acc' rest' a k end' next next' lt has r x = x.on a (omega arith) acc acc' _ _ _ _ _ _ _ r stays_refl
-list_match {H = H} {T = T} law (c.more_stmts u ss) guest acc acc' rest' a k {w = w} {z = z} {n = n} {g = g} {s = s} {y = y} {m = m} end' next next' lt has r x =
-    (law u guest.0).on lt (has_after acc has) r (record {
+list_match law c.no_stmts guest to b us acc' a k end end' next next' lt room r x = x.finishes.on a (omega arith) tt acc' _ _ _ _ _ _ _ r stays_refl
+list_match {H = H} {T = T} {J = J} law (c.more_stmts u xs) guest to b us acc' a k end end' next next' lt room r x =
+    (law b u guest.0).on {J = J} [] to.0 lt (room_part (omega arith) (omega arith) room) r (record {
       finishes = record {
-        on = λ b le v v' w1 z1 n1 g1 s1 y1 m1 r1 k1.
-            subst (λ q. M H b (bind q next) z1 n1 (bind (Target.list true (joined (rewritten c.stmts ss) rest') (Target.later v' acc') (env_of H) s1 end') next') y1 m1) (sym (next_own H v acc ss w1))
-            (list_match law ss guest.1 (later v acc) (Target.later v' acc') rest' b k end' next next' (omega arith) has (subst (λ q. Rel H q k w1 z1 n1 g1 s1 y1 m1) (after_later H T acc v) (rel_less (omega arith) r1)) (list_end_since le k1 x));
+        on = λ c1 le v v' w1 z1 n1 g1 s1 y1 m1 r1 k1. each_end v xs us H end w1 next (list_match law xs guest.1 to.1 (b + temps c.stmt u) us (Target.later v' acc') c1 k end end' next next' (omega arith) (room_part (omega arith) (omega arith) room) (rel_less (omega arith) r1) (effect_from {j = k} {k = k} le (omega arith) (stays_before k1) x));
+        breaks = λ c1 le l out v' w1 z1 n1 g1 s1 y1 m1 r1 k1. x.finishes.breaks c1 le l out (Target.later v' acc') w1 z1 n1 g1 s1 y1 m1 (rel_less (omega arith) r1) (stays_before k1);
+        continues = λ c1 le l out v' w1 z1 n1 g1 s1 y1 m1 r1 k1. x.finishes.continues c1 le l out (Target.later v' acc') w1 z1 n1 g1 s1 y1 m1 (rel_less (omega arith) r1) (stays_before k1);
       };
-      throws = record { on = λ b le v e w1 z1 n1 g1 s1 y1 m1 is r1 k1. (x.throws acc).on b le v e w1 z1 n1 g1 s1 y1 m1 is (rel_less (omega arith) r1) (stays_before k1) };
+      returns = λ out. record { on = λ c1 le v e w1 z1 n1 g1 s1 y1 m1 is r1 k1. (x.returns out).on c1 le v e w1 z1 n1 g1 s1 y1 m1 is (rel_less (omega arith) r1) (stays_before k1) };
+      throws = record { on = λ c1 le v e w1 z1 n1 g1 s1 y1 m1 is r1 k1. x.throws.on c1 le v e w1 z1 n1 g1 s1 y1 m1 is (rel_less (omega arith) r1) (stays_before k1) };
     })

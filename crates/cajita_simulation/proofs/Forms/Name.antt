@@ -22,9 +22,9 @@ name_end {H = H} {d = d} x place {w = w} {z = z} {n = n} {s = s} {y = y} {m = m}
     subst (λ o. M H d (bind (Source.found_or o H w) next) z n (bind (Target.expr_plan (t.name x) (env_of H) s) next') y m) (sym f.looked)
     (subst (λ p. M H d (next (Source.gave f.known) w) z n (bind p next') y m) (sym (slot_plan x (env_of H) s place f.value guest.own_name at f.there)) (give less few x1 f.same r))
 
-pub name_body : {H : Here} {d : ℕ} (x : List ℕ) → H.vars x ≡ true → GuestName x → ValueBody H d (c.name x) (t.name x)
+pub name_body : {H : Here} {d b : ℕ} (x : List ℕ) → H.vars x ≡ true → GuestName x → ValueBody H d b 0 (c.name x) (t.name x)
 name_body x known guest = record {
-  on = λ lt r next.
+  on = λ lt room r next.
       let p = r.here.captured.names x known in
       name_end x p.scope guest (omega arith) (omega arith) p.at (find x p.scope p.at guest.open_name r) r next;
 }

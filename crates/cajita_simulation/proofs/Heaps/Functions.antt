@@ -1,20 +1,22 @@
 -- A function that a text makes: two new objects, the function and its prototype (13.2).
-use Rattle.std.proofs.Common.{◌≡◌, ℕ, suc, ◌<◌, List, [], ◌∷◌, Some, None, length, ap, ◌∙◌, arith}
-use Rattle.std.specs.Prelude.{codes, pos}
+use Rattle.std.proofs.Common.{◌≡◌, ℕ, suc, ◌<◌, true, List, [], ◌∷◌, ◌++◌, Some, None, length, ap, ◌∙◌, arith}
+use Rattle.std.specs.Prelude.{codes, pos, slice_get, slice_set}
+use Rattle.std.proofs.Math.Seq.{set-append_seam}
 use Rattle.std.proofs.lemmas.List.{set-append_left}
 use Rattle.es3_heap.specs.declared.value.Value.{Value}
-use Rattle.es3_heap.specs.declared.value.Value.TheVariants.{Num, Obj}
+use Rattle.es3_heap.specs.declared.value.Value.TheVariants.{Num, Obj, Bool}
 use Rattle.es3_heap.specs.declared.value.Attrs.{Attrs}
 use Rattle.es3_heap.specs.declared.value.Class.TheVariants as class
 use Rattle.es3_heap.specs.declared.value.FuncKind.TheVariants.{Code}
 use Rattle.es3_heap.specs.declared.value.Proto.TheVariants as proto
 use Rattle.es3_heap.specs.declared.value.Tag.TheVariants as tag
-use Rattle.es3_heap.specs.Objects.{Object, Objects, fixed_attrs, hidden_attrs, kept_attrs, object_at, with_object, replaced}
+use Rattle.es3_heap.specs.Objects.{Property, Object, Objects, fixed_attrs, hidden_attrs, kept_attrs, object_at, with_object, replaced}
 use Rattle.es3_heap.specs.Properties.{defined, define, length_key}
 use Rattle.es3_heap.specs.Reading.{property}
-use Rattle.es3_heap.specs.Making.{bare, proto_id}
+use Rattle.es3_heap.specs.Making.{bare, proto_id, count_at, raised, is_untagged, named}
 use Rattle.es3_language.specs.Store.{new_function}
-use Rattle.cajita_simulation.proofs.Heaps.Made.{with_properties, defined_new, replaced_new}
+use Rattle.heap_rows.specs.Marks.{marked, simple_mark, frozen_mark}
+use Rattle.cajita_simulation.proofs.Heaps.Made.{with_properties, defined_new, replaced_new, tagged, next_name, with_named}
 use Rattle.cajita_simulation.proofs.Heaps.Grown.{length-grown, grown_last, grown_kept}
 use Rattle.cajita_simulation.proofs.Heaps.Opened.{IsOpened, opened_kept}
 
@@ -59,3 +61,32 @@ function_new code params maker h =
 
 pub opened_kept-function : (code params maker : ℕ) (h : Objects) → IsOpened h → IsOpened (new_function code params maker h)
 opened_kept-function code params maker h is = rw (function_new code params maker h) (opened_kept _ _ (opened_kept h _ is))
+
+-- the function with its marks
+
+abbrev mark_property : List ℕ → Property
+mark_property k = property k (Bool true) hidden_attrs
+
+abbrev pub marked_object : ℕ → ℕ → ℕ → ℕ → Object
+marked_object code params maker prototype = with_properties (function_object code params maker prototype)
+    (property length_key (Num (pos params)) fixed_attrs ∷ property (codes "prototype") (Obj prototype) kept_attrs ∷ mark_property simple_mark ∷ mark_property frozen_mark ∷ [])
+
+pub marked_new : (code params maker : ℕ) (h : Objects) → let i = length h.list in let p = suc (length h.list) in marked (marked (with_object (with_object h (function_object code params maker p)) (prototype_object i)) i simple_mark) i frozen_mark ≡ with_object (with_object h (marked_object code params maker p)) (prototype_object i)
+marked_new code params maker h =
+    let i = length h.list in
+    let p = suc (length h.list) in
+    let f = function_object code params maker p in
+    let one = with_properties f (property length_key (Num (pos params)) fixed_attrs ∷ property (codes "prototype") (Obj p) kept_attrs ∷ mark_property simple_mark ∷ []) in
+    ap (λ (g : Objects). marked g i frozen_mark) (defined_before h f (prototype_object i) simple_mark (Bool true) hidden_attrs)
+    ∙ defined_before h one (prototype_object i) frozen_mark (Bool true) hidden_attrs
+
+-- the last object but one gets the next name
+pub named_before : (h : Objects) (o x : Object) (m : ℕ) → o.tag ≡ tag.None → named (with_object (with_object h o) x) (length h.list) m ≡ with_object (with_named h o m) x
+named_before h o x m bare =
+    let y = tagged o (next_name h m) in
+    let free : is_untagged o.tag ≡ true = ap is_untagged bare in
+    let one : length (with_object h o).list ≡ suc (length h.list) = length-grown h o h.counts in
+    let less : length h.list < length (with_object h o).list = omega (arith, one) in
+    let there : object_at (with_object (with_object h o) x) (length h.list) ≡ Some o = grown_kept (with_object h o) x h.counts (length h.list) o (grown_last h o h.counts) in
+    let list : slice_set ((h.list ++ o ∷ []) ++ x ∷ []) (length h.list) y ≡ (h.list ++ y ∷ []) ++ x ∷ [] = set-append_left (h.list ++ o ∷ []) (x ∷ []) (length h.list) y less ∙ ap (λ l. l ++ x ∷ []) (set-append_seam h.list o [] y) in
+    rw (there, free) (ap (λ l. let g : Objects = record { list = l; counts = slice_set h.counts m (raised (count_at (slice_get h.counts m))) } in g) list)

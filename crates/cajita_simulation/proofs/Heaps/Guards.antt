@@ -13,7 +13,7 @@ use Rattle.es3_heap.specs.Reading.{property}
 use Rattle.es3_language.specs.Store.{Store}
 use Rattle.es3_language.specs.References.{member, get_member}
 use Rattle.es3_language.specs.Meaning.{Env, Plan, native_call, called, do_call}
-use Rattle.heap_rows.specs.Opening.{first, first_count, runtime_id, load_module, initialize_map, read_public}
+use Rattle.heap_rows.specs.Opening.{first, first_count, runtime_id}
 use Rattle.cajita_simulation.proofs.Heaps.Opened.{IsOpened, get_first}
 
 -- a member of the runtime's object is the function of a row of the guards, which has no name in the log
@@ -24,17 +24,63 @@ pub record IsGuard (guard : List ℕ) (row : ℕ) : Type 0 where
   pub callable : callable_of (object_at first object) ≡ Some (record { kind = Simple row; maker = 0 })
   pub unnamed : tag_of (object_at first object) ≡ tag.None
 
-pub load_module-guard : IsGuard (codes "loadModule") load_module
-unfolding first
-load_module-guard = record { object = 13; within = lit< tt; member = refl; callable = refl; unnamed = refl }
+-- where each stands, and its number
 
-pub initialize_map-guard : IsGuard (codes "initializeMap") initialize_map
+pub load_module-guard : IsGuard (codes "loadModule") 64
 unfolding first
-initialize_map-guard = record { object = 14; within = lit< tt; member = refl; callable = refl; unnamed = refl }
+load_module-guard = record { object = 12; within = lit< tt; member = refl; callable = refl; unnamed = refl }
 
-pub read_pub-guard : IsGuard (codes "readPub") read_public
+pub read_import-guard : IsGuard (codes "readImport") 65
 unfolding first
-read_pub-guard = record { object = 15; within = lit< tt; member = refl; callable = refl; unnamed = refl }
+read_import-guard = record { object = 13; within = lit< tt; member = refl; callable = refl; unnamed = refl }
+
+pub func-guard : IsGuard (codes "func") 66
+unfolding first
+func-guard = record { object = 14; within = lit< tt; member = refl; callable = refl; unnamed = refl }
+
+pub initialize_array-guard : IsGuard (codes "initializeArray") 68
+unfolding first
+initialize_array-guard = record { object = 16; within = lit< tt; member = refl; callable = refl; unnamed = refl }
+
+pub initialize_map-guard : IsGuard (codes "initializeMap") 69
+unfolding first
+initialize_map-guard = record { object = 17; within = lit< tt; member = refl; callable = refl; unnamed = refl }
+
+pub key-guard : IsGuard (codes "key") 70
+unfolding first
+key-guard = record { object = 18; within = lit< tt; member = refl; callable = refl; unnamed = refl }
+
+pub read_pub-guard : IsGuard (codes "readPub") 71
+unfolding first
+read_pub-guard = record { object = 19; within = lit< tt; member = refl; callable = refl; unnamed = refl }
+
+pub set_pub-guard : IsGuard (codes "setPub") 72
+unfolding first
+set_pub-guard = record { object = 20; within = lit< tt; member = refl; callable = refl; unnamed = refl }
+
+pub delete_pub-guard : IsGuard (codes "deletePub") 73
+unfolding first
+delete_pub-guard = record { object = 21; within = lit< tt; member = refl; callable = refl; unnamed = refl }
+
+pub in_pub-guard : IsGuard (codes "inPub") 74
+unfolding first
+in_pub-guard = record { object = 22; within = lit< tt; member = refl; callable = refl; unnamed = refl }
+
+pub call_pub-guard : IsGuard (codes "callPub") 76
+unfolding first
+call_pub-guard = record { object = 24; within = lit< tt; member = refl; callable = refl; unnamed = refl }
+
+pub as_simple_func-guard : IsGuard (codes "asSimpleFunc") 77
+unfolding first
+as_simple_func-guard = record { object = 25; within = lit< tt; member = refl; callable = refl; unnamed = refl }
+
+pub construct-guard : IsGuard (codes "construct") 78
+unfolding first
+construct-guard = record { object = 26; within = lit< tt; member = refl; callable = refl; unnamed = refl }
+
+pub instance_of-guard : IsGuard (codes "instanceOf") 79
+unfolding first
+instance_of-guard = record { object = 27; within = lit< tt; member = refl; callable = refl; unnamed = refl }
 
 runtime_unnamed : tag_of (object_at first runtime_id) ≡ tag.None
 unfolding first

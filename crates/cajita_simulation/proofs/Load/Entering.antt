@@ -1,5 +1,5 @@
 -- What the interpreter enters from the program of a module to the first statement of its function, whatever ran before.
-use Rattle.std.proofs.Common.{◌≡◌, ℕ, suc, true, List, [], ◌∷◌, length, Option, Some, None, refl, sym, ap, ◌∙◌, subst, arith, lit<}
+use Rattle.std.proofs.Common.{◌≡◌, ℕ, zero, suc, ◌<◌, true, List, [], ◌∷◌, length, Option, Some, None, refl, sym, ap, ◌∙◌, subst, arith, lit<}
 use Rattle.std.specs.Prelude.{codes}
 use Rattle.plans.specs.Plans.{bind}
 use Rattle.matching.specs.Sides.{Match}
@@ -17,50 +17,45 @@ use Rattle.es3_language.specs.Expressions.{apply_callable}
 use Rattle.es3_language.specs.Meaning as Target
 use Rattle.cajita_tree.specs.Tree as c
 use Rattle.rows.specs.Nodes.{Rules}
-use Rattle.cajita_rewrite.specs.Rewrite.{runtime_name, imports_name, result_name, rewritten, joined, result_stmts, declares, single, load_stmt}
+use Rattle.cajita_rewrite.specs.Rewrite.{runtime_name, imports_name, single, load_stmt, temps, declared, others, temp_items, name_items, head_items}
 use Rattle.cajita_meaning.specs.Direct.{Item}
 use Rattle.heap_rows.specs.Opening.{first, runtime_id, imports_id, globals_id, load_module}
+use Rattle.guard_runtime.specs.Guards.{load_by}
 use Rattle.module_loader.specs.Page.{page_table, first_kept}
-use Rattle.module_loader.specs.Page as page
 use Rattle.row_simulation.specs.Correspond.{EsValue}
-use Rattle.cajita_simulation.specs.Guest.{Names as KnownNames, Guest, declared}
-use Rattle.cajita_simulation.proofs.Heaps.Lists.{slice_get-push}
+use Rattle.cajita_simulation.specs.Guest.{Names as KnownNames, Guest}
+use Rattle.row_simulation.specs.Correspond as rows
+use Rattle.std.proofs.lemmas.List.{length-append}
+use Rattle.cajita_simulation.proofs.Entering.{two_keep, function_is_new, prototype_is_new}
+use Rattle.cajita_simulation.proofs.Heaps.Lists.{slice_get-push, slice_get-push-other}
 use Rattle.cajita_simulation.proofs.Heaps.Opened.{IsOpened, lookup_from-own}
 use Rattle.cajita_simulation.proofs.Heaps.Grown.{grown_last, grown_kept}
 use Rattle.cajita_simulation.proofs.Heaps.Functions.{function_new, function_object, prototype_object, opened_kept-function}
 use Rattle.cajita_simulation.proofs.Heaps.Guards.{load_module-guard, guard_call}
 use Rattle.cajita_simulation.proofs.Doing as Source
 use Rattle.cajita_simulation.proofs.Laws.{Cont', sides}
-use Rattle.cajita_simulation.proofs.Load.Names.{own_kept, no_functions}
+use Rattle.cajita_simulation.proofs.Load.Names.{Module, statements, module_body, module_vars, no_functions}
 
--- the statements of the module's function behind `var moduleResult___;`
-abbrev pub statements : c.Tree c.stmts → t.Tree t.stmts
-statements list = joined (rewritten c.stmts list) result_stmts
+-- the function of the module: it declares no function
+abbrev pub module_code : Module → Code
+module_code q = record { params = runtime_name ∷ imports_name ∷ []; vars = module_vars q; functions = []; body = module_body q; chain = [] }
 
-abbrev pub module_body : c.Tree c.stmts → t.Tree t.stmts
-module_body list = t.more_stmts (declares result_name) (statements list)
-
--- the function of the module: it declares the module's result and the variables, and no function
-abbrev pub module_code : c.Tree c.stmts → Code
-module_code list = record { params = runtime_name ∷ imports_name ∷ []; vars = result_name ∷ declared list; functions = []; body = module_body list; chain = [] }
-
-pub code_is : (vars free : KnownNames) (list : c.Tree c.stmts) → Guest vars free c.stmts list → code_of (t.fun None (runtime_name ∷ imports_name ∷ []) (module_body list)) [] ≡ module_code list
-code_is vars free list guest =
-    ap (λ names. code names (functions_of (statements list))) (own_kept vars free list guest) ∙ ap (code (declared list)) (no_functions list)
+pub code_is : (vs free : KnownNames) (q : Module) → Guest vs free c.stmts q.list → code_of (t.fun None (runtime_name ∷ imports_name ∷ []) (module_body q)) [] ≡ module_code q
+code_is vs free q guest = ap code (no_functions vs free q guest)
   where
-    code : List (List ℕ) → List (t.Tree t.func) → Code
-    code names functions = record { params = runtime_name ∷ imports_name ∷ []; vars = result_name ∷ names; functions = functions; body = module_body list; chain = [] }
+    code : List (t.Tree t.func) → Code
+    code functions = record { params = runtime_name ∷ imports_name ∷ []; vars = module_vars q; functions = functions; body = module_body q; chain = [] }
 
 abbrev pub first_values : List EsValue
 first_values = es.Obj runtime_id ∷ es.Obj imports_id ∷ []
 
 -- the store with the function, and then with its scope
-abbrev pub made_store : ℕ → c.Tree c.stmts → Store → Store
-made_store by list s = with_code (module_code list) by s
+abbrev pub made_store : ℕ → Module → Store → Store
+made_store by q s = with_code (module_code q) by s
 
-abbrev pub module_store : ℕ → c.Tree c.stmts → Store → Store
-module_store by list s =
-    store.with_scope (activation (es.Obj (length s.heap.list)) (module_code list).params first_values) (first_names (module_code list) first_values) (made_store by list s)
+abbrev pub module_store : ℕ → Module → Store → Store
+module_store by q s =
+    store.with_scope (activation (es.Obj (length s.heap.list)) (module_code q).params first_values) (first_names (module_code q) first_values) (made_store by q s)
 
 -- where its statements stand
 abbrev pub inner : ℕ → Store → Target.Env
@@ -85,56 +80,79 @@ runtime_global by s is global =
     ap (λ r. Target.read_plan (Target.outermost by s) r s) ref ∙ ap (λ v. Target.give v s) got
 
 -- the function is behind the objects that there were
-function_at : (by : ℕ) (list : c.Tree c.stmts) (s : Store) → object_at (made_store by list s).heap (length s.heap.list) ≡ Some (function_object (length s.codes) 2 by (suc (length s.heap.list)))
-function_at by list s =
+function_at : (by : ℕ) (q : Module) (s : Store) → object_at (made_store by q s).heap (length s.heap.list) ≡ Some (function_object (length s.codes) 2 by (suc (length s.heap.list)))
+function_at by q s =
     let f = function_object (length s.codes) 2 by (suc (length s.heap.list)) in
     let g = with_object s.heap f in
     subst (λ h. object_at h (length s.heap.list) ≡ Some f) (sym (function_new (length s.codes) 2 by s.heap))
     (grown_kept g (prototype_object (length s.heap.list)) g.counts (length s.heap.list) f (grown_last s.heap f s.heap.counts))
+
+-- an object that was there stays, and so do all names
+pub function_before : (by : ℕ) (q : Module) (s : Store) (i : ℕ) → i < length s.heap.list → object_at (made_store by q s).heap i ≡ object_at s.heap i
+function_before by q s i lt =
+    let f = function_object (length s.codes) 2 by (suc (length s.heap.list)) in
+    let g = with_object s.heap f in
+    ap (λ h. object_at h i) (function_new (length s.codes) 2 by s.heap) ∙ slice_get-push-other g.list i (prototype_object (length s.heap.list)) (omega (arith, lt, length-append s.heap.list (f ∷ []))) ∙ slice_get-push-other s.heap.list i f lt
+
+pub function_keeps : (by : ℕ) (q : Module) (s : Store) → rows.Keeps s.heap (made_store by q s).heap
+function_keeps by q s = subst (λ h. rows.Keeps s.heap h) (sym (function_new (length s.codes) 2 by s.heap)) (two_keep s.heap (function_object (length s.codes) 2 by (suc (length s.heap.list))) (prototype_object (length s.heap.list)) (function_is_new (length s.codes) 2 by (suc (length s.heap.list))) (prototype_is_new (length s.heap.list)))
 
 -- `loadModule` calls it, and keeps what was kept
 
 abbrev load_task : ℕ → Store → Target.Task
 load_task by s = Target.native_call load_module (es.Obj runtime_id) (es.Obj (length s.heap.list) ∷ []) (Target.outermost by s)
 
-load_is : (by : ℕ) (list : c.Tree c.stmts) (s : Store) → Target.task_plan page_table (load_task by s) (made_store by list s) first_kept ≡ Target.list true (module_body list) None (inner by s) (module_store by list s) Target.body_end
-load_is by list s =
-    let made = made_store by list s in
+load_is : (by : ℕ) (q : Module) (s : Store) → Target.task_plan page_table (load_task by s) (made_store by q s) first_kept ≡ Target.list true (module_body q) None (inner by s) (module_store by q s) Target.body_end
+load_is by q s =
+    let made = made_store by q s in
     let f = length s.heap.list in
     let env = Target.outermost by s in
-    let turn : (o : Option Object) → Target.Plan = λ o. let q = page.loads (class_of o) f by made.heap first_kept in Target.reply_plan q.reply env (with_heap made q.heap) in
+    let turn : (o : Option Object) → Target.Plan = λ o. let d = load_by (class_of o) runtime_id imports_id by f made.heap in Target.reply_plan d.reply env (with_heap made d.heap) in
     let entered : (o : Option Object) → Target.Plan = λ o. apply_callable (callable_of o) (es.Obj f) es.Undefined first_values env made in
     let opened : (o : Option Code) → Target.Plan = λ o. Target.open_code o by (es.Obj f) s.globals first_values 0 made Target.body_end in
-    ap turn (function_at by list s) ∙ ap entered (function_at by list s) ∙ ap opened (slice_get-push s.codes (module_code list))
+    ap turn (function_at by q s) ∙ ap entered (function_at by q s) ∙ ap opened (slice_get-push s.codes (module_code q))
 
-load_keeps : (by : ℕ) (list : c.Tree c.stmts) (s : Store) → Target.task_state page_table (load_task by s) (made_store by list s) first_kept ≡ first_kept
-load_keeps by list s = subst (λ o. (page.loads (class_of o) (length s.heap.list) by (made_store by list s).heap first_kept).state ≡ first_kept) (sym (function_at by list s)) refl
+load_keeps : (by : ℕ) (q : Module) (s : Store) → Target.task_state page_table (load_task by s) (made_store by q s) first_kept ≡ first_kept
+load_keeps by q s = refl
 
 -- what goes on after the call of `loadModule`
 abbrev pub after_load : Cont' → Cont'
 after_load next' e s = bind (Target.on_value_of Target.to_normal e s) next'
 
-called : (rules : Rules) {by d : ℕ} (list : c.Tree c.stmts) (s : Store) {p : Source.Plan} {z : List Item} {n m : ℕ} (next' : Cont') → IsOpened s.heap → Match (sides rules) d p z n (bind (Target.list true (module_body list) None (inner by s) (module_store by list s) Target.body_end) next') first_kept (suc m) → Match (sides rules) d p z n (bind (Target.do_call (Target.called (member (es.Obj runtime_id) (codes "loadModule"))) (es.Obj (length s.heap.list) ∷ []) (Target.outermost by s) (made_store by list s)) next') first_kept m
-called rules {by = by} {d = d} list s {p = p} {z = z} {n = n} {m = m} next' is f =
-    let made = made_store by list s in
+called : (rules : Rules) {by d : ℕ} (q : Module) (s : Store) {p : Source.Plan} {z : List Item} {n m : ℕ} (next' : Cont') → IsOpened s.heap → Match (sides rules) d p z n (bind (Target.list true (module_body q) None (inner by s) (module_store by q s) Target.body_end) next') first_kept (suc m) → Match (sides rules) d p z n (bind (Target.do_call (Target.called (member (es.Obj runtime_id) (codes "loadModule"))) (es.Obj (length s.heap.list) ∷ []) (Target.outermost by s) (made_store by q s)) next') first_kept m
+called rules {by = by} {d = d} q s {p = p} {z = z} {n = n} {m = m} next' is f =
+    let made = made_store by q s in
     let vs : List EsValue = es.Obj (length s.heap.list) ∷ [] in
     subst (λ q. Match (sides rules) d p z n (bind q next') first_kept m) (sym (guard_call (codes "loadModule") load_module load_module-guard vs (Target.outermost by s) made (opened_kept-function (length s.codes) 2 by s.heap is)))
     (right_enter
-    (subst (λ y. Match (sides rules) d p z n (bind (Target.task_plan page_table (load_task by s) made first_kept) next') y (suc m)) (sym (load_keeps by list s))
-    (subst (λ q. Match (sides rules) d p z n (bind q next') first_kept (suc m)) (sym (load_is by list s)) f)))
+    (subst (λ y. Match (sides rules) d p z n (bind (Target.task_plan page_table (load_task by s) made first_kept) next') y (suc m)) (sym (load_keeps by q s))
+    (subst (λ q. Match (sides rules) d p z n (bind q next') first_kept (suc m)) (sym (load_is by q s)) f)))
 
--- `var moduleResult___;`
-declares_result : (rules : Rules) {by d : ℕ} (list : c.Tree c.stmts) (s : Store) {p : Source.Plan} {z : List Item} {n m : ℕ} (next' : Cont') → Match (sides rules) d p z n (bind (Target.list true (statements list) None (inner by s) (module_store by list s) Target.body_end) next') first_kept (suc m) → Match (sides rules) d p z n (bind (Target.list true (module_body list) None (inner by s) (module_store by list s) Target.body_end) next') first_kept m
-declares_result rules list s next' f = right_enter f
+-- the head has no values
 
--- the call, the member, the name, the function, `loadModule` itself, and `var moduleResult___;`
-pub enters : (rules : Rules) {by d : ℕ} (vars free : KnownNames) (list : c.Tree c.stmts) (s : Store) {p : Source.Plan} {z : List Item} {n m : ℕ} (next' : Cont') → Guest vars free c.stmts list → IsOpened s.heap → s.globals ≡ globals_id
-    → Match (sides rules) d p z n (bind (Target.list true (statements list) None (inner by s) (module_store by list s) Target.body_end) (after_load next')) first_kept (suc (suc (suc (suc (suc (suc m))))))
-    → Match (sides rules) d p z n (bind (Target.stmt_plan (load_stmt (module_body list)) [] (Target.outermost by s) s) next') first_kept m
-enters rules {by = by} {d = d} vars free list s {p = p} {z = z} {n = n} {m = m} next' guest is global f =
-    let args = single (t.function (t.fun None (runtime_name ∷ imports_name ∷ []) (module_body list))) in
+temps_skipped : (i n : ℕ) (is : t.Tree t.items) (env : Target.Env) (s : Store) → Target.var_items (temp_items i n is) env s ≡ Target.var_items is env s
+temps_skipped i zero is env s = refl
+temps_skipped i (suc n) is env s = temps_skipped (suc i) n is env s
+
+loops_skipped : (xs : List (List ℕ)) (env : Target.Env) (s : Store) → Target.var_items (name_items xs t.no_items) env s ≡ Target.var_items t.no_items env s
+loops_skipped [] env s = refl
+loops_skipped (x ∷ xs) env s = loops_skipped xs env s
+
+head_match : (rules : Rules) {by d : ℕ} (q : Module) (s : Store) {p : Source.Plan} {z : List Item} {n m : ℕ} (next' : Cont') → Match (sides rules) d p z n (bind (Target.list true (statements q) None (inner by s) (module_store by q s) Target.body_end) next') first_kept (suc m) → Match (sides rules) d p z n (bind (Target.list true (module_body q) None (inner by s) (module_store by q s) Target.body_end) next') first_kept m
+head_match rules {by = by} {d = d} q s {p = p} {z = z} {n = n} {m = m} next' f =
+    let names = others q.vars (declared c.stmts q.list) in
+    let skipped : Target.var_items (head_items (c.a_body c.no_funcs q.vars q.list)) (inner by s) (module_store by q s) ≡ Target.var_items t.no_items (inner by s) (module_store by q s) =
+    temps_skipped 0 (temps c.stmts q.list) (name_items names t.no_items) (inner by s) (module_store by q s) ∙ loops_skipped names (inner by s) (module_store by q s) in
+    right_enter (subst (λ o. Match (sides rules) d p z n (bind o (λ e s1. bind (Target.list_rest true (statements q) None (inner by s) Target.body_end e s1) next')) first_kept (suc m)) (sym skipped) f)
+
+-- the call, the member, the name, the function, `loadModule` itself, and the head of the module's function
+pub enters : (rules : Rules) {by d : ℕ} (vars free : KnownNames) (q : Module) (s : Store) {p : Source.Plan} {z : List Item} {n m : ℕ} (next' : Cont') → Guest vars free c.stmts q.list → IsOpened s.heap → s.globals ≡ globals_id
+    → Match (sides rules) d p z n (bind (Target.list true (statements q) None (inner by s) (module_store by q s) Target.body_end) (after_load next')) first_kept (suc (suc (suc (suc (suc (suc m))))))
+    → Match (sides rules) d p z n (bind (Target.stmt_plan (load_stmt (module_body q)) [] (Target.outermost by s) s) next') first_kept m
+enters rules {by = by} {d = d} vars free q s {p = p} {z = z} {n = n} {m = m} next' guest is global f =
+    let args = single (t.function (t.fun None (runtime_name ∷ imports_name ∷ []) (module_body q))) in
     right_enter (right_enter (right_enter
     (subst (λ q. Match (sides rules) d p z n (bind q (λ e s1. bind (Target.on_value_of (Target.dot_target (codes "loadModule")) e s1) (λ e1 s2. bind (Target.on_target_of (Target.after_callee args (Target.outermost by s)) e1 s2) (after_load next')))) first_kept (suc (suc (suc m)))) (sym (runtime_global by s is global))
     (right_enter
-    (subst (λ q. Match (sides rules) d p z n (bind (Target.do_call (Target.called (member (es.Obj runtime_id) (codes "loadModule"))) (es.Obj (length s.heap.list) ∷ []) (Target.outermost by s) (with_code q by s)) (after_load next')) first_kept (suc (suc (suc (suc m))))) (sym (code_is vars free list guest))
-    (called rules list s (after_load next') is (declares_result rules list s (after_load next') f)))))))
+    (subst (λ o. Match (sides rules) d p z n (bind (Target.do_call (Target.called (member (es.Obj runtime_id) (codes "loadModule"))) (es.Obj (length s.heap.list) ∷ []) (Target.outermost by s) (with_code o by s)) (after_load next')) first_kept (suc (suc (suc (suc m))))) (sym (code_is vars free q guest))
+    (called rules q s (after_load next') is (head_match rules q s (after_load next') f)))))))

@@ -1,37 +1,43 @@
 -- The load of a module and the run of its program are matched, at any related state.
-use Rattle.std.proofs.Common.{◌≡◌, ℕ, zero, suc, ◌+◌, ◌≤◌, ◌<◌, true, List, [], ◌∷◌, length, Option, Some, None, cond, refl, sym, ap, subst, arith}
-use Rattle.std.specs.Prelude.{is_some, false, nat_eq}
+use Rattle.std.proofs.Common.{◌≡◌, ℕ, zero, suc, ◌+◌, ◌*◌, ◌≤◌, ◌<◌, true, List, [], ◌∷◌, length, Option, Some, None, cond, refl, sym, ap, ◌∙◌, subst, arith}
+use Rattle.std.specs.Prelude.{is_some, false, nat_eq, map, ◌||◌}
 use Rattle.std.proofs.lemmas.Bool.Decides.{nat_tests}
 use Rattle.plans.specs.Plans.{ends, enter, bind}
 use Rattle.acts.specs.Acts.{Places, plan_of, given_at}
 use Rattle.matching.specs.Sides.{Match}
 use Rattle.matching.proofs.Rules.{both_end, both_cut, both_enter, right_enter, left_tick}
 use Rattle.es3_tree.specs.Tree as t
-use Rattle.es3_language.specs.Store.{Store, name_value}
+use Rattle.es3_language.specs.Store.{Store, name_value, first_names}
 use Rattle.es3_language.specs.Meaning as Target
 use Rattle.cajita_tree.specs.Tree as c
 use Rattle.rows.specs.Nodes.{Rules}
-use Rattle.cajita_rewrite.specs.Rewrite.{rewritten, program_of, load_stmt, result_name, result_stmts}
+use Rattle.cajita_rewrite.specs.Rewrite.{rewritten, joined, temps, temp_name, program_of, load_stmt, result_name, result_stmts}
 use Rattle.cajita_meaning.specs.World.{Value, World, undefined}
 use Rattle.cajita_meaning.specs.Asking.{first, count_of}
 use Rattle.cajita_meaning.specs.Direct as Direct
 use Rattle.cajita_meaning.specs.Direct.{Item}
-use Rattle.heap_rows.specs.Opening.{globals_id}
+use Rattle.heap_rows.specs.Opening.{globals_id, imports_id}
+use Rattle.es3_heap.specs.Properties.{own, value_of}
+use Rattle.cajita_simulation.proofs.Heaps.Opened.{IsOpened}
+use Rattle.cajita_simulation.proofs.Heaps.Functions.{opened_kept-function}
 use Rattle.module_loader.specs.Page.{Kept, first_kept}
 use Rattle.cajita_simulation.specs.Guest.{is_among, Guest}
 use Rattle.cajita_simulation.proofs.Doing as Source
-use Rattle.cajita_simulation.proofs.Relation.{EsValue, Here, env_of, Tags, Temps, unknown, holds, SlotIs, Between, In, names_at, related_steps, related_between}
+use Rattle.cajita_simulation.proofs.Relation.{EsValue, Vals, Here, env_of, Tags, Temps, declared, unknown, holds, SlotIs, Between, In, names_at, related_steps, related_between}
 use Rattle.cajita_simulation.proofs.Calls.{opened_of}
 use Rattle.cajita_simulation.proofs.Slots.{slot_plan}
-use Rattle.cajita_simulation.proofs.Laws.{Cont', sides, after, HasResult}
-use Rattle.cajita_simulation.proofs.Forms.List.{Effects, last_of, ListEnd, list_match}
-use Rattle.cajita_simulation.proofs.Load.Entering.{module_body, statements, module_store, inner, after_load, enters}
-use Rattle.cajita_simulation.proofs.Load.Opening.{here, first_temps, bound_world, Declares, opening}
+use Rattle.cajita_simulation.proofs.Laws.{no_jumps, Targets, Cont', sides, after, HasResult, Room}
+use Rattle.cajita_simulation.proofs.Forms.Own.{Owns, last_of, ListEnd, own_match}
+use Rattle.cajita_simulation.proofs.Load.Names.{Module, Declares, module_body, module_vars, statements, own_names, vars_known, vars_bound, runtime_there, imports_there}
+use Rattle.cajita_simulation.proofs.Load.Bound.{temp_is, known, GuestNames, opens, bound_alike}
+use Rattle.cajita_simulation.proofs.Load.Entering.{module_code, first_values, made_store, module_store, inner, after_load, enters}
+use Rattle.cajita_simulation.proofs.Load.Opening.{here, first_temps, bound_world, owner_of, begun_store, opening}
+use Rattle.cajita_simulation.proofs.Load.Imports.{read_all}
 
 -- a step for each name that is bound
-ticked : (rules : Rules) (by : ℕ) {d : ℕ} (count : ℕ) (act : Source.Act) (at : Places Value) (w : World) (next : Source.Completion → World → Source.Plan) {z : List Item} (n : ℕ) {q : Target.Plan} {y : Kept} {m : ℕ} → ((n' : ℕ) → n ≤ n' → Match (sides rules) d (bind (plan_of (Source.forms rules) by 1 at act w) next) z n' q y m) → Match (sides rules) d (bind (plan_of (Source.forms rules) by 1 at (Direct.steps count act) w) next) z n q y m
+ticked : (rules : Rules) (by : ℕ) {d : ℕ} (count : ℕ) (act : Source.Act) (at : Places Value) (w : World) (next : Source.Completion → World → Source.Plan) {z : List Item} (n : ℕ) {q : Target.Plan} {y : Kept} {m : ℕ} → ((n' : ℕ) → n' ≡ n + count → Match (sides rules) d (bind (plan_of (Source.forms rules) by 1 at act w) next) z n' q y m) → Match (sides rules) d (bind (plan_of (Source.forms rules) by 1 at (Direct.steps count act) w) next) z n q y m
 ticked rules by zero act at w next n f = f n (omega arith)
-ticked rules by (suc count) act at w next n f = left_tick (ticked rules by count act at w next (suc n) (λ n' le. f n' (omega arith)))
+ticked rules by (suc count) act at w next n f = left_tick (ticked rules by count act at w next (suc n) (λ n' same. f n' (omega (arith, same))))
 
 -- what waits in the program while the module is loaded
 abbrev pub waiting : ℕ → Store → Cont'
@@ -57,37 +63,74 @@ module_ends H T by s0 is = record {
   throws = λ acc. record { on = λ a le v e w z n g s y m is r keep. both_end (omega (arith, r.all.steps)) (is, (g, related_between r.all)) };
 }
 
-program_is : (vars : List (List ℕ)) (list : c.Tree c.stmts) → program_of (c.a_module [] (c.a_body c.no_funcs vars list)) ≡ t.script (t.more_stmts (load_stmt (module_body list)) t.no_stmts)
+program_is : (q : Module) → program_of (c.a_module q.imports (c.a_body c.no_funcs q.vars q.list)) ≡ t.script (t.more_stmts (load_stmt (module_body q)) t.no_stmts)
 unfolding rewritten
-program_is vars list = refl
+program_is q = refl
 
--- the module of these variables and statements
-abbrev pub module_of : List (List ℕ) → c.Tree c.stmts → c.Tree c.program
-module_of vars list = c.a_module [] (c.a_body c.no_funcs vars list)
+-- the module of these parts
+abbrev pub module_of : Module → c.Tree c.program
+module_of q = c.a_module q.imports (c.a_body c.no_funcs q.vars q.list)
 
--- the laws of all statements, wherever they stand
+-- the laws of all statements directly in a module
 abbrev pub Laws : Type 0
-Laws = (H : Here) → H.by < 64 → (d : ℕ) → Effects H d
+Laws = (H : Here) → H.by < 64 → (d : ℕ) → Owns H d
 
-undefined_first : (s : Store) → first_temps s (length s.scopes) result_name ≡ holds undefined
-undefined_first s = let same : nat_eq (length s.scopes) (length s.scopes) ≡ true = grind (arith, nat_tests) in ap (λ b. cond b (holds undefined) unknown) same
+-- what is known of a module that was accepted
+pub record IsGuest (q : Module) : Type 0 where
+  pub same : Declares q
+  pub names : GuestNames q
+  pub few : temps c.stmts q.list < 18446744073709551616
+  pub list : Guest (known q) (is_among q.vars) c.stmts q.list
+  pub targets : Targets no_jumps [] c.stmts q.list
 
-inner_is : (rules : Rules) (by : ℕ) (vars : List (List ℕ)) (w : World) (s : Store) → s.globals ≡ globals_id → env_of (here rules by vars w s) ≡ inner by s
-inner_is rules by vars w s is = ap (λ o. let env : Target.Env = record { chain = length s.scopes ∷ []; calls = 1; by = by; this = o } in env) (sym is)
+undefined_first : (q : Module) (s : Store) → first_temps q s (length s.scopes) result_name ≡ holds undefined
+undefined_first q s = let same : nat_eq (length s.scopes) (length s.scopes) ≡ true = grind (arith, nat_tests) in rw same refl
 
-loaded : (rules : Rules) (by : ℕ) → by < 64 → (vars : List (List ℕ)) (list : c.Tree c.stmts) → Declares vars list → Guest (is_among vars) (is_among vars) c.stmts list → Laws → (d : ℕ) {w : World} {z : List Item} {n : ℕ} {g : Tags} {s : Store} {m : ℕ} → Between w z n g s first_kept m → Match (sides rules) d (enter (Source.load_of (module_of vars list) by) w ends) z n (Target.program_plan (t.script (t.more_stmts (load_stmt (module_body list)) t.no_stmts)) by s) first_kept m
-loaded rules by few vars list same guest laws zero r = both_cut (omega (arith, r.steps)) r.items
-loaded rules by few vars list same guest laws (suc d) {w = w} {z = z} {n = n} {g = g} {s = s} {m = m} r =
-    let H = here rules by vars w s in
-    let begins = undefined_first s in
-    let has : HasResult H (first_temps s) = record { value = undefined; is = begins } in
-    both_enter (enters rules (is_among vars) (is_among vars) list s (waiting by s) guest (opened_of r.objects) r.globals
-    (ticked rules by (0 + (length vars + count_of c.no_funcs)) _ (given_at []) w ends (suc n) (λ n' some.
-    subst (λ env. Match (sides rules) d (bind (Source.own_list list H [] (bound_world by vars w)) ends) z n' (bind (Target.list true (statements list) None env (module_store by list s) Target.body_end) (after_load (waiting by s))) first_kept (suc (suc (suc (suc (suc (suc (suc m)))))))) (inner_is rules by vars w s r.globals)
-    (list_match (laws H few (suc d)) list guest None None result_stmts d 40 Target.body_end ends (after_load (waiting by s)) (omega arith) has (opening rules by vars list n' same some r) (module_ends H (first_temps s) by s begins)))))
+-- the temporaries are declared where the statements begin
+room_first : (q : Module) (rules : Rules) (by : ℕ) (w : World) (s : Store) → temps c.stmts q.list < 18446744073709551616 → Room (here rules by q w s) (first_temps q s) 0 (temps c.stmts q.list)
+room_first q rules by w s few = record { declared = λ i from to. one i (omega (arith, to)); few = omega (arith, few) }
+  where
+    one : (i : ℕ) → i < temps c.stmts q.list → first_temps q s (length s.scopes) (temp_name i) ≡ declared
+    one i lt =
+        let same : nat_eq (length s.scopes) (length s.scopes) ≡ true = grind (arith, nat_tests) in
+        rw (same, temp_is (temps c.stmts q.list) i lt) refl
+
+inner_is : (rules : Rules) (by : ℕ) (q : Module) (w : World) (s : Store) → s.globals ≡ globals_id → env_of (here rules by q w s) ≡ inner by s
+inner_is rules by q w s is = ap (λ o. let env : Target.Env = record { chain = length s.scopes ∷ []; calls = 1; by = by; this = o } in env) (sym is)
+
+-- the statements that read imports, from the store where the function was entered to that where its imports are there
+pub record ImportsRead (rules : Rules) (by : ℕ) (q : Module) (us : List EsValue) (s : Store) : Type 0 where
+  pub on : {d : ℕ} {p : Source.Plan} {z : List Item} {n m : ℕ} (next' : Cont') → ((m' : ℕ) → m' ≡ m + 7 * length q.imports → Match (sides rules) d p z n (bind (Target.list true (joined (rewritten true c.stmts 0 q.list) result_stmts) None (inner by s) (begun_store by q us s) Target.body_end) next') first_kept m')
+      → Match (sides rules) d p z n (bind (Target.list true (statements q) None (inner by s) (module_store by q s) Target.body_end) next') first_kept m
+
+loaded : (rules : Rules) (by : ℕ) → by < 64 → (q : Module) → IsGuest q → (vs : List Value) (us : List EsValue) → Laws → (d : ℕ) {w : World} {z : List Item} {n : ℕ} {g : Tags} {s : Store} {m : ℕ} → ImportsRead rules by q us s → Vals (made_store by q s).heap vs us → length vs ≡ length q.imports → Between w z n g s first_kept m → Match (sides rules) d (enter (Source.load_of (module_of q) by vs) w ends) z n (Target.program_plan (t.script (t.more_stmts (load_stmt (module_body q)) t.no_stmts)) by s) first_kept m
+loaded rules by few q guest vs us laws zero reads are long r = both_cut (omega (arith, r.steps)) r.items
+loaded rules by few q guest vs us laws (suc d) {w = w} {z = z} {n = n} {g = g} {s = s} {m = m} reads are long r =
+    let H = here rules by q w s in
+    let begins = undefined_first q s in
+    let has : HasResult H (first_temps q s) = record { value = undefined; is = begins } in
+    let begun = opens (known q) (is_among q.vars) q us guest.list guest.same guest.names in
+    let imports = bound_alike (known q) (is_among q.vars) (made_store by q s).heap q vs us guest.list guest.same guest.names are long in
+    both_enter (enters rules (known q) (is_among q.vars) q s (waiting by s) guest.list (opened_of r.objects) r.globals
+    (ticked rules by (length q.imports + (length q.vars + count_of c.no_funcs)) _ (given_at vs) w ends (suc n) (λ n' same.
+    reads.on (after_load (waiting by s)) (λ m' at.
+    subst (λ env. Match (sides rules) d (bind (Source.own_list q.list H [] (bound_world by q vs w)) ends) z n' (bind (Target.list true (joined (rewritten true c.stmts 0 q.list) result_stmts) None env (begun_store by q us s) Target.body_end) (after_load (waiting by s))) first_kept m') (inner_is rules by q w s r.globals)
+    (own_match (laws H few (suc d)) q.list guest.list guest.targets None None result_stmts d 0 40 Target.body_end ends (after_load (waiting by s)) (omega arith) has (room_first q rules by w s guest.few) (opening rules by q vs us n' m' begun imports (omega (arith, at)) (omega (arith, at, same, r.steps)) (omega (arith, same)) r) (module_ends H (first_temps q s) by s begins))))))
 
 -- the law of the load of a module
-pub whole : (rules : Rules) (by : ℕ) → by < 64 → (vars : List (List ℕ)) (list : c.Tree c.stmts) → Declares vars list → Guest (is_among vars) (is_among vars) c.stmts list → Laws → (d : ℕ) {w : World} {z : List Item} {n : ℕ} {g : Tags} {s : Store} {y : Kept} {m : ℕ} → Between w z n g s y m → Match (sides rules) d (enter (Source.load_of (module_of vars list) by) w ends) z n (Target.program_plan (program_of (module_of vars list)) by s) y m
-whole rules by few vars list same guest laws d {w = w} {z = z} {n = n} {g = g} {s = s} {y = y} {m = m} r =
-    subst (λ p. Match (sides rules) d (enter (Source.load_of (module_of vars list) by) w ends) z n (Target.program_plan p by s) y m) (sym (program_is vars list))
-    (subst (λ q. Between w z n g s q m → Match (sides rules) d (enter (Source.load_of (module_of vars list) by) w ends) z n (Target.program_plan (t.script (t.more_stmts (load_stmt (module_body list)) t.no_stmts)) by s) q m) (sym r.kept) (loaded rules by few vars list same guest laws d) r)
+pub whole : (rules : Rules) (by : ℕ) → by < 64 → (q : Module) → IsGuest q → (vs : List Value) (us : List EsValue) → Laws → (d : ℕ) {w : World} {z : List Item} {n : ℕ} {g : Tags} {s : Store} {y : Kept} {m : ℕ} → ImportsRead rules by q us s → Vals (made_store by q s).heap vs us → length vs ≡ length q.imports → Between w z n g s y m → Match (sides rules) d (enter (Source.load_of (module_of q) by vs) w ends) z n (Target.program_plan (program_of (module_of q)) by s) y m
+whole rules by few q guest vs us laws d {w = w} {z = z} {n = n} {g = g} {s = s} {y = y} {m = m} reads are long r =
+    subst (λ p. Match (sides rules) d (enter (Source.load_of (module_of q) by vs) w ends) z n (Target.program_plan p by s) y m) (sym (program_is q))
+    (subst (λ o. Between w z n g s o m → Match (sides rules) d (enter (Source.load_of (module_of q) by vs) w ends) z n (Target.program_plan (t.script (t.more_stmts (load_stmt (module_body q)) t.no_stmts)) by s) o m) (sym r.kept) (loaded rules by few q guest vs us laws d reads are long) r)
+
+-- each import is read in turn
+pub imports_read : (rules : Rules) (by : ℕ) (q : Module) (s : Store) → IsGuest q → IsOpened s.heap → s.shared ≡ [] → ImportsRead rules by q (map (λ k. value_of (own (made_store by q s).heap imports_id k)) q.imports) s
+imports_read rules by q s guest is unshared = record {
+  on = λ next' f. read_all rules by 1 s.globals (owner_of q s) (made_store by q s) q.imports (first_names (module_code q) first_values) (joined (rewritten true c.stmts 0 q.list) result_stmts) Target.body_end next' (record {
+    is = opened_kept-function (length s.codes) 2 by s.heap is;
+    free = refl;
+    unshared = unshared;
+    runtime = runtime_there (module_vars q);
+    imports = imports_there (module_vars q);
+  }) guest.names.imports (λ x known. vars_bound x (module_vars q) own_names (vars_known (Rattle.cajita_simulation.proofs.Load.Bound.known q) (is_among q.vars) q x guest.list guest.same (guest.names.imports x known).open_name (guest.names.imports x known).own_name ∙ ap (λ b. b || is_among q.vars x) known)) f;
+}

@@ -3,7 +3,7 @@ use Rattle.es3_tree.specs.View.{program}
 use Rattle.es3_language.specs.Meaning.{run_program}
 use Rattle.es3_machine.specs.Machine.{Ran}
 use Rattle.es3_machine.specs.Held.{started_of, store_in, new_store}
-use Rattle.page_runner.proofs.Told.{run_told, log_told, end_told}
+use Rattle.page_runner.proofs.Told.{run_told, log_told, end_told, state_told}
 use Rattle.page_runner.proofs.running.run_among.Given as given
 use Rattle.page_runner.proofs.running.run_among.Goals as goal
 
@@ -25,3 +25,8 @@ pub returns-clause-end : goal.returns-clause-end
 returns-clause-end g c =
     end_told c.shown.result (run_program g.N.Natives.table (program c.args.p) 0 (new_store c.args.heap c.args.globals) (g.N.Natives.state c.args.natives.now) c.args.steps) c.args.steps
     (store_in c.run-answer.new.h c.run-answer.new.self) (g.N.Natives.state c.run-answer.new.natives) c.run-answer.result (told g c) c.shown.ensures.end
+
+pub returns-clause-kept : goal.returns-clause-kept
+returns-clause-kept g c =
+    state_told c.shown.result (run_program g.N.Natives.table (program c.args.p) 0 (new_store c.args.heap c.args.globals) (g.N.Natives.state c.args.natives.now) c.args.steps) c.args.steps
+    (store_in c.run-answer.new.h c.run-answer.new.self) (g.N.Natives.state c.run-answer.new.natives) c.run-answer.result (told g c) c.shown.ensures.kept

@@ -1,0 +1,219 @@
+-- A call enters a closure: a new scope on both sides; and goes back.
+use Rattle.std.proofs.Common.{◌≡◌, ◌≢◌, ℕ, suc, ◌+◌, ◌<◌, Bool, true, false, List, [], ◌∷◌, ◌++◌, length, Option, Some, None, cond, refl, sym, ap, ◌∙◌, subst, arith}
+use Rattle.std.specs.Prelude.{slice_get, is_some, nat_eq, ◌||◌}
+use Rattle.std.proofs.lemmas.List.{length-append}
+use Rattle.std.proofs.lemmas.Option.{none-some}
+use Rattle.std.proofs.lemmas.Bool.Decides.{nat_tests}
+use Rattle.caja_units.specs.Units.{is_hidden}
+use Rattle.es3_heap.specs.declared.value.Value.TheVariants as es
+use Rattle.es3_language.specs.Store as store
+use Rattle.es3_language.specs.Store.{Store, Names, activation, name_value, with_vars, with_params, with_scope}
+use Rattle.es3_language.specs.Arguments.{is_fixed}
+use Rattle.es3_language.specs.References.{slot, resolve}
+use Rattle.cajita_rewrite.specs.Rewrite.{runtime_name, temp_name}
+use Rattle.cajita_meaning.specs.World as World
+use Rattle.cajita_meaning.specs.World.{Value, Pairs, World as State, next_scope}
+use Rattle.cajita_meaning.specs.Direct.{Item}
+use Rattle.heap_rows.specs.Opening.{runtime_id}
+use Rattle.module_loader.specs.Page.{Kept}
+use Rattle.cajita_simulation.specs.Guest as Guest
+use Rattle.cajita_simulation.specs.Guest.{is_among, inner}
+use Rattle.cajita_simulation.proofs.Heaps.Lists.{slice_get-push}
+use Rattle.cajita_simulation.proofs.Relation.{EsValue, Vals, tag_of_scope, Tags, Here, Temps, Slot, unknown, declared, holds, SlotIs, ScopesAre, names_at, AreScopes, Place, Captured, In, Related, Rel, Stays, keeps_refl, closed_refl}
+use Rattle.cajita_simulation.proofs.Scopes.{passes, in_stays, captured_stays}
+use Rattle.cajita_simulation.proofs.Written.{same_place, other_place}
+use Rattle.cajita_simulation.proofs.Writes.{Covers, rel_covers}
+use Rattle.cajita_simulation.proofs.Laws.{Room}
+use Rattle.cajita_simulation.proofs.Entering.{names_new, shaped_scope, scopes_are, NewScopes, related_scope}
+use Rattle.cajita_simulation.proofs.Load.Bound.{is_temp, temp_is, temp_of}
+use Rattle.cajita_simulation.proofs.Calling.Names.{NewNames, call_bound, call_names}
+
+-- the new scope
+abbrev pub entered_store : EsValue → List (List ℕ) → List EsValue → Names → Store → Store
+entered_store f params qs names s = with_scope (activation f params qs) names s
+
+abbrev pub entered_tags : ℕ → State → Tags → Tags
+entered_tags by w g = g ++ tag_of_scope by (next_scope by w) ∷ []
+
+-- where the statements of a closure of a module stand
+abbrev pub inside : Here → ℕ → State → Store → Guest.Names → Guest.Names → List ℕ → List ℕ → List (List ℕ) → List (List ℕ) → ℕ → Here
+inside H by w s vars free direct chain params names this = record {
+  rules = H.rules;
+  around = record { chain = next_scope by w ∷ direct; calls = H.around.calls + 1 };
+  by = by;
+  chain = length s.scopes ∷ chain;
+  vars = inner params names vars;
+  free = inner params names free;
+  act = length s.scopes;
+  this = this;
+}
+
+-- the temporaries of the new activation are declared, and nothing else is known of its hidden names
+abbrev pub declares : ℕ → ℕ → Temps → Temps
+declares act q T c x = cond (nat_eq c act) (cond (is_temp q x) declared unknown) (T c x)
+
+same_self : (n : ℕ) → nat_eq n n ≡ true
+same_self n = grind (arith, nat_tests)
+
+other_self : (c n : ℕ) → c ≢ n → nat_eq c n ≡ false
+other_self c n ne = elim (nat_eq c n) as (λ b. nat_eq c n ≡ b → b ≡ false) [
+  | true ↦ λ e. absurd (ne (grind (arith, nat_tests)))
+  | false ↦ λ e. refl
+] refl
+
+pub declares_room : {H : Here} (q : ℕ) (T : Temps) → q < 18446744073709551616 → Room H (declares H.act q T) 0 q
+declares_room {H = H} q T few = record { declared = λ i from to. rw (same_self H.act, temp_is q i (omega (arith, to))) refl; few = omega (arith, few) }
+
+-- nothing is known of a scope that isn't there yet
+pub no_slot : (s : Store) (c : ℕ) (x : List ℕ) (q : Slot) → names_at s c ≡ [] → SlotIs s c x q → q ≡ unknown
+no_slot s c x unknown bare p = refl
+no_slot s c x declared bare p = absurd (none-some p.0 (sym (ap (name_value x) bare) ∙ p.1))
+no_slot s c x (holds v) bare p = absurd (none-some p.0 (sym (ap (name_value x) bare) ∙ p.1))
+
+pub past_end : {A : Type 0} (xs : List A) → slice_get xs (length xs) ≡ None
+past_end [] = refl
+past_end (y ∷ ys) = past_end ys
+
+-- so what was known before the call is known after it
+pub declares_covers : {g : Tags} {scopes : ℕ → List Pairs} {s : Store} (q : ℕ) (T : Temps) → ScopesAre T g scopes s → Covers T (declares (length s.scopes) q T)
+declares_covers {s = s0} q T r = record { covers = λ s c x hidden p. one s c x hidden p }
+  where
+    one : (s : Store) (c : ℕ) (x : List ℕ) → is_hidden x ≡ true → SlotIs s c x (declares (length s0.scopes) q T c x) → SlotIs s c x (T c x)
+    one s c x hidden p =
+        let cases = elim (nat_eq c (length s0.scopes)) as (λ b. nat_eq c (length s0.scopes) ≡ b → SlotIs s c x (cond b (cond (is_temp q x) declared unknown) (T c x)) → SlotIs s c x (T c x)) [
+          | false ↦ λ other p. p
+          | true ↦ λ at p.
+              let bare : T (length s0.scopes) x ≡ unknown = no_slot s0 (length s0.scopes) x (T (length s0.scopes) x) (ap store.scope_at (past_end s0.scopes)) (r.temps (length s0.scopes) x hidden) in
+              subst (λ k. SlotIs s c x (T k x)) (sym (same_place c (length s0.scopes) at)) (subst (λ k. SlotIs s c x k) (sym bare) tt)
+        ] in cases refl p
+
+-- names that the new scope has, and those that are found further out
+
+bound_either : (a b : Bool) → b ≡ true → (a || b) ≡ true
+bound_either true b e = refl
+bound_either false b e = e
+
+left_false : (a b : Bool) → (a || b) ≡ false → (a ≡ false) × (b ≡ false)
+left_false true b e = cc
+left_false false b e = (refl, e)
+
+or_left : (a b c : Bool) → a ≡ false → b ≡ false → ((a || b) || c) ≡ true → c ≡ true
+or_left true b c ea eb e = cc
+or_left false true c ea eb e = cc
+or_left false false c ea eb e = e
+
+not_true : (b : Bool) → (b ≡ true → ⊥) → b ≡ false
+not_true true f = absurd (f refl)
+not_true false f = refl
+
+pub here_at : (s' : Store) (act : ℕ) (chain : List ℕ) (x : List ℕ) → is_some (name_value x (names_at s' act)) ≡ true → resolve (act ∷ chain) s' x ≡ slot act x
+here_at s' act chain x bound = rw bound refl
+
+pub further_at : (s' : Store) (act : ℕ) (chain : List ℕ) (x : List ℕ) (c : ℕ) → AreScopes s' → is_some (name_value x (names_at s' act)) ≡ false → resolve chain s' x ≡ slot c x → resolve (act ∷ chain) s' x ≡ slot c x
+further_at s' act chain x c are bare at = rw bare (passes (slice_get s'.scopes act) s' x (resolve chain s' x) (are act) ∙ at)
+
+outer_names : {params names vars' : List (List ℕ)} {q : ℕ} (x : List ℕ) → NewNames params names vars' q → (is_among params x || is_among vars' x) ≡ false → (is_among params x ≡ false) × (is_among names x ≡ false)
+outer_names {params = params} {names = names} {vars' = vars'} x g e =
+    let parts = left_false (is_among params x) (is_among vars' x) e in
+    let cases = elim (is_hidden x) as (λ b. is_hidden x ≡ b → is_among names x ≡ false) [
+      | false ↦ λ open_name. sym (g.guests x open_name) ∙ parts.1
+      | true ↦ λ hidden. not_true (is_among names x) (λ e. cc (sym hidden ∙ (g.names_open x e).open_name))
+    ] in (parts.0, cases refl)
+
+module _ {params names vars' : List (List ℕ)} {q : ℕ} (by : ℕ) (w : State) (g : Tags) (s : Store) (f : EsValue) (us : List Value) (qs : List EsValue) (new : NewNames params names vars' q) where
+  abbrev pub all : Names
+  all = with_vars vars' (with_params params qs [])
+
+  abbrev pub pairs : Pairs
+  pairs = World.with_vars names (World.with_params params us [])
+
+  abbrev pub after : Store
+  after = with_scope (activation f params qs) (with_vars vars' (with_params params qs [])) s
+
+  abbrev pub tags : Tags
+  tags = g ++ tag_of_scope by (next_scope by w) ∷ []
+
+  no_runtime : (is_among params runtime_name || is_among vars' runtime_name) ≡ false
+  no_runtime = rw (not_true (is_among params runtime_name) (λ e. closed (new.params_open runtime_name e).open_name), new.runtime) refl
+    where
+      closed : is_hidden runtime_name ≡ false → ⊥
+      closed e = cc
+
+  found_in : (x : List ℕ) (b : Bool) → (is_among params x || is_among vars' x) ≡ b → is_some (name_value x (names_at after (length s.scopes))) ≡ b
+  found_in x b e = ap (λ l. is_some (name_value x l)) (names_new (activation f params qs) all s) ∙ call_bound x params vars' qs ∙ e
+
+  longer : length s.scopes < length after.scopes
+  longer = omega (arith, length-append s.scopes (record { owner = activation f params qs; names = all } ∷ []))
+
+  fixed_new : is_fixed (slice_get after.scopes (length s.scopes)) ≡ false
+  fixed_new = ap is_fixed (slice_get-push s.scopes (record { owner = activation f params qs; names = all }))
+
+  captured_enter : {vars free : Guest.Names} {direct chain : List ℕ} → length g ≡ length s.scopes → AreScopes s → Captured vars free by g direct chain s → Captured (inner params names vars) (inner params names free) by tags (next_scope by w ∷ direct) (length s.scopes ∷ chain) after
+  captured_enter {vars = vars} {free = free} {direct = direct} {chain = chain} count are p =
+      let are' : AreScopes after = scopes_are (activation f params qs) all s tt are in
+      let old : Captured vars free by tags direct chain after = captured_stays (shaped_scope g (tag_of_scope by (next_scope by w)) (activation f params qs) all s) are are' p in
+      record {
+        chained = (ap (slice_get tags) (sym count) ∙ slice_get-push g (tag_of_scope by (next_scope by w)), old.chained);
+        within = (longer, old.within);
+        names = λ x known. place x are' old known;
+        runtime = old.runtime;
+        runtime_below = old.runtime_below;
+        runtime_at = further_at after (length s.scopes) chain runtime_name old.runtime are' (found_in runtime_name false no_runtime) old.runtime_at;
+        runtime_bound = old.runtime_bound;
+      }
+    where
+      place : (x : List ℕ) → AreScopes after → Captured vars free by tags direct chain after → inner params names vars x ≡ true → Place (inner params names free) (length s.scopes ∷ chain) after x
+      place x are' old known =
+          let cases = elim (is_among params x || is_among vars' x) as (λ b. (is_among params x || is_among vars' x) ≡ b → Place (inner params names free) (length s.scopes ∷ chain) after x) [
+            | true ↦ λ e. record { scope = length s.scopes; below = longer; at = here_at after (length s.scopes) chain x (found_in x true e); written = λ may. fixed_new }
+            | false ↦ λ e.
+                let outer = outer_names x new e in
+                let found = old.names x (or_left (is_among params x) (is_among names x) (vars x) outer.0 outer.1 known) in
+                record { scope = found.scope; below = found.below; at = further_at after (length s.scopes) chain x found.scope are' (found_in x false e) found.at; written = λ may. found.written (or_left (is_among params x) (is_among names x) (free x) outer.0 outer.1 may) }
+          ] in cases refl
+
+  -- what is known of the hidden names of the new scope
+  new_slot : (x : List ℕ) → SlotIs after (length s.scopes) x (cond (is_temp q x) declared unknown)
+  new_slot x =
+      let cases = elim (is_temp q x) as (λ b. is_temp q x ≡ b → SlotIs after (length s.scopes) x (cond b declared unknown)) [
+        | false ↦ λ is. tt
+        | true ↦ λ is.
+            let p = temp_of q x is in
+            subst (λ y. SlotIs after (length s.scopes) y declared) (sym p.is) (some_there _ (found_in (temp_name p.number) true (bound_either (is_among params (temp_name p.number)) (is_among vars' (temp_name p.number)) (new.temps p.number p.few))))
+      ] in cases refl
+    where
+      some_there : (o : Option EsValue) → is_some o ≡ true → (e : EsValue) × (o ≡ Some e)
+      some_there None is = cc
+      some_there (Some e) is = (e, refl)
+
+  none_of : (o : Option EsValue) (e : EsValue) → is_some o ≡ false → o ≡ Some e → ⊥
+  none_of None e b is = cc
+  none_of (Some u) e b is = cc
+
+  new_scopes : (T : Temps) → Vals s.heap us qs → NewScopes T (declares (length s.scopes) q T) pairs (activation f params qs) all s
+  new_scopes T is = record {
+    same = λ x open_name. call_names s.heap x params names vars' us qs is (sym (new.guests x open_name));
+    own = tt;
+    runtime = λ e at. absurd (none_of (name_value runtime_name all) e (call_bound runtime_name params vars' qs ∙ no_runtime) at);
+    here = λ x hidden. subst (λ b. SlotIs after (length s.scopes) x (cond b (cond (is_temp q x) declared unknown) (T (length s.scopes) x))) (sym (same_self (length s.scopes))) (new_slot x);
+    others = λ c x ne. ap (λ b. cond b (cond (is_temp q x) declared unknown) (T c x)) (other_self c (length s.scopes) ne);
+  }
+
+  -- the relation, when both have entered the closure
+  pub rel_enter : (H : Here) {T : Temps} {k : ℕ} {z : List Item} {n : ℕ} {y : Kept} {m : ℕ} {vars free : Guest.Names} {direct chain : List ℕ} (this : ℕ) → Vals s.heap us qs → Captured vars free by g direct chain s → Related T k w z n g s y m → Rel (inside H by w s vars free direct chain params names this) (declares (length s.scopes) q T) k (World.with_scope by pairs w) z n tags after y m
+  rel_enter H {T = T} {chain = chain} this is captured r = record {
+    all = related_scope by (new_scopes T is) r;
+    here = record {
+      captured = captured_enter r.scopes.count r.scopes.are captured;
+      act = longer;
+      written = fixed_new;
+      temps = λ x hidden bound. here_at after (length s.scopes) chain x bound;
+    };
+  }
+
+  pub stays_enter : {m : ℕ} → Stays w g s m (World.with_scope by pairs w) tags after m
+  stays_enter = record { heap = keeps_refl; shaped = shaped_scope g (tag_of_scope by (next_scope by w)) (activation f params qs) all s; closed = record { closures = λ m n h chain e. e } }
+
+-- back in the form that called
+pub rel_back : {H J : Here} {T U : Temps} {i k : ℕ} {u w : State} {z : List Item} {n : ℕ} {g g' : Tags} {t s : Store} {y : Kept} {m : ℕ} → Covers T U → AreScopes t → In H g t → Stays u g t i w g' s m → Rel J U k w z n g' s y m → Rel H T k w z n g' s y m
+rel_back f are here keep r = record { all = (rel_covers f r).all; here = in_stays keep.shaped are r.all.scopes.are here }

@@ -1,0 +1,193 @@
+-- The names that a call begins with, beside those of the direct meaning.
+use Rattle.std.proofs.Common.{◌≡◌, ℕ, zero, suc, ◌+◌, ◌<◌, Bool, true, false, List, [], ◌∷◌, ◌++◌, length, Option, Some, None, cond, refl, sym, ap, ◌∙◌, subst, arith}
+use Rattle.std.specs.Prelude.{is_some, ◌||◌}
+use Rattle.std.specs.Cmp.Lexicographic.{same_text}
+use Rattle.caja_units.specs.Units.{same_units, is_hidden}
+use Rattle.es3_tree.specs.Tree as t
+use Rattle.es3_heap.specs.declared.value.Value.TheVariants as es
+use Rattle.es3_heap.specs.Objects.{Objects}
+use Rattle.es3_language.specs.Store.{Names, name_value, with_name, with_vars, with_params}
+use Rattle.es3_language.specs.Hoisting.{vars_in, vars_of, functions_of, own_vars}
+use Rattle.es3_language.specs.Arguments.{is_arguments}
+use Rattle.cajita_tree.specs.Tree as c
+use Rattle.cajita_rewrite.specs.Rewrite.{runtime_name, temp_name, temps, declared, others, name_items, temp_items, head_items, var_stmts, rewritten}
+use Rattle.cajita_meaning.specs.World as World
+use Rattle.cajita_meaning.specs.World.{Value, Pairs, value_at, with_value}
+use Rattle.cajita_simulation.specs.Guest.{Names as KnownNames, is_among, GuestName, Guest}
+use Rattle.cajita_simulation.proofs.Heaps.Names.{name_value-with_name, name_value-with_name-other}
+use Rattle.cajita_simulation.proofs.Relation.{EsValue, Val, Vals, OptVal}
+use Rattle.cajita_simulation.proofs.Written.{value_at-with_value, value_at-with_value-other}
+use Rattle.cajita_simulation.proofs.Load.Names.{undefined_value, value_at-bound, value_at-unbound, with_vars-bound, with_vars-unbound, among_append, own_among, own_never, temps_hidden, temps_declared, loops_among, others_among, names_kept}
+
+-- the statements of a function: its head, and those of its source
+
+abbrev pub heads : List (List ℕ) → c.Tree c.stmts → t.Tree t.items
+heads names list = head_items (c.a_body c.no_funcs names list)
+
+abbrev pub statements : List (List ℕ) → c.Tree c.stmts → t.Tree t.stmts
+statements names list = var_stmts (heads names list) (rewritten false c.stmts 0 list)
+
+abbrev pub own_names : List (List ℕ) → c.Tree c.stmts → List (List ℕ)
+own_names names list = own_vars (vars_of (statements names list))
+
+-- what it declares
+
+list_names : (vars free : KnownNames) (b : ℕ) (xs : c.Tree c.stmts) → Guest vars free c.stmts xs → vars_of (rewritten false c.stmts b xs) ≡ declared c.stmts xs
+list_names vars free b xs g = names_kept vars free false c.stmts b xs g
+
+-- no statement declares a function
+no_function : (vars free : KnownNames) (b : ℕ) (x : c.Tree c.stmt) (rest : t.Tree t.stmts) → Guest vars free c.stmt x → functions_of (t.more_stmts (rewritten false c.stmt b x) rest) ≡ functions_of rest
+unfolding rewritten
+no_function vars free b (c.for_in x e s) rest g = absurd g
+no_function vars free b x rest g = refl
+
+list_functions : (vars free : KnownNames) (b : ℕ) (xs : c.Tree c.stmts) → Guest vars free c.stmts xs → functions_of (rewritten false c.stmts b xs) ≡ []
+unfolding rewritten
+list_functions vars free b c.no_stmts g = refl
+list_functions vars free b (c.more_stmts x xs) g = no_function vars free b x (rewritten false c.stmts (b + temps c.stmt x) xs) g.0 ∙ list_functions vars free (b + temps c.stmt x) xs g.1
+
+head_vars : (is : t.Tree t.items) (rest : t.Tree t.stmts) → vars_of (var_stmts is rest) ≡ vars_in t.items is ++ vars_of rest
+head_vars t.no_items rest = refl
+head_vars (t.more_items x e is) rest = refl
+
+head_functions : (is : t.Tree t.items) (rest : t.Tree t.stmts) → functions_of (var_stmts is rest) ≡ functions_of rest
+head_functions t.no_items rest = refl
+head_functions (t.more_items x e is) rest = refl
+
+pub no_functions : (vars free : KnownNames) (names : List (List ℕ)) (list : c.Tree c.stmts) → Guest vars free c.stmts list → functions_of (statements names list) ≡ []
+no_functions vars free names list g = head_functions (heads names list) (rewritten false c.stmts 0 list) ∙ list_functions vars free 0 list g
+
+-- of its names: those that aren't hidden are its variables, its temporaries are among them, and the runtime's object is not
+pub record NewNames (params names vars' : List (List ℕ)) (q : ℕ) : Type 0 where
+  pub guests : (x : List ℕ) → is_hidden x ≡ false → is_among vars' x ≡ is_among names x
+  pub temps : (i : ℕ) → i < q → is_among vars' (temp_name i) ≡ true
+  pub runtime : is_among vars' runtime_name ≡ false
+  pub params_open : (x : List ℕ) → is_among params x ≡ true → GuestName x
+  pub names_open : (x : List ℕ) → is_among names x ≡ true → GuestName x
+
+not_true : (b : Bool) → (b ≡ true → ⊥) → b ≡ false
+not_true true f = absurd (f refl)
+not_true false f = refl
+
+or_none : (a b : Bool) → (a || b) ≡ false → a ≡ false
+or_none true b e = cc
+or_none false b e = refl
+
+module _ (vars free : KnownNames) (names : List (List ℕ)) (list : c.Tree c.stmts) (guest : Guest vars free c.stmts list) (open_names : (x : List ℕ) → is_among names x ≡ true → GuestName x) (among : (x : List ℕ) → is_among (declared c.stmts list) x ≡ true → is_among names x ≡ true) where
+  abbrev others_here : List (List ℕ)
+  others_here = others names (declared c.stmts list)
+
+  all_names : (x : List ℕ) → is_among (vars_of (statements names list)) x ≡ (is_among (vars_in t.items (heads names list)) x || is_among (declared c.stmts list) x)
+  all_names x = ap (λ l. is_among l x) (head_vars (heads names list) (rewritten false c.stmts 0 list) ∙ ap (λ l. vars_in t.items (heads names list) ++ l) (list_names vars free 0 list guest)) ∙ among_append (vars_in t.items (heads names list)) (declared c.stmts list) x
+
+  within : (x : List ℕ) → (is_among names x || is_among (declared c.stmts list) x) ≡ is_among names x
+  within x =
+      let cases = elim (is_among (declared c.stmts list) x) as (λ b. is_among (declared c.stmts list) x ≡ b → (is_among names x || b) ≡ is_among names x) [
+        | true ↦ λ is. rw (among x is) refl
+        | false ↦ λ is. or_false (is_among names x)
+      ] in cases refl
+    where
+      or_false : (b : Bool) → (b || false) ≡ b
+      or_false true = refl
+      or_false false = refl
+
+  open_known : (x : List ℕ) → is_hidden x ≡ false → is_among (own_names names list) x ≡ is_among names x
+  open_known x shown =
+      let cases = elim (is_arguments x) as (λ b. is_arguments x ≡ b → is_among (own_names names list) x ≡ is_among names x) [
+        | true ↦ λ is. own_never (vars_of (statements names list)) x is ∙ sym (not_true (is_among names x) (λ e. cc (sym is ∙ (open_names x e).own_name)))
+        | false ↦ λ is.
+            own_among (vars_of (statements names list)) x is ∙ all_names x
+            ∙ ap (λ b. b || is_among (declared c.stmts list) x) (temps_hidden 0 (temps c.stmts list) (name_items others_here t.no_items) x shown ∙ loops_among others_here x)
+            ∙ others_among names (declared c.stmts list) x ∙ within x
+      ] in cases refl
+
+  temps_known : (i : ℕ) → i < temps c.stmts list → is_among (own_names names list) (temp_name i) ≡ true
+  temps_known i lt =
+      own_among (vars_of (statements names list)) (temp_name i) refl ∙ all_names (temp_name i)
+      ∙ ap (λ b. b || is_among (declared c.stmts list) (temp_name i)) (temps_declared 0 (temps c.stmts list) i (name_items others_here t.no_items) (omega arith) (omega (arith, lt)))
+
+  -- no temporary is called so
+  temps_other : (i n : ℕ) (is : t.Tree t.items) → is_among (vars_in t.items (temp_items i n is)) runtime_name ≡ is_among (vars_in t.items is) runtime_name
+  temps_other i zero is = refl
+  temps_other i (suc n) is = temps_other (suc i) n is
+
+  runtime_unknown : is_among (own_names names list) runtime_name ≡ false
+  runtime_unknown =
+      let hidden : is_among names runtime_name ≡ false = not_true (is_among names runtime_name) (λ e. no_open (open_names runtime_name e).open_name) in
+      own_among (vars_of (statements names list)) runtime_name refl ∙ all_names runtime_name
+      ∙ ap (λ b. b || is_among (declared c.stmts list) runtime_name) (temps_other 0 (temps c.stmts list) (name_items others_here t.no_items) ∙ loops_among others_here runtime_name)
+      ∙ others_among names (declared c.stmts list) runtime_name ∙ within runtime_name ∙ hidden
+    where
+      no_open : is_hidden runtime_name ≡ false → ⊥
+      no_open e = cc
+
+  pub new_names : (params : List (List ℕ)) → ((x : List ℕ) → is_among params x ≡ true → GuestName x) → NewNames params names (own_names names list) (temps c.stmts list)
+  new_names params open_params = record { guests = open_known; temps = temps_known; runtime = runtime_unknown; params_open = open_params; names_open = open_names }
+
+-- which names are bound
+
+name_bound : (x y : List ℕ) (v : EsValue) (names : Names) → is_some (name_value x (with_name y v names)) ≡ (same_units x y || is_some (name_value x names))
+name_bound x y v names =
+    let cases = elim (same_units x y) as (λ b. same_units x y ≡ b → is_some (name_value x (with_name y v names)) ≡ (b || is_some (name_value x names))) [
+      | true ↦ λ same. subst (λ q. is_some (name_value x (with_name q v names)) ≡ true) (same_text x y (sym same)) (ap is_some (name_value-with_name x v names))
+      | false ↦ λ other. ap is_some (name_value-with_name-other y x v names other)
+    ] in cases refl
+
+or_turn : (a b c : Bool) → (a || (b || c)) ≡ ((b || a) || c)
+or_turn true true c = refl
+or_turn true false c = refl
+or_turn false true c = refl
+or_turn false false c = refl
+
+params_bound : (x : List ℕ) (xs : List (List ℕ)) (vs : List EsValue) (names : Names) → is_some (name_value x (with_params xs vs names)) ≡ (is_among xs x || is_some (name_value x names))
+params_bound x [] vs names = refl
+params_bound x (y ∷ ys) [] names = params_bound x ys [] (with_name y es.Undefined names) ∙ ap (λ b. is_among ys x || b) (name_bound x y es.Undefined names) ∙ or_turn (is_among ys x) (same_units x y) (is_some (name_value x names))
+params_bound x (y ∷ ys) (v ∷ vs) names = params_bound x ys vs (with_name y v names) ∙ ap (λ b. is_among ys x || b) (name_bound x y v names) ∙ or_turn (is_among ys x) (same_units x y) (is_some (name_value x names))
+
+vars_bound : (x : List ℕ) (vars : List (List ℕ)) (names : Names) → is_some (name_value x (with_vars vars names)) ≡ (is_some (name_value x names) || is_among vars x)
+vars_bound x vars names =
+    let cases = elim (name_value x names) as (λ o. name_value x names ≡ o → is_some (name_value x (with_vars vars names)) ≡ (is_some o || is_among vars x)) [
+      | Some e ↦ λ is. ap is_some (with_vars-bound x vars names e is)
+      | None ↦ λ is. ap is_some (with_vars-unbound x vars names is) ∙ some_value (is_among vars x)
+    ] in cases refl
+  where
+    some_value : (b : Bool) → is_some (undefined_value es.Undefined b) ≡ b
+    some_value true = refl
+    some_value false = refl
+
+-- the names that a call begins with: its parameters and its variables
+pub call_bound : (x : List ℕ) (params vars : List (List ℕ)) (vs : List EsValue) → is_some (name_value x (with_vars vars (with_params params vs []))) ≡ (is_among params x || is_among vars x)
+call_bound x params vars vs = vars_bound x vars (with_params params vs []) ∙ ap (λ b. b || is_among vars x) (params_bound x params vs [] ∙ or_false (is_among params x))
+  where
+    or_false : (b : Bool) → (b || false) ≡ b
+    or_false true = refl
+    or_false false = refl
+
+-- they have values that correspond
+
+named_is : (h : Objects) (x y : List ℕ) (v : Value) (e : EsValue) (a : Pairs) (b : Names) → Val h v e → OptVal h (value_at x a) (name_value x b) → OptVal h (value_at x (with_value y v a)) (name_value x (with_name y e b))
+named_is h x y v e a b is was =
+    let cases = elim (same_units x y) as (λ q. same_units x y ≡ q → OptVal h (value_at x (with_value y v a)) (name_value x (with_name y e b))) [
+      | true ↦ λ same. subst (λ q. OptVal h (value_at x (with_value q v a)) (name_value x (with_name q e b))) (same_text x y (sym same)) (rw (value_at-with_value x v a, name_value-with_name x e b) is)
+      | false ↦ λ other. rw (value_at-with_value-other y x v a other, name_value-with_name-other y x e b other) was
+    ] in cases refl
+
+params_are : (h : Objects) (x : List ℕ) (xs : List (List ℕ)) (vs : List Value) (qs : List EsValue) (a : Pairs) (b : Names) → Vals h vs qs → OptVal h (value_at x a) (name_value x b) → OptVal h (value_at x (World.with_params xs vs a)) (name_value x (with_params xs qs b))
+params_are h x [] vs qs a b is was = was
+params_are h x (y ∷ ys) [] [] a b is was = params_are h x ys [] [] (with_value y World.undefined a) (with_name y es.Undefined b) tt (named_is h x y World.undefined es.Undefined a b tt was)
+params_are h x (y ∷ ys) (v ∷ vs) (q ∷ qs) a b is was = params_are h x ys vs qs (with_value y v a) (with_name y q b) is.1 (named_is h x y v q a b is.0 was)
+params_are h x (y ∷ ys) [] (q ∷ qs) a b is was = absurd is
+params_are h x (y ∷ ys) (v ∷ vs) [] a b is was = absurd is
+
+vars_are : (h : Objects) (x : List ℕ) (xs ys : List (List ℕ)) (a : Pairs) (b : Names) (o : Option Value) (o' : Option EsValue) → value_at x a ≡ o → name_value x b ≡ o' → is_among xs x ≡ is_among ys x → OptVal h o o' → OptVal h (value_at x (World.with_vars xs a)) (name_value x (with_vars ys b))
+vars_are h x xs ys a b (Some v) (Some e) is is' same p = rw (value_at-bound x xs a v is, with_vars-bound x ys b e is') p
+vars_are h x xs ys a b None None is is' same p = rw (value_at-unbound x xs a is, with_vars-unbound x ys b is', same) (both (is_among ys x))
+  where
+    both : (q : Bool) → OptVal h (undefined_value World.undefined q) (undefined_value es.Undefined q)
+    both true = tt
+    both false = tt
+vars_are h x xs ys a b None (Some e) is is' same p = absurd p
+vars_are h x xs ys a b (Some v) None is is' same p = absurd p
+
+pub call_names : (h : Objects) (x : List ℕ) (params xs ys : List (List ℕ)) (vs : List Value) (qs : List EsValue) → Vals h vs qs → is_among xs x ≡ is_among ys x → OptVal h (value_at x (World.with_vars xs (World.with_params params vs []))) (name_value x (with_vars ys (with_params params qs [])))
+call_names h x params xs ys vs qs is same = vars_are h x xs ys (World.with_params params vs []) (with_params params qs []) _ _ refl refl same (params_are h x params vs qs [] [] is tt)

@@ -1,0 +1,5 @@
+use Rattle.cajita_simulation.proofs.Load.Begins.{imports_begin}
+use Rattle.cajita_simulation.proofs.a_page_begins_related.Goals as goal
+
+pub returns-clause-imports : goal.returns-clause-imports
+returns-clause-imports c = imports_begin

@@ -1,0 +1,90 @@
+-- Every part of a module, rewritten, is one that tokens spell.
+use Rattle.std.proofs.Common.{true, false, Some, None}
+use Rattle.cajita_tree.specs.Tree as c
+use Rattle.cajoled_text.specs.Clean.{Clean}
+use Rattle.cajoled_text.proofs.Parts.{Ok, a_body_form, and_form, args_form, array_form, assign_member_form, assign_variable_form, binary_form, block_form, bool_form, branch_alone_form, branch_else_form, break_form, call_form, case_form, choice_form, comma_form, computed_form, continue_form, default_form, delete_form, do_loop_form, empty_form, expression_form, first_expr_form, first_var_form, fixed_form, for_in_member_form, for_in_variable_form, for_loop_form, fun_form, function_form, label_form, method_form, more_exprs_form, more_fields_form, more_funcs_form, more_items_form, more_stmts_form, name_form, new_form, no_cases_form, no_expr_form, no_exprs_form, no_fields_form, no_first_form, no_funcs_form, no_items_form, no_stmts_form, null_form, num_form, or_form, read_form, record_of_form, return_form, some_expr_form, step_ahead_computed_form, step_ahead_fixed_form, step_behind_computed_form, step_behind_fixed_form, step_variable_form, switch_form, text_form, throw_form, try_both_form, try_catch_form, try_finally_form, unary_form, update_computed_form, update_fixed_form, update_variable_form, var_form, while_loop_form}
+
+pub spelled : (s : c.Sort) (x : c.Tree s) → Clean s x → Ok s x
+unfolding Clean
+spelled _ c.null h = null_form h
+spelled _ (c.bool b) h = bool_form b h
+spelled _ (c.num a) h = num_form a h
+spelled _ (c.text us) h = text_form us h
+spelled _ (c.name x) h = name_form x h
+spelled _ (c.array es) h = array_form es h (spelled _ es h)
+spelled _ (c.record_of fs) h = record_of_form fs h (spelled _ fs h)
+spelled _ (c.read e k) h = read_form e k h (spelled _ e h.0) (spelled _ k h.1)
+spelled _ (c.delete e k) h = delete_form e k h (spelled _ e h.0) (spelled _ k h.1)
+spelled _ (c.step up ahead (c.variable x)) h = step_variable_form up ahead x h
+spelled _ (c.step up true (c.member e (c.fixed k))) h = step_ahead_fixed_form up e k h (spelled _ e h.0)
+spelled _ (c.step up true (c.member e (c.computed f))) h = step_ahead_computed_form up e f h (spelled _ e h.0) (spelled _ f h.1)
+spelled _ (c.step up false (c.member e (c.fixed k))) h = step_behind_fixed_form up e k h (spelled _ e h.0)
+spelled _ (c.step up false (c.member e (c.computed f))) h = step_behind_computed_form up e f h (spelled _ e h.0) (spelled _ f h.1)
+spelled _ (c.assign None (c.variable x) e) h = assign_variable_form x e h (spelled _ e h.2)
+spelled _ (c.assign (Some op) (c.variable x) e) h = update_variable_form op x e h (spelled _ e h.2)
+spelled _ (c.assign None (c.member e k) v) h = assign_member_form e k v h (spelled _ e h.1.0) (spelled _ k h.1.1) (spelled _ v h.2)
+spelled _ (c.assign (Some op) (c.member e (c.fixed k)) v) h = update_fixed_form op e k v h (spelled _ e h.1.0) (spelled _ v h.2)
+spelled _ (c.assign (Some op) (c.member e (c.computed f)) v) h = update_computed_form op e f v h (spelled _ e h.1.0) (spelled _ f h.1.1) (spelled _ v h.2)
+spelled _ (c.unary op e) h = unary_form op e h (spelled _ e h)
+spelled _ (c.and x y) h = and_form x y h (spelled _ x h.0) (spelled _ y h.1)
+spelled _ (c.or x y) h = or_form x y h (spelled _ x h.0) (spelled _ y h.1)
+spelled _ (c.choice x y z) h = choice_form x y z h (spelled _ x h.0) (spelled _ y h.1) (spelled _ z h.2)
+spelled _ (c.comma x y) h = comma_form x y h (spelled _ x h.0) (spelled _ y h.1)
+spelled _ c.args h = args_form h
+spelled _ (c.function f) h = function_form f h (spelled _ f h)
+spelled _ (c.call e es) h = call_form e es h (spelled _ e h.0) (spelled _ es h.1)
+spelled _ (c.method e k es) h = method_form e k es h (spelled _ e h.0) (spelled _ k h.1) (spelled _ es h.2)
+spelled _ (c.new e es) h = new_form e es h (spelled _ e h.0) (spelled _ es h.1)
+spelled _ c.no_exprs h = no_exprs_form h
+spelled _ (c.more_exprs e es) h = more_exprs_form e es h (spelled _ e h.0) (spelled _ es h.1)
+spelled _ c.no_fields h = no_fields_form h
+spelled _ (c.more_fields k e rest) h = more_fields_form k e rest h (spelled _ e h.1) (spelled _ rest h.2)
+spelled _ (c.fixed k) h = fixed_form k h
+spelled _ (c.computed e) h = computed_form e h (spelled _ e h)
+spelled _ c.no_items h = no_items_form h
+spelled _ (c.more_items x e is) h = more_items_form x e is h (spelled _ e h.1) (spelled _ is h.2)
+spelled _ c.no_first h = no_first_form h
+spelled _ (c.first_var is) h = first_var_form is h (spelled _ is h.1)
+spelled _ (c.first_expr e) h = first_expr_form e h (spelled _ e h)
+spelled _ (c.block xs) h = block_form xs h (spelled _ xs h)
+spelled _ (c.var is) h = var_form is h (spelled _ is h.1)
+spelled _ c.empty h = empty_form h
+spelled _ (c.branch e x c.no_stmt) h = branch_alone_form e x h (spelled _ e h.0) (spelled _ x h.1)
+spelled _ (c.branch e x (c.some_stmt y)) h = branch_else_form e x y h (spelled _ e h.0) (spelled _ x h.1) (spelled _ y h.2)
+spelled _ (c.while_loop e x) h = while_loop_form e x h (spelled _ e h.0) (spelled _ x h.1)
+spelled _ (c.do_loop x e) h = do_loop_form x e h (spelled _ x h.0) (spelled _ e h.1)
+spelled _ (c.for_loop i e u x) h = for_loop_form i e u x h (spelled _ i h.0) (spelled _ e h.1) (spelled _ u h.2) (spelled _ x h.3)
+spelled _ (c.for_in (c.variable x) e b) h = for_in_variable_form x e b h (spelled _ e h.1) (spelled _ b h.2)
+spelled _ (c.for_in (c.member o k) e b) h = for_in_member_form o k e b h (spelled _ o h.0.0) (spelled _ k h.0.1) (spelled _ e h.1) (spelled _ b h.2)
+spelled _ (c.continue l) h = continue_form l h
+spelled _ (c.break l) h = break_form l h
+spelled _ (c.return e) h = return_form e h (spelled _ e h)
+spelled _ (c.switch e cs) h = switch_form e cs h (spelled _ e h.0) (spelled _ cs h.1)
+spelled _ (c.label l x) h = label_form l x h (spelled _ x h.1)
+spelled _ (c.throw e) h = throw_form e h (spelled _ e h)
+spelled _ (c.try xs (c.some_handler x hs) c.no_block) h = try_catch_form xs x hs h (spelled _ xs h.0) (spelled _ hs h.1.1)
+spelled _ (c.try xs c.no_handler (c.some_block ls)) h = try_finally_form xs ls h (spelled _ xs h.0) (spelled _ ls h.2)
+spelled _ (c.try xs (c.some_handler x hs) (c.some_block ls)) h = try_both_form xs x hs ls h (spelled _ xs h.0) (spelled _ hs h.1.1) (spelled _ ls h.2)
+spelled _ c.no_stmts h = no_stmts_form h
+spelled _ (c.more_stmts x xs) h = more_stmts_form x xs h (spelled _ x h.0) (spelled _ xs h.1)
+spelled _ c.no_cases h = no_cases_form h
+spelled _ (c.more_cases c.no_expr xs cs) h = default_form xs cs h (spelled _ xs h.1) (spelled _ cs h.2)
+spelled _ (c.more_cases (c.some_expr e) xs cs) h = case_form e xs cs h (spelled _ e h.0) (spelled _ xs h.1) (spelled _ cs h.2)
+spelled _ (c.fun x ps args b) h = fun_form x ps args b h (spelled _ b h.2)
+spelled _ c.no_funcs h = no_funcs_form h
+spelled _ (c.more_funcs f fs) h = more_funcs_form f fs h (spelled _ f h.1) (spelled _ fs h.2)
+spelled _ (c.a_body fs vars xs) h = a_body_form fs vars xs h (spelled _ fs h.0) (spelled _ xs h.2)
+spelled _ (c.try xs c.no_handler c.no_block) h = absurd h.3
+spelled _ (c.binary op x y) h = binary_form op x y h (spelled _ x h.0) (spelled _ y h.1)
+spelled _ (c.variable x) h = tt
+spelled _ (c.member e k) h = tt
+spelled _ c.no_expr h = no_expr_form
+spelled _ (c.some_expr e) h = some_expr_form e (spelled _ e h)
+spelled _ (c.expression e) h = expression_form e (spelled _ e h)
+spelled _ c.no_stmt h = tt
+spelled _ (c.some_stmt x) h = tt
+spelled _ c.no_block h = tt
+spelled _ (c.some_block xs) h = tt
+spelled _ c.no_handler h = tt
+spelled _ (c.some_handler x xs) h = tt
+spelled _ (c.a_module imports b) h = tt

@@ -1,0 +1,4 @@
+pub mod Deleted
+pub mod Public
+pub mod Fresh
+pub mod Rows

@@ -1,0 +1,4 @@
+pub mod Freezing
+pub mod Records
+pub mod Copies
+pub mod Listing

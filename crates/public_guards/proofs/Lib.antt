@@ -1,0 +1,4 @@
+pub mod ReadRows
+pub mod WriteRows
+pub mod ListRows
+pub mod CallRows

@@ -1,0 +1,5 @@
+pub mod ByRow
+pub mod Reading
+pub mod Writing
+pub mod Listing
+pub mod Calling

@@ -1,0 +1,4 @@
+pub mod Reading
+pub mod Having
+pub mod Keys
+pub mod Functions

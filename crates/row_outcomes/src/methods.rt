@@ -1,0 +1,28 @@
+//! The methods of values: the name of each, and where it stands among the objects of a page.
+
+/// The methods of functions (ES3 15.3.4).
+pub const FUNCTION_METHODS: [(&[u8], u32); 2] = [(b"call", 51), (b"apply", 52)];
+
+/// The methods of texts (ES3 15.5.4).
+pub const TEXT_METHODS: [(&[u8], u32); 8] = [
+    (b"charAt", 53),
+    (b"charCodeAt", 54),
+    (b"indexOf", 55),
+    (b"lastIndexOf", 56),
+    (b"slice", 57),
+    (b"substring", 58),
+    (b"split", 59),
+    (b"concat", 60),
+];
+
+/// The methods of arrays (ES3 15.4.4).
+pub const ARRAY_METHODS: [(&[u8], u32); 8] = [
+    (b"concat", 61),
+    (b"join", 62),
+    (b"slice", 63),
+    (b"push", 64),
+    (b"unshift", 65),
+    (b"pop", 66),
+    (b"shift", 67),
+    (b"reverse", 68),
+];

@@ -1,0 +1,4 @@
+pub mod Counted
+pub mod Spelled
+pub mod Cut
+pub mod Sizes

@@ -1,0 +1,4 @@
+var key = "FROZEN___", o = {};
+o[key];
+key in o;
+o[key] = true;

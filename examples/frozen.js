@@ -1,0 +1,1 @@
+Math.abs = null;

@@ -1,0 +1,2 @@
+var list = [Math, say, undefined];
+typeof say + " " + list[0].abs;
