@@ -7,7 +7,7 @@ use Rattle.es3_heap.proofs.Keys.{same_key-refl}
 use Rattle.es3_tree.specs.Placed.{Word}
 use Rattle.cajita_names.specs.Rules.{fixed_names}
 use Rattle.cajita_names.specs.Declarations.{Declaration}
-use Rattle.cajita_names.specs.Scope.{Scope, Binding, in_module, in_catch, changing, settled, imported, unbound, is_unbound, is_settled, is_imported, declares, declares_function, own, is_arguments, lacks, keeps}
+use Rattle.cajita_names.specs.Scope.{Scope, in_module, in_catch, changing, settled, imported, unbound, is_unbound, is_settled, is_imported, declares, declares_function, own, is_arguments, lacks, keeps}
 use Rattle.cajita_names.specs.Scope as scope
 use Rattle.scope_rules.specs.Free.{import_at}
 use Rattle.cajita_simulation.specs.Guest.{is_among, Names, inner}

@@ -10,7 +10,7 @@ use Rattle.es3_heap.specs.Objects.{Objects, Callable, object_at, class_of, calla
 use Rattle.es3_heap.specs.Properties.{own}
 use Rattle.es3_convert.specs.Conversions.{array_items}
 use Rattle.rows.specs.Rows as r
-use Rattle.rows.specs.Rows.{Row, Handle, Sight, Ending, held, handles, ends, looks, most_items}
+use Rattle.rows.specs.Rows.{Row, Handle, Sight, Ending, held, handles, ends}
 use Rattle.rows.specs.Arguments.{array_seen, on_array, open_seen, on_open_array}
 use Rattle.heap_rows.specs.Marks.{is_frozen, simple_mark}
 use Rattle.heap_rows.specs.Doing.{Done, value_in, sort_seen, see_object, does}

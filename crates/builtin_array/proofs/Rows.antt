@@ -13,7 +13,7 @@ use Rattle.es3_heap.specs.Objects.{Objects, object_at, class_of, callable_of}
 use Rattle.es3_heap.specs.Properties.{own}
 use Rattle.es3_convert.specs.Conversions.{array_items, and_then, text_within, joined}
 use Rattle.rows.specs.Rows as r
-use Rattle.rows.specs.Rows.{Row, Handle, Sight, Ending, handles, held, ends, looks}
+use Rattle.rows.specs.Rows.{Row, Handle, Sight, handles, held, ends}
 use Rattle.rows.specs.Arguments as rows
 use Rattle.rows.specs.Arrays as arrays
 use Rattle.rows.specs.Arrays.{gathered, items_or_it, part}

@@ -4,7 +4,7 @@ use Rattle.plans.specs.Plans.{depth_fault}
 use Rattle.acts.specs.Acts.{Task as TaskOf, task, Reply as ReplyOf, answer, fault, telling, stepping, calling}
 use Rattle.cajita_tree.specs.Tree as c
 use Rattle.rows.specs.Rows as r
-use Rattle.rows.specs.Rows.{Native, Row, Sort, to_call}
+use Rattle.rows.specs.Rows.{Native, Row, to_call}
 use Rattle.rows.specs.Names.{sort_of, is_exophoric}
 use Rattle.rows.specs.Core.{seen_true}
 use Rattle.cajita_meaning.specs.World.{Name, made_name, cell_name, own_name, built_name, forward_name, Value, undefined, null, truth, number, text, object, Pairs, Object, a_record, an_array, a_closure, an_error, World, with_object, with_scope, with_scopes, next_name, next_scope, scope_at, declare, value_at, with_value as with_pair, with_values, with_vars, with_params}

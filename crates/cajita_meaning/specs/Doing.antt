@@ -4,7 +4,7 @@ use Rattle.plans.specs.Plans.{Fault, number_fault, depth_fault}
 use Rattle.caja_units.specs.Units.{same_units}
 use Rattle.caja_units.specs.Number.{number_text}
 use Rattle.rows.specs.Rows as r
-use Rattle.rows.specs.Rows.{Handle, Sight, Sort, Native, Ending, Touch, Row, handles, keyed_handles}
+use Rattle.rows.specs.Rows.{Handle, Sight, Native, Ending, Touch, Row, handles, keyed_handles}
 use Rattle.rows.specs.Names.{tools, sort_of, is_of_text}
 use Rattle.rows.specs.Public.{is_bad}
 use Rattle.rows.specs.Document as doc

@@ -1,5 +1,5 @@
 -- What a whole source does as a module: it is cut, read, judged by the rules, resolved and loaded, by computation.
-use Rattle.std.specs.Prelude.{ℕ, ◌-◌, Bool, List, [], ◌∷◌, ◌++◌, Option, Some, None, Ok, Err, map, codes, if◌then◌else◌}
+use Rattle.std.specs.Prelude.{ℕ, ◌-◌, List, [], ◌∷◌, ◌++◌, Option, Some, None, Ok, Err, map, codes}
 use Rattle.plans.specs.Plans.{Fault, over, stopped, out, ends, enter, run}
 use Rattle.acts.specs.Acts.{task}
 use Rattle.es3_tree.specs.Tree as t

@@ -1,21 +1,19 @@
 -- A `catch` has a new scope with one name on both sides; the activation stays.
-use Rattle.std.proofs.Common.{◌≡◌, ℕ, suc, ◌+◌, ◌≤◌, ◌<◌, Bool, true, false, List, [], ◌∷◌, ◌++◌, length, Option, Some, None, cond, refl, sym, ap, ◌∙◌, subst, arith}
+use Rattle.std.proofs.Common.{◌≡◌, ℕ, ◌+◌, ◌<◌, Bool, true, false, List, [], ◌∷◌, ◌++◌, length, Option, Some, None, cond, refl, sym, ap, ◌∙◌, subst, arith}
 use Rattle.std.specs.Prelude.{slice_get, is_some, ◌||◌}
 use Rattle.std.proofs.lemmas.List.{length-append}
 use Rattle.caja_units.specs.Units.{same_units, is_hidden}
-use Rattle.es3_heap.specs.declared.value.Value.TheVariants as es
 use Rattle.es3_language.specs.Store as store
 use Rattle.es3_language.specs.Store.{Store, caught, name_value}
 use Rattle.es3_language.specs.Arguments.{is_fixed}
 use Rattle.es3_language.specs.References.{slot, resolve}
 use Rattle.cajita_rewrite.specs.Rewrite.{runtime_name}
-use Rattle.cajita_meaning.specs.World.{Value, Pairs, World, with_scope, next_scope, value_at}
+use Rattle.cajita_meaning.specs.World.{Value, World, with_scope, next_scope, value_at}
 use Rattle.cajita_meaning.specs.Direct.{Item}
-use Rattle.heap_rows.specs.Opening.{runtime_id}
 use Rattle.module_loader.specs.Page.{Kept}
 use Rattle.cajita_simulation.specs.Guest.{inner}
 use Rattle.cajita_simulation.proofs.Heaps.Lists.{slice_get-push}
-use Rattle.cajita_simulation.proofs.Relation.{EsValue, Val, OptVal, ScopeTag, tag_of_scope, Tags, Here, Temps, Slot, unknown, declared, holds, SlotIs, ScopeIs, names_at, AreScopes, Place, In, Rel, Stays, keeps_refl}
+use Rattle.cajita_simulation.proofs.Relation.{EsValue, Val, OptVal, tag_of_scope, Tags, Here, Temps, Slot, unknown, declared, holds, SlotIs, names_at, AreScopes, Place, In, Rel, Stays, keeps_refl}
 use Rattle.cajita_simulation.proofs.Scopes.{passes, in_stays}
 use Rattle.cajita_simulation.proofs.Writes.{differs}
 use Rattle.cajita_simulation.proofs.Entering.{NewScopes, names_new, shaped_scope, scopes_are, related_scope}

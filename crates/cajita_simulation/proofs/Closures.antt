@@ -1,5 +1,5 @@
 -- A function expression makes a closure: its object with the marks and the next name of its module, its prototype, and its code.
-use Rattle.std.proofs.Common.{◌≡◌, ℕ, suc, ◌+◌, ◌*◌, ◌≤◌, ◌<◌, true, false, List, [], ◌∷◌, ◌++◌, length, Option, Some, None, cond, ◌⊎◌, inl, inr, refl, sym, ap, ◌∙◌, subst, arith}
+use Rattle.std.proofs.Common.{◌≡◌, ℕ, suc, ◌+◌, ◌*◌, ◌≤◌, ◌<◌, true, false, List, [], ◌∷◌, ◌++◌, length, Some, cond, ◌⊎◌, inl, inr, refl, sym, ap, ◌∙◌, subst, arith}
 use Rattle.std.specs.Prelude.{slice_get, codes, nat_eq, is_some, get_or, reverse}
 use Rattle.std.specs.Cmp.Lexicographic.{same_text}
 use Rattle.std.proofs.lemmas.List.{reverse-append}
@@ -19,13 +19,12 @@ use Rattle.cajita_rewrite.specs.Rewrite.{rewritten}
 use Rattle.cajita_meaning.specs.World as World
 use Rattle.cajita_meaning.specs.World.{made_name, Object, a_closure, World as State, with_last}
 use Rattle.cajita_meaning.specs.Direct.{Item}
-use Rattle.heap_rows.specs.Marks.{read_mark, set_mark, simple_mark, frozen_mark}
+use Rattle.heap_rows.specs.Marks.{read_mark, set_mark, simple_mark}
 use Rattle.heap_rows.specs.Doing.{Done, gives}
 use Rattle.heap_rows.specs.Opening.{first, place_of, runtime_id}
 use Rattle.guard_runtime.specs.Guards.{func, func_of}
 use Rattle.module_loader.specs.Page.{Kept, page_table}
 use Rattle.row_simulation.specs.Correspond as rows
-use Rattle.row_simulation.specs.RowLaw.{PagesAre}
 use Rattle.row_simulation.proofs.Relation as row_relation
 use Rattle.row_simulation.proofs.Row as row_laws
 use Rattle.row_simulation.proofs.Keys.{not_true, hidden_read, hidden_set, apart_too, read_frozen, set_frozen}
@@ -36,7 +35,7 @@ use Rattle.cajita_simulation.proofs.Heaps.Lists.{slice_get-push, slice_get-push-
 use Rattle.cajita_simulation.proofs.Heaps.Made.{tagged, next_name as next_tag, with_named}
 use Rattle.cajita_simulation.proofs.Heaps.Grown.{grown_last, grown_kept}
 use Rattle.cajita_simulation.proofs.Heaps.Functions.{function_object, prototype_object, function_new, marked_object, marked_new, named_before}
-use Rattle.cajita_simulation.proofs.Relation.{EsValue, Named, ObjectsAre, Tags, Temps, AreScopes, Here, Captured, In, CodeIs, ClosuresAre, Related, Shaped, shaped_trans, Stays}
+use Rattle.cajita_simulation.proofs.Relation.{Named, ObjectsAre, Tags, Temps, AreScopes, Here, Captured, In, CodeIs, ClosuresAre, Related, Shaped, shaped_trans, Stays}
 use Rattle.cajita_simulation.proofs.Scopes.{captured_stays, in_stays}
 use Rattle.cajita_simulation.proofs.Written.{same_place}
 use Rattle.cajita_simulation.proofs.Changes.{shaped_heap, closures_kept, scopes_keep}

@@ -10,7 +10,7 @@ use Rattle.es3_heap.specs.declared.value.Tag.TheVariants as tag
 use Rattle.es3_heap.specs.Objects as heap
 use Rattle.es3_heap.specs.Objects.{Objects, with_object}
 use Rattle.es3_language.specs.Store as store
-use Rattle.es3_language.specs.Store.{Store, Code, name_value, with_heap, with_code}
+use Rattle.es3_language.specs.Store.{Store, Code, name_value, with_code}
 use Rattle.es3_language.specs.Arguments.{is_fixed}
 use Rattle.cajita_rewrite.specs.Rewrite.{runtime_name}
 use Rattle.cajita_meaning.specs.World.{Pairs, World, with_last, with_scope, scope_at, next_scope}

@@ -1,5 +1,5 @@
 -- Where every jump has its target around a part, as around the body of a function, the part's jumps have theirs.
-use Rattle.std.proofs.Common.{◌≡◌, ℕ, true, List, [], ◌∷◌, refl}
+use Rattle.std.proofs.Common.{ℕ, List, [], ◌∷◌, refl}
 use Rattle.cajita_tree.specs.Tree as c
 use Rattle.cajita_simulation.proofs.Laws.{all_jumps, Targets}
 

@@ -18,7 +18,7 @@ use Rattle.es3_language.specs.Expressions.{write_plan, step_value}
 use Rattle.es3_language.specs.Operators.{Given, gives, faults, raises, given, operate, convert}
 use Rattle.es3_language.specs.Meaning as Target
 use Rattle.rows.specs.Rows as r
-use Rattle.rows.specs.Rows.{Sight, Ending, Row, Native}
+use Rattle.rows.specs.Rows.{Ending, Row}
 use Rattle.rows.specs.Operators.{binary_row, unary_row, to_number, next_number}
 use Rattle.cajita_meaning.specs.World.{Value, number, World}
 use Rattle.cajita_meaning.specs.Doing as direct

@@ -27,7 +27,7 @@ use Rattle.heap_rows.specs.Doing.{Page}
 use Rattle.heap_rows.specs.Opening.{first, place_of, runtime_id}
 use Rattle.module_loader.specs.Page.{Kept, page_table}
 use Rattle.row_simulation.specs.Correspond as rows
-use Rattle.row_simulation.specs.Correspond.{PropsAre, Is}
+use Rattle.row_simulation.specs.Correspond.{PropsAre}
 use Rattle.row_simulation.specs.RowLaw.{PagesAre}
 use Rattle.row_simulation.proofs.Keys.{apart_too, hidden_read, hidden_set}
 use Rattle.row_simulation.proofs.Copies.{empty_props, proto_zero}

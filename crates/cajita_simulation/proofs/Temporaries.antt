@@ -1,6 +1,6 @@
 -- Temporaries: their names, where one is read and written, and what goes on where more is known of them.
-use Rattle.std.proofs.Common.{◌≡◌, ◌≢◌, ℕ, suc, ◌+◌, ◌≤◌, ◌<◌, Bool, true, false, List, ◌++◌, Option, Some, cond, refl, sym, ap, ◌∙◌, subst, arith}
-use Rattle.std.specs.Prelude.{slice_get, codes, is_some, nat_eq}
+use Rattle.std.proofs.Common.{◌≡◌, ◌≢◌, ℕ, suc, ◌+◌, ◌≤◌, ◌<◌, Bool, true, false, List, ◌++◌, Some, cond, refl, sym, ap, subst, arith}
+use Rattle.std.specs.Prelude.{codes, is_some, nat_eq}
 use Rattle.std.specs.Cmp.Lexicographic.{same_text}
 use Rattle.std.proofs.lemmas.Bool.Decides.{nat_tests}
 use Rattle.std.proofs.lemmas.List.{append_assoc, append_cancel_right}
@@ -24,8 +24,8 @@ use Rattle.cajita_simulation.proofs.Doing as Source
 use Rattle.cajita_simulation.proofs.Relation.{EsValue, Val, Here, env_of, Tags, Temps, Slot, declared, holds, SlotIs, names_at, Rel, Stays, rel_pay}
 use Rattle.cajita_simulation.proofs.Slots.{slot_plan}
 use Rattle.cajita_simulation.proofs.Written.{slot_written}
-use Rattle.cajita_simulation.proofs.Writes.{rel_held, stays_held, Covers, rel_covers, held_covers}
-use Rattle.cajita_simulation.proofs.Laws.{Cont, Cont', M, Room, Throws, Gives, NextValue, hold}
+use Rattle.cajita_simulation.proofs.Writes.{rel_held, stays_held, Covers, rel_covers}
+use Rattle.cajita_simulation.proofs.Laws.{Cont, Cont', M, Room, Throws, NextValue, hold}
 
 pub temp_hidden : (i : ℕ) → is_hidden (temp_name i) ≡ true
 temp_hidden i = is_hidden-from_end (temp_name i) (codes "x" ++ (number_units i ++ codes "_")) (ap (λ l. codes "x" ++ l) (sym (append_assoc (number_units i) (codes "_") (codes "__"))))

@@ -3,7 +3,6 @@ use Rattle.std.specs.Prelude.{◌≡◌, ℕ, ◌+◌, ◌*◌, ◌≤◌, ◌<�
 use Rattle.caja_units.specs.Units.{is_hidden}
 use Rattle.es3_heap.specs.declared.value.FuncKind.TheVariants as kind
 use Rattle.es3_heap.specs.Objects as heap
-use Rattle.es3_heap.specs.Objects.{Objects}
 use Rattle.es3_heap.specs.Properties.{own}
 use Rattle.es3_language.specs.Store.{Store, name_value}
 use Rattle.es3_language.specs.Hoisting.{code_of}

@@ -12,7 +12,7 @@ use Rattle.es3_heap.specs.Objects.{Objects, object_at, class_of, callable_of, pr
 use Rattle.es3_heap.specs.Properties.{own, value_of, length_key, length_of}
 use Rattle.es3_convert.specs.Conversions.{items_from, array_items}
 use Rattle.rows.specs.Rows as r
-use Rattle.rows.specs.Rows.{Handle, Sight, Ending, held, handles, keyed_handles}
+use Rattle.rows.specs.Rows.{Handle, Sight, Ending, handles, keyed_handles}
 use Rattle.rows.specs.Arguments as rows
 use Rattle.rows.specs.Public.{indices, pub_keys}
 use Rattle.rows.specs.Core.{copy_end, keys_end}

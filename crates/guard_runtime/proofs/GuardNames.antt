@@ -10,7 +10,7 @@ use Rattle.rows.specs.Names.{method, text_methods, array_methods, function_metho
 use Rattle.rows.specs.Public.{is_length, value_at, item_at, item_or_new, of_value, property, or_undefined, pub_get, Change, refused, of_key, of_item, pub_set, pub_delete, pub_has, pub_keys}
 use Rattle.rows.specs.Arguments.{value, values_from}
 use Rattle.rows.specs.Guards as rows
-use Rattle.rows.specs.Guards.{on_object, read_end, write_end, delete_end, has_end, list_end, call_end, simple_end, new_row, made_by, instance_row}
+use Rattle.rows.specs.Guards.{on_object, read_end, write_end, delete_end, has_end, list_end, call_end, simple_end, new_row, instance_row}
 use Rattle.heap_rows.specs.Natives.{is_common}
 use Rattle.live_rows.specs.Named.{HandleNames, HandlesName, IsHeld, IsSeen, EndNames, RowNames}
 

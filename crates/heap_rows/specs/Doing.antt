@@ -21,7 +21,7 @@ use Rattle.es3_convert.specs.Numbers.{number_of}
 use Rattle.es3_convert.specs.Comparisons.{strictly_equal}
 use Rattle.es3_language.specs.Natives.{Reply, value_reply, throw_reply, invoke_reply, stop_reply}
 use Rattle.rows.specs.Rows as r
-use Rattle.rows.specs.Rows.{Handle, Sight, Sort, Ending, Touch, Row, handles, keyed_handles, Maker}
+use Rattle.rows.specs.Rows.{Handle, Sight, Ending, Touch, Row, handles, keyed_handles, Maker}
 use Rattle.rows.specs.Public.{is_bad}
 use Rattle.rows.specs.Names.{is_of_text}
 use Rattle.rows.specs.Guards.{maker_name}

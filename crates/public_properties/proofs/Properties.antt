@@ -16,7 +16,7 @@ use Rattle.es3_heap.specs.Properties.{own, value_of, length_key}
 use Rattle.es3_heap.specs.Reading.{kind_of}
 use Rattle.es3_convert.specs.Conversions.{items_from, array_items}
 use Rattle.rows.specs.Rows as r
-use Rattle.rows.specs.Rows.{Native, Handle, held, Sight, handles, keyed_handles}
+use Rattle.rows.specs.Rows.{Native, Handle, held, handles, keyed_handles}
 use Rattle.rows.specs.Names.{method, is_of_text, text_methods, array_methods, function_methods}
 use Rattle.rows.specs.Public.{value_at, item_at, of_value, or_undefined, property, pub_get}
 use Rattle.heap_rows.specs.Marks.{is_frozen, simple_mark}

@@ -4,7 +4,7 @@ use Rattle.std.proofs.lemmas.Option.{none-some}
 use Rattle.std.proofs.lemmas.List.{length-append}
 use Rattle.es3_heap.specs.declared.value.Tag.TheVariants as tag
 use Rattle.es3_heap.specs.Objects as heap
-use Rattle.es3_heap.specs.Objects.{Property, Objects, object_at, with_object}
+use Rattle.es3_heap.specs.Objects.{Objects, object_at, with_object}
 use Rattle.es3_heap.specs.Properties.{find}
 use Rattle.rows.specs.Rows as r
 use Rattle.cajita_meaning.specs.World.{Name, made_name, built_name, Object}

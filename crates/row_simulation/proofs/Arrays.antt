@@ -26,7 +26,6 @@ use Rattle.cajita_meaning.specs.World.{Name, made_name, cell_name, own_name, bui
 use Rattle.cajita_meaning.specs.Doing as direct
 use Rattle.heap_rows.specs.Marks.{read_mark, set_mark, frozen_mark, is_set_mark, is_frozen, freeze, without_set_marks}
 use Rattle.heap_rows.specs.Doing as es3
-use Rattle.heap_rows.specs.Doing.{Told}
 use Rattle.row_simulation.proofs.Keys.{not_true, ends_as, apart_too, hidden_read, hidden_set, read_frozen, set_frozen, set_mark_hidden}
 use Rattle.row_simulation.proofs.Items.{closed_is}
 use Rattle.row_simulation.proofs.ItemsSet.{items_set_are}

@@ -6,7 +6,7 @@ use Rattle.std.proofs.lemmas.List.{length-append}
 use Rattle.es3_heap.specs.declared.value.Tag.{Tag}
 use Rattle.es3_heap.specs.declared.value.Tag.TheVariants as tag
 use Rattle.es3_heap.specs.Objects as heap
-use Rattle.es3_heap.specs.Objects.{Property, Objects, object_at, with_object, plain_attrs, hidden_attrs}
+use Rattle.es3_heap.specs.Objects.{Objects, object_at, with_object}
 use Rattle.es3_heap.specs.Properties.{find}
 use Rattle.rows.specs.Rows as r
 use Rattle.cajita_meaning.specs.World.{Name, cell_name, own_name, built_name, Object, empty_world}

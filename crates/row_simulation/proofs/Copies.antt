@@ -5,12 +5,12 @@ use Rattle.std.proofs.lemmas.Option.{none-some}
 use Rattle.caja_units.specs.Units.{same_units, is_hidden}
 use Rattle.es3_heap.specs.declared.value.Value.TheVariants as es
 use Rattle.es3_heap.specs.Objects as heap
-use Rattle.es3_heap.specs.Objects.{Property, Objects, object_at, with_object, plain_attrs, hidden_attrs}
+use Rattle.es3_heap.specs.Objects.{Property, Objects, object_at, plain_attrs, hidden_attrs}
 use Rattle.es3_heap.specs.Properties.{find, defined}
 use Rattle.es3_heap.proofs.Laws.{find-defined-other}
 use Rattle.es3_language.specs.Natives.{value_reply}
 use Rattle.rows.specs.Rows as r
-use Rattle.rows.specs.Rows.{Handle, Native, Ending, Row}
+use Rattle.rows.specs.Rows.{Handle, Native}
 use Rattle.cajita_meaning.specs.World.{Name, made_name, cell_name, own_name, built_name, tools_name, facet_name, forward_name, Value, Pairs, Object, a_record, an_array, a_closure, an_error, World}
 use Rattle.cajita_meaning.specs.Doing as direct
 use Rattle.heap_rows.specs.Marks.{read_mark, set_mark, frozen_mark}

@@ -7,17 +7,17 @@ use Rattle.es3_heap.specs.declared.value.Value.TheVariants as es
 use Rattle.es3_heap.specs.declared.value.Tag.{Tag}
 use Rattle.es3_heap.specs.declared.value.Tag.TheVariants as tag
 use Rattle.es3_heap.specs.Objects as heap
-use Rattle.es3_heap.specs.Objects.{Property, Objects, object_at, hidden_attrs, replaced}
+use Rattle.es3_heap.specs.Objects.{Objects}
 use Rattle.es3_heap.specs.Making.{proto_id, count_at, error_object}
 use Rattle.es3_language.specs.Natives.{Reply, value_reply, throw_reply}
 use Rattle.rows.specs.Rows as r
-use Rattle.rows.specs.Rows.{Ending, Handle, Native, Maker}
+use Rattle.rows.specs.Rows.{Handle, Native, Maker}
 use Rattle.rows.specs.Guards.{maker_name}
 use Rattle.cajita_meaning.specs.World.{Name, Value, object, Object, a_record, an_array, a_closure, an_error, World, next_name}
 use Rattle.cajita_meaning.specs.Doing as direct
 use Rattle.heap_rows.specs.Marks.{read_mark, set_mark}
 use Rattle.heap_rows.specs.Doing as es3
-use Rattle.heap_rows.specs.Doing.{Told, guests}
+use Rattle.heap_rows.specs.Doing.{Told}
 use Rattle.row_simulation.proofs.Keys.{apart_too, hidden_read, hidden_set}
 use Rattle.row_simulation.proofs.Relation.{EsValue, Named, Val, Is, ObjectsAre, is_keep}
 use Rattle.row_simulation.proofs.Row.{ReplyIs, shown, shown-append, shown_gained, DoneIs, keeps_refl, objects_step, handle_is, handles_are, EndLaw}

@@ -11,7 +11,7 @@ use Rattle.es3_heap.specs.declared.value.Tag.TheVariants as tag
 use Rattle.es3_heap.specs.declared.value.Proto.{Proto}
 use Rattle.es3_heap.specs.declared.value.Proto.TheVariants as proto
 use Rattle.es3_heap.specs.Objects as heap
-use Rattle.es3_heap.specs.Objects.{Property, Callable, Objects, object_at, hidden_attrs}
+use Rattle.es3_heap.specs.Objects.{Property, Callable, object_at, hidden_attrs}
 use Rattle.es3_heap.specs.Properties.{find, own, may_write}
 use Rattle.es3_heap.specs.Making.{bare, first_objects, proto_id}
 use Rattle.es3_convert.specs.Conversions.{to_string}

@@ -7,7 +7,7 @@ use Rattle.plans.specs.Plans.{Fault}
 use Rattle.caja_units.specs.Units.{same_units, is_hidden}
 use Rattle.es3_heap.specs.declared.value.Value.TheVariants as es
 use Rattle.es3_heap.specs.Objects as heap
-use Rattle.es3_heap.specs.Objects.{Property, Objects, object_at}
+use Rattle.es3_heap.specs.Objects.{Property, Objects}
 use Rattle.es3_heap.specs.Properties.{find, lookup, put}
 use Rattle.es3_language.specs.Natives.{value_reply}
 use Rattle.rows.specs.Rows as r
@@ -19,7 +19,7 @@ use Rattle.cajita_meaning.specs.World.{Name, made_name, Value, text, object, Pai
 use Rattle.cajita_meaning.specs.Doing as direct
 use Rattle.heap_rows.specs.Marks.{set_mark}
 use Rattle.heap_rows.specs.Doing as es3
-use Rattle.heap_rows.specs.Doing.{Told, guests}
+use Rattle.heap_rows.specs.Doing.{guests}
 use Rattle.row_simulation.specs.RowLaw.{IsFirst}
 use Rattle.row_simulation.specs.Inline.{InlineWrite}
 use Rattle.row_simulation.proofs.Keys.{not_true}

@@ -7,10 +7,9 @@ use Rattle.std.proofs.lemmas.List.{length-map}
 use Rattle.es3_heap.specs.Making.{array_object}
 use Rattle.es3_language.specs.Natives.{value_reply}
 use Rattle.rows.specs.Rows as r
-use Rattle.rows.specs.Rows.{Handle, Native, Ending, Row}
+use Rattle.rows.specs.Rows.{Native}
 use Rattle.cajita_meaning.specs.Doing as direct
 use Rattle.heap_rows.specs.Doing as es3
-use Rattle.heap_rows.specs.Doing.{guests}
 use Rattle.row_simulation.proofs.Row.{objects_step, keeps_refl, DoneIs, EndLaw}
 use Rattle.row_simulation.proofs.Changes.{get-push}
 use Rattle.row_simulation.proofs.Added.{awaiting_keeps, objects_added}

@@ -9,7 +9,7 @@ use Rattle.es3_heap.specs.declared.value.Class.TheVariants as class
 use Rattle.es3_heap.specs.declared.value.Tag.{Tag}
 use Rattle.es3_heap.specs.declared.value.Tag.TheVariants as tag
 use Rattle.es3_heap.specs.Objects as heap
-use Rattle.es3_heap.specs.Objects.{Property, Objects, object_at, plain_attrs, hidden_attrs}
+use Rattle.es3_heap.specs.Objects.{object_at}
 use Rattle.es3_heap.specs.Properties.{find}
 use Rattle.rows.specs.Rows as r
 use Rattle.rows.specs.Names.{Tools, of_cajita, of_math, tools, sort_of, code_of}

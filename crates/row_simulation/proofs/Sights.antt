@@ -6,7 +6,7 @@ use Rattle.caja_units.specs.Index.{array_index}
 use Rattle.es3_heap.specs.declared.value.Value.TheVariants as es
 use Rattle.es3_heap.specs.Objects as heap
 use Rattle.es3_heap.specs.Objects.{Objects}
-use Rattle.es3_heap.specs.Properties.{find, own, length_key}
+use Rattle.es3_heap.specs.Properties.{find, own}
 use Rattle.rows.specs.Rows as r
 use Rattle.rows.specs.Rows.{handles, keyed_handles}
 use Rattle.rows.specs.Guards.{maker_name}

@@ -1,6 +1,6 @@
 -- The rows of guards, of operators and of built-ins are among objects.
 use Rattle.std.proofs.Common.{◌≡◌, ℕ, zero, suc, ◌+◌, ◌-◌, Bool, true, false, List, [], ◌∷◌, ◌++◌, length, Option, Some, None, cond, refl, sym, subst}
-use Rattle.std.specs.Prelude.{ℤ, pos, slice_get, codes, map, is_some, nat_lt, not, ◌||◌, ◌&&◌, take, drop, reverse, unsigned_abs, int_lt}
+use Rattle.std.specs.Prelude.{ℤ, pos, slice_get, codes, map, is_some, nat_lt, not, ◌||◌, ◌&&◌, take, drop, reverse, int_lt}
 use Rattle.std.proofs.lemmas.List.{reverse-append}
 use Rattle.caja_units.specs.Units.{same_units, is_hidden}
 use Rattle.caja_units.specs.Index.{array_index}

@@ -2,7 +2,7 @@
 use Rattle.std.proofs.Common.{ℕ, ◌<◌}
 use Rattle.es3_heap.specs.Objects.{Objects}
 use Rattle.rows.specs.Rows as r
-use Rattle.rows.specs.Rows.{Handle, Native, Ending, Row}
+use Rattle.rows.specs.Rows.{Native, Ending, Row}
 use Rattle.row_simulation.specs.Among.{IsEndAmong, IsAmongObjects}
 use Rattle.row_simulation.proofs.Row.{EndLaw, row_law}
 use Rattle.row_simulation.proofs.Conversions.{conversions}

@@ -9,20 +9,20 @@ use Rattle.es3_heap.specs.declared.value.Class.TheVariants as class
 use Rattle.es3_heap.specs.declared.value.Proto.TheVariants as proto
 use Rattle.es3_heap.specs.declared.value.Tag.TheVariants as tag
 use Rattle.es3_heap.specs.Objects as heap
-use Rattle.es3_heap.specs.Objects.{Property, Objects, object_at, hidden_attrs, plain_attrs, replaced}
+use Rattle.es3_heap.specs.Objects.{Property, Objects, object_at, hidden_attrs, plain_attrs}
 use Rattle.es3_heap.specs.Properties.{find, own, or_else, may_write, lookup_from, can_put, written, defined, without, put, define, delete}
 use Rattle.rows.specs.Rows as r
-use Rattle.rows.specs.Rows.{Ending, Handle, Native}
+use Rattle.rows.specs.Rows.{Handle, Native}
 use Rattle.rows.specs.Public.{is_bad}
 use Rattle.cajita_meaning.specs.World.{Name, made_name, cell_name, own_name, built_name, tools_name, facet_name, forward_name, Value, object, Pairs, Object, a_record, an_array, a_closure, an_error, World, value_at, with_value, with_list, with_made}
 use Rattle.cajita_meaning.specs.Doing as direct
 use Rattle.heap_rows.specs.Marks.{read_mark, set_mark, frozen_mark, grant_read, grant_set, drop_marks, freeze, is_frozen, without_set_marks}
 use Rattle.heap_rows.specs.Doing as es3
-use Rattle.heap_rows.specs.Doing.{Told, guests}
+use Rattle.heap_rows.specs.Doing.{guests}
 use Rattle.row_simulation.proofs.Keys.{apart}
 use Rattle.row_simulation.specs.Among.{IsHandleAmong}
 use Rattle.row_simulation.proofs.Names.{name_at, made_known, cell_known, tools_known}
-use Rattle.row_simulation.proofs.Relation.{EsValue, tag_of_name, Named, Val, Vals, PairsAre, PropsAre, IsRecord, Is, IsNamed, ObjectsAre, Keeps}
+use Rattle.row_simulation.proofs.Relation.{EsValue, tag_of_name, Named, Val, PairsAre, PropsAre, IsRecord, Is, IsNamed, ObjectsAre, Keeps}
 use Rattle.row_simulation.proofs.Row.{by_value, keeps_refl, objects_step, handle_is, EndLaw}
 use Rattle.row_simulation.proofs.Props.{swapped, by_key, props_read, props_written, props_set, props_frozen, props_dropped, has_new}
 use Rattle.row_simulation.proofs.Changes.{with_properties, revised, revised_there, revised_twice, revised_keeps, made_there, made_length, made_still, objects_revised}

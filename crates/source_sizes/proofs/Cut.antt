@@ -8,7 +8,6 @@ use Rattle.std.proofs.lemmas.Bool.Decides.{nat_tests}
 use Rattle.std.proofs.lemmas.List.Sums.{sum_by-cons}
 use Rattle.std.proofs.lemmas.Str.{IsUtf8-from_is_utf8, len_utf8_bounds}
 use Rattle.es3_tokens.specs.Tokens as tokens
-use Rattle.es3_tokens.specs.Tokens.{wants_operand}
 use Rattle.es3_tokens.specs.Cut.{Answer, Step, skip, accept, refuse, front, width, goes, point, cut_from, cut_chars, cut}
 use Rattle.es3_tokens.specs.Refusals.{not_utf8, too_long}
 use Rattle.es3_tokens.proofs.Sources.{width_chars}

@@ -1,6 +1,6 @@
 -- The call of a closure: both enter it, run its statements, and go back.
-use Rattle.std.proofs.Common.{◌≡◌, ℕ, zero, suc, ◌+◌, ◌≤◌, ◌<◌, true, false, List, [], ◌∷◌, length, Option, Some, None, cond, refl, sym, subst, arith}
-use Rattle.std.specs.Prelude.{slice_get, nat_lt}
+use Rattle.std.proofs.Common.{◌≡◌, ℕ, zero, suc, ◌+◌, ◌≤◌, ◌<◌, true, false, List, [], ◌∷◌, length, Option, None, cond, refl, sym, subst, arith}
+use Rattle.std.specs.Prelude.{nat_lt}
 use Rattle.plans.specs.Plans.{bind, depth_fault, stops}
 use Rattle.acts.specs.Acts.{replied, answer, fault}
 use Rattle.matching.proofs.Rules.{right_enter, left_tick, left_told, both_stop}
@@ -14,7 +14,7 @@ use Rattle.es3_language.specs.Meaning as Target
 use Rattle.cajita_tree.specs.Tree as c
 use Rattle.cajita_rewrite.specs.Rewrite.{rewritten, temps, declared, others, temp_items, name_items, var_stmts}
 use Rattle.cajita_meaning.specs.World as World
-use Rattle.cajita_meaning.specs.World.{Value, World as State, next_scope}
+use Rattle.cajita_meaning.specs.World.{Value, World as State}
 use Rattle.cajita_meaning.specs.Asking as Asking
 use Rattle.cajita_meaning.specs.Asking.{passing, stepping_all, entry_reply, statements_reply, returned_reply, good_value}
 use Rattle.cajita_meaning.specs.Direct.{Item, passed}
@@ -30,7 +30,7 @@ use Rattle.cajita_simulation.proofs.Laws.{Targets, bare, NextValue, NextEffect, 
 use Rattle.cajita_simulation.proofs.Rows.{Going}
 use Rattle.cajita_simulation.proofs.Forms.List.{Effects, behind'}
 use Rattle.cajita_simulation.proofs.Calling.Names.{NewNames, heads, statements, own_names, new_names, no_functions}
-use Rattle.cajita_simulation.proofs.Calling.Entering.{inside, entered_tags, entered_store, declares, declares_room, declares_covers, rel_enter, stays_enter, rel_back}
+use Rattle.cajita_simulation.proofs.Calling.Entering.{inside, entered_store, declares_room, declares_covers, rel_enter, stays_enter, rel_back}
 use Rattle.cajita_simulation.proofs.Calling.Laws.{ClosureLaw}
 
 -- names are bound, each with a step of the direct meaning

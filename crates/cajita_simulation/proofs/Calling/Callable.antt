@@ -3,7 +3,7 @@ use Rattle.std.proofs.Common.{◌≡◌, ℕ, zero, suc, List, [], ◌∷◌, Op
 use Rattle.std.specs.Prelude.{slice_get}
 use Rattle.es3_language.specs.Store.{Store}
 use Rattle.rows.specs.Rows as r
-use Rattle.rows.specs.Rows.{Native, Sight, Sort, held}
+use Rattle.rows.specs.Rows.{Native, Sight, held}
 use Rattle.rows.specs.Guards as guards
 use Rattle.cajita_tree.specs.Tree as c
 use Rattle.cajita_meaning.specs.World as World

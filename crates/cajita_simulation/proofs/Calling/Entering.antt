@@ -1,11 +1,10 @@
 -- A call enters a closure: a new scope on both sides; and goes back.
-use Rattle.std.proofs.Common.{◌≡◌, ◌≢◌, ℕ, suc, ◌+◌, ◌<◌, Bool, true, false, List, [], ◌∷◌, ◌++◌, length, Option, Some, None, cond, refl, sym, ap, ◌∙◌, subst, arith}
+use Rattle.std.proofs.Common.{◌≡◌, ◌≢◌, ℕ, ◌+◌, ◌<◌, Bool, true, false, List, [], ◌∷◌, ◌++◌, length, Option, Some, None, cond, refl, sym, ap, ◌∙◌, subst, arith}
 use Rattle.std.specs.Prelude.{slice_get, is_some, nat_eq, ◌||◌}
 use Rattle.std.proofs.lemmas.List.{length-append}
 use Rattle.std.proofs.lemmas.Option.{none-some}
 use Rattle.std.proofs.lemmas.Bool.Decides.{nat_tests}
 use Rattle.caja_units.specs.Units.{is_hidden}
-use Rattle.es3_heap.specs.declared.value.Value.TheVariants as es
 use Rattle.es3_language.specs.Store as store
 use Rattle.es3_language.specs.Store.{Store, Names, activation, name_value, with_vars, with_params, with_scope}
 use Rattle.es3_language.specs.Arguments.{is_fixed}
@@ -14,14 +13,13 @@ use Rattle.cajita_rewrite.specs.Rewrite.{runtime_name, temp_name}
 use Rattle.cajita_meaning.specs.World as World
 use Rattle.cajita_meaning.specs.World.{Value, Pairs, World as State, next_scope}
 use Rattle.cajita_meaning.specs.Direct.{Item}
-use Rattle.heap_rows.specs.Opening.{runtime_id}
 use Rattle.module_loader.specs.Page.{Kept}
 use Rattle.cajita_simulation.specs.Guest as Guest
 use Rattle.cajita_simulation.specs.Guest.{is_among, inner}
 use Rattle.cajita_simulation.proofs.Heaps.Lists.{slice_get-push}
-use Rattle.cajita_simulation.proofs.Relation.{EsValue, Vals, tag_of_scope, Tags, Here, Temps, Slot, unknown, declared, holds, SlotIs, ScopesAre, names_at, AreScopes, Place, Captured, In, Related, Rel, Stays, keeps_refl, closed_refl}
+use Rattle.cajita_simulation.proofs.Relation.{EsValue, Vals, tag_of_scope, Tags, Here, Temps, Slot, unknown, declared, holds, SlotIs, ScopesAre, names_at, AreScopes, Place, Captured, In, Related, Rel, Stays, keeps_refl}
 use Rattle.cajita_simulation.proofs.Scopes.{passes, in_stays, captured_stays}
-use Rattle.cajita_simulation.proofs.Written.{same_place, other_place}
+use Rattle.cajita_simulation.proofs.Written.{same_place}
 use Rattle.cajita_simulation.proofs.Writes.{Covers, rel_covers}
 use Rattle.cajita_simulation.proofs.Laws.{Room}
 use Rattle.cajita_simulation.proofs.Entering.{names_new, shaped_scope, scopes_are, NewScopes, related_scope}

@@ -1,6 +1,5 @@
 -- The laws of calls, by what is called: a closure, or a function that no module made; and the call of either.
-use Rattle.std.proofs.Common.{◌≡◌, ℕ, suc, ◌<◌, Bool, true, false, List, [], ◌∷◌, ◌++◌, Option, Some, None, cond, refl, sym, subst, arith}
-use Rattle.std.specs.Prelude.{slice_get}
+use Rattle.std.proofs.Common.{◌≡◌, ℕ, suc, ◌<◌, Bool, true, false, List, [], ◌∷◌, Some, None, cond, refl, sym, subst}
 use Rattle.plans.specs.Plans.{bind}
 use Rattle.acts.specs.Acts.{replied}
 use Rattle.matching.proofs.Rules.{left_told, right_told}
@@ -13,7 +12,6 @@ use Rattle.es3_language.specs.declared.Touch.TheVariants as touch
 use Rattle.es3_language.specs.Meaning as Target
 use Rattle.rows.specs.Rows.{Native, to_call}
 use Rattle.cajita_tree.specs.Tree as c
-use Rattle.cajita_meaning.specs.World as World
 use Rattle.cajita_meaning.specs.World.{Name, made_name, cell_name, own_name, built_name, tools_name, facet_name, forward_name, Value, object, a_closure, World as State}
 use Rattle.cajita_meaning.specs.Asking.{native_at, entry_reply, closure_call, native_call, call_reply}
 use Rattle.cajita_meaning.specs.Direct.{Item, touched}

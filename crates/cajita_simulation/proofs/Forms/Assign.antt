@@ -1,10 +1,9 @@
 -- Assignments to a variable: `x = e` (ES3 11.13.1).
-use Rattle.std.proofs.Common.{◌≡◌, ℕ, suc, ◌+◌, ◌≤◌, ◌<◌, true, false, List, [], ◌∷◌, Some, None, refl, sym, ap, ◌∙◌, subst, arith}
-use Rattle.std.specs.Prelude.{slice_get}
+use Rattle.std.proofs.Common.{◌≡◌, ℕ, suc, ◌+◌, ◌≤◌, true, List, None, sym, ◌∙◌, subst, arith}
 use Rattle.plans.specs.Plans.{bind}
 use Rattle.matching.proofs.Rules.{right_enter}
 use Rattle.es3_tree.specs.Tree as t
-use Rattle.es3_language.specs.Store.{Store, with_slot}
+use Rattle.es3_language.specs.Store.{Store}
 use Rattle.es3_language.specs.References.{slot, resolve}
 use Rattle.es3_language.specs.Expressions.{assign_to, write_plan}
 use Rattle.es3_language.specs.Meaning as Target
@@ -19,7 +18,7 @@ use Rattle.cajita_simulation.proofs.Scopes.{resolve_stays}
 use Rattle.cajita_simulation.proofs.Written.{slot_written}
 use Rattle.cajita_simulation.proofs.Writes.{find, rel_assigned, stays_assigned}
 use Rattle.cajita_simulation.proofs.Slots.{slot_target}
-use Rattle.cajita_simulation.proofs.Laws.{ValueLaw, ValueBody, NextValue, value_since, Cont, Cont', M, Room, room_part, Throws, with_part}
+use Rattle.cajita_simulation.proofs.Laws.{ValueLaw, ValueBody, NextValue, value_since, Cont, Cont', M, room_part, with_part}
 
 -- a variable that was found is written on both sides, and a value goes on
 pub written_match : {H : Here} {T : Temps} {d k j i : ℕ} (x : List ℕ) → H.free x ≡ true → GuestName x → {s0 : Store} (p : Place H.free H.chain s0 x) (v u : Value) (e f : EsValue) {w0 w : World} {z : List Item} {n : ℕ} {g0 g : Tags} {s : Store} {y : Kept} {m0 m : ℕ} (next : Cont) (next' : Cont')

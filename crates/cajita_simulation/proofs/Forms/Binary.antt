@@ -1,5 +1,5 @@
 -- Operators of two values: `e op f` (ES3 11.5 to 11.10).
-use Rattle.std.proofs.Common.{ℕ, ◌+◌, [], ◌∷◌, arith}
+use Rattle.std.proofs.Common.{ℕ, ◌+◌, arith}
 use Rattle.es3_tree.specs.Tree as t
 use Rattle.es3_tree.specs.declared.BinOp.{BinOp}
 use Rattle.es3_language.specs.Meaning as Target

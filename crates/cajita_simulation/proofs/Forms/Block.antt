@@ -1,5 +1,5 @@
 -- Blocks and `if`: statements within others, whose values count for nothing.
-use Rattle.std.proofs.Common.{◌≡◌, ℕ, suc, ◌+◌, ◌≤◌, ◌<◌, false, List, [], ◌∷◌, Option, Some, None, arith}
+use Rattle.std.proofs.Common.{ℕ, suc, ◌+◌, false, List, [], Option, Some, None, arith}
 use Rattle.plans.specs.Plans.{bind, ends, enter}
 use Rattle.acts.specs.Acts.{Places, put}
 use Rattle.es3_tree.specs.Tree as t
@@ -14,8 +14,8 @@ use Rattle.cajita_meaning.specs.Direct.{Item}
 use Rattle.module_loader.specs.Page.{Kept}
 use Rattle.cajita_simulation.specs.Guest.{Guest}
 use Rattle.cajita_simulation.proofs.Doing as Source
-use Rattle.cajita_simulation.proofs.Relation.{EsValue, Here, env_of, Tags, Temps, Rel, stays_trans, stays_step, stays_before, rel_less}
-use Rattle.cajita_simulation.proofs.Laws.{Jumps, ValueLaw, BareBody, nested, bare, NextEffect, effect_from, Cont, Cont', M, Room, room_part, with_part}
+use Rattle.cajita_simulation.proofs.Relation.{Here, env_of, Tags, Temps, stays_trans, stays_step, stays_before, rel_less}
+use Rattle.cajita_simulation.proofs.Laws.{Jumps, ValueLaw, BareBody, nested, bare, NextEffect, effect_from, Cont, Cont', M, room_part, with_part}
 use Rattle.cajita_simulation.proofs.Forms.List.{Effects, behind, behind', list_match}
 use Rattle.cajita_simulation.proofs.Forms.Logic.{decided_match}
 

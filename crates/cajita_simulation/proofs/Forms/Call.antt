@@ -2,7 +2,7 @@
 use Rattle.std.proofs.Common.{◌≡◌, ℕ, zero, suc, ◌+◌, ◌-◌, ◌<◌, true, false, List, [], ◌∷◌, ◌++◌, length, map, refl, sym, ap, ◌∙◌, subst, arith}
 use Rattle.std.specs.Prelude.{codes}
 use Rattle.plans.specs.Plans.{bind}
-use Rattle.acts.specs.Acts.{replied, put, Places}
+use Rattle.acts.specs.Acts.{replied, Places}
 use Rattle.matching.proofs.Rules.{right_enter}
 use Rattle.es3_tree.specs.Tree as t
 use Rattle.es3_heap.specs.declared.value.Value.TheVariants as es
@@ -17,7 +17,7 @@ use Rattle.cajita_rewrite.specs.Rewrite.{rewritten, temps, runtime_call, single}
 use Rattle.cajita_meaning.specs.World as World
 use Rattle.cajita_meaning.specs.World.{Value, World as State}
 use Rattle.cajita_meaning.specs.Doing as direct
-use Rattle.cajita_meaning.specs.Asking.{done_reply, outcome_reply}
+use Rattle.cajita_meaning.specs.Asking.{outcome_reply}
 use Rattle.cajita_meaning.specs.Direct as Direct
 use Rattle.cajita_meaning.specs.Direct.{Item}
 use Rattle.row_simulation.proofs.Tables.{tables}
@@ -25,15 +25,15 @@ use Rattle.module_loader.specs.Page.{Kept}
 use Rattle.cajita_simulation.specs.Guest.{Guest}
 use Rattle.cajita_simulation.proofs.Doing as Source
 use Rattle.cajita_simulation.proofs.Heaps.Guards.{as_simple_func-guard}
-use Rattle.cajita_simulation.proofs.Relation.{EsValue, Val, Vals, val_keep, Here, env_of, Tags, Temps, Rel, Stays, stays_refl, stays_step, stays_trans, rel_less, rel_pay}
+use Rattle.cajita_simulation.proofs.Relation.{EsValue, Val, Vals, val_keep, Here, env_of, Tags, Temps, Rel, stays_refl, stays_step, stays_trans, rel_less, rel_pay}
 use Rattle.cajita_simulation.proofs.Changes.{rel_told}
 use Rattle.cajita_simulation.proofs.Laws.{ValueLaw, ValueBody, NextValue, Throws, throws_from, value_from, value_since, Cont, Cont', M, room_part, with_part}
 use Rattle.cajita_simulation.proofs.Calls.{callee_match}
-use Rattle.cajita_simulation.proofs.Rows.{Going, left_tell, quiet_row}
+use Rattle.cajita_simulation.proofs.Rows.{left_tell, quiet_row}
 use Rattle.cajita_simulation.proofs.Guarded.{guarded_of}
 use Rattle.cajita_simulation.proofs.Forms.Values.{Values}
 use Rattle.cajita_simulation.proofs.Calling.Callable.{IsCallable, simple_plain, simple_gives, callable_stays}
-use Rattle.cajita_simulation.proofs.Calling.Arguments.{ArgsEnd, args_match}
+use Rattle.cajita_simulation.proofs.Calling.Arguments.{args_match}
 use Rattle.cajita_simulation.proofs.Calling.Laws.{ClosureLaw, NativeLaw, call_match}
 
 -- the row's arguments are the values behind what is called

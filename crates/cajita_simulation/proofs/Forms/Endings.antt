@@ -1,15 +1,13 @@
 -- Endings of statements on both sides, and what goes on after any of them.
-use Rattle.std.proofs.Common.{◌≡◌, ℕ, ◌≤◌, true, List, Option, Some, None, refl, subst}
-use Rattle.plans.specs.Plans.{ends}
+use Rattle.std.proofs.Common.{◌≡◌, ℕ, ◌≤◌, true, List, None, refl, subst}
 use Rattle.es3_heap.specs.Objects.{Objects}
 use Rattle.es3_language.specs.Store.{Store}
 use Rattle.es3_language.specs.Meaning as Target
-use Rattle.cajita_meaning.specs.World.{Value, World}
-use Rattle.cajita_meaning.specs.Direct as Direct
+use Rattle.cajita_meaning.specs.World.{World}
 use Rattle.cajita_meaning.specs.Direct.{Item}
 use Rattle.module_loader.specs.Page.{Kept}
 use Rattle.cajita_simulation.proofs.Doing as Source
-use Rattle.cajita_simulation.proofs.Relation.{EsValue, Val, val_keep, Here, Tags, Temps, Rel, Keeps, Stays}
+use Rattle.cajita_simulation.proofs.Relation.{Val, val_keep, Here, Tags, Temps, Rel, Keeps, Stays}
 use Rattle.cajita_simulation.proofs.Laws.{Jumps, bare, NextEffect, Cont, Cont', M}
 
 -- endings that correspond: a jump has its target

@@ -1,13 +1,12 @@
 -- Function expressions without a name of their own: `function (a) {..}` is `___.func(function(a){..})`.
-use Rattle.std.proofs.Common.{◌≡◌, ℕ, suc, ◌<◌, false, Bool, List, [], ◌∷◌, length, None, refl, sym, subst, arith}
-use Rattle.std.specs.Prelude.{codes, slice_get}
+use Rattle.std.proofs.Common.{ℕ, suc, ◌<◌, false, Bool, List, [], ◌∷◌, length, None, refl, sym, subst, arith}
+use Rattle.std.specs.Prelude.{codes}
 use Rattle.plans.specs.Plans.{bind}
 use Rattle.matching.proofs.Rules.{right_enter, left_told}
 use Rattle.es3_tree.specs.Tree as t
 use Rattle.es3_heap.specs.declared.value.Value.TheVariants as es
 use Rattle.es3_language.specs.Store.{with_code}
 use Rattle.es3_language.specs.Hoisting.{code_of}
-use Rattle.es3_language.specs.Meaning as Target
 use Rattle.cajita_tree.specs.Tree as c
 use Rattle.cajita_rewrite.specs.Rewrite.{rewritten, runtime_call, single}
 use Rattle.cajita_meaning.specs.World as World

@@ -1,12 +1,11 @@
 -- `a in b` is `___.inPub(a,b)`, and `a instanceof b` is `___.instanceOf(a,b)`.
-use Rattle.std.proofs.Common.{ℕ, suc, ◌+◌, ◌<◌, List, [], ◌∷◌, Option, Some, None, refl, arith}
+use Rattle.std.proofs.Common.{ℕ, suc, ◌+◌, ◌<◌, [], ◌∷◌, Option, Some, None, refl, arith}
 use Rattle.acts.specs.Acts.{put}
 use Rattle.std.specs.Prelude.{codes, Bool}
 use Rattle.es3_tree.specs.Tree as t
-use Rattle.es3_tree.specs.declared.BinOp.{BinOp}
 use Rattle.es3_tree.specs.declared.BinOp.TheVariants as bin
 use Rattle.rows.specs.Rows as r
-use Rattle.rows.specs.Rows.{Row, Sight}
+use Rattle.rows.specs.Rows.{Sight}
 use Rattle.rows.specs.Public.{pub_has}
 use Rattle.rows.specs.Guards as guards
 use Rattle.cajita_tree.specs.Tree as c

@@ -1,9 +1,8 @@
 -- Expressions in a list, from the left: the items of an array in the interpreter, values at the place 0 in the direct meaning.
-use Rattle.std.proofs.Common.{◌≡◌, ℕ, suc, ◌+◌, ◌≤◌, ◌<◌, false, List, [], ◌∷◌, ◌++◌, length, sym, subst, arith}
+use Rattle.std.proofs.Common.{ℕ, suc, ◌+◌, ◌≤◌, ◌<◌, false, List, [], ◌∷◌, ◌++◌, length, sym, subst, arith}
 use Rattle.std.proofs.lemmas.List.{length-append, append_assoc}
 use Rattle.plans.specs.Plans.{bind}
 use Rattle.es3_tree.specs.Tree as t
-use Rattle.es3_heap.specs.Objects.{Objects}
 use Rattle.es3_language.specs.Store.{Store}
 use Rattle.es3_language.specs.Meaning as Target
 use Rattle.cajita_tree.specs.Tree as c
@@ -16,7 +15,7 @@ use Rattle.cajita_simulation.specs.Guest.{Guest}
 use Rattle.cajita_simulation.proofs.Doing as Source
 use Rattle.row_simulation.proofs.Relation as row_relation
 use Rattle.row_simulation.proofs.Row.{vals_append}
-use Rattle.cajita_simulation.proofs.Relation.{EsValue, Val, Vals, Here, env_of, Tags, Temps, Rel, Stays, rel_less, stays_refl, stays_trans, stays_before}
+use Rattle.cajita_simulation.proofs.Relation.{EsValue, Vals, Here, env_of, Tags, Temps, Rel, Stays, rel_less, stays_refl, stays_trans, stays_before}
 use Rattle.cajita_simulation.proofs.Laws.{Cont, Cont', M, Room, room_part, Throws, throws_from, with_part}
 use Rattle.cajita_simulation.proofs.Forms.Values.{Values}
 

@@ -1,5 +1,5 @@
 -- A key: a written one is its text, and a computed one a part.
-use Rattle.std.proofs.Common.{◌≡◌, ℕ, suc, ◌≤◌, ◌<◌, false, List, [], ◌∷◌, refl, arith}
+use Rattle.std.proofs.Common.{ℕ, suc, ◌≤◌, ◌<◌, false, List, [], ◌∷◌, refl, arith}
 use Rattle.plans.specs.Plans.{bind}
 use Rattle.acts.specs.Acts.{Places, put}
 use Rattle.matching.proofs.Rules.{right_enter}

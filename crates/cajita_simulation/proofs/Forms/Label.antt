@@ -1,5 +1,5 @@
 -- Labels: a statement with a label ends where a `break` names it.
-use Rattle.std.proofs.Common.{◌≡◌, ℕ, suc, ◌≤◌, ◌<◌, Bool, true, false, List, [], ◌∷◌, Option, Some, None, cond, refl, subst, arith}
+use Rattle.std.proofs.Common.{◌≡◌, ℕ, true, false, List, [], ◌∷◌, Option, Some, None, cond, refl, subst, arith}
 use Rattle.plans.specs.Plans.{bind}
 use Rattle.acts.specs.Acts.{put}
 use Rattle.es3_tree.specs.Tree as t

@@ -1,7 +1,6 @@
 -- Statements in a list within another statement, each with its law, and then what follows the list.
-use Rattle.std.proofs.Common.{◌≡◌, ℕ, suc, ◌+◌, ◌≤◌, ◌<◌, true, false, List, [], Option, Some, None, arith}
+use Rattle.std.proofs.Common.{ℕ, ◌+◌, ◌<◌, true, false, List, [], Option, Some, None, arith}
 use Rattle.plans.specs.Plans.{bind}
-use Rattle.es3_tree.specs.Tree as t
 use Rattle.es3_language.specs.Store.{Store}
 use Rattle.es3_language.specs.Meaning as Target
 use Rattle.cajita_tree.specs.Tree as c

@@ -1,5 +1,5 @@
 -- `&&`, `||`, `?:` and the comma (ES3 11.11, 11.12, 11.14): which part goes on by a value that counts as true on both sides.
-use Rattle.std.proofs.Common.{◌≡◌, ℕ, suc, ◌+◌, ◌≤◌, ◌<◌, Bool, true, false, List, [], ◌∷◌, Option, Some, None, refl, sym, ap, ◌∙◌, subst, cond, arith}
+use Rattle.std.proofs.Common.{◌≡◌, ℕ, suc, ◌+◌, ◌<◌, Bool, true, false, List, [], ◌∷◌, Option, Some, None, refl, sym, ap, ◌∙◌, subst, cond, arith}
 use Rattle.std.specs.Prelude.{is_some}
 use Rattle.plans.specs.Plans.{bind, enter}
 use Rattle.acts.specs.Acts.{Places, put, held}
@@ -27,7 +27,7 @@ use Rattle.heap_rows.specs.Doing.{sort_seen}
 use Rattle.row_simulation.proofs.Sights.{seen_alike}
 use Rattle.module_loader.specs.Page.{Kept}
 use Rattle.cajita_simulation.proofs.Doing as Source
-use Rattle.cajita_simulation.proofs.Relation.{EsValue, Val, Here, env_of, Tags, Temps, Rel, rel_less, stays_step}
+use Rattle.cajita_simulation.proofs.Relation.{EsValue, Val, Here, env_of, Tags, Temps, Rel, stays_step}
 use Rattle.cajita_simulation.proofs.Laws.{ValueLaw, ValueBody, NextValue, value_from, value_since, Room, room_part, with_part, give, Cont, Cont', M}
 
 -- what is seen of a value of ES3 counts as it does itself

@@ -1,7 +1,7 @@
 -- `while`, `do` and `for`: a later turn is a task of its own on both sides, which begins with what is done after a turn, or with the test, or with the body.
-use Rattle.std.proofs.Common.{◌≡◌, ℕ, zero, suc, ◌+◌, ◌≤◌, ◌<◌, Bool, true, false, List, [], ◌∷◌, Option, Some, None, cond, refl, sym, subst, arith}
+use Rattle.std.proofs.Common.{◌≡◌, ℕ, zero, suc, ◌+◌, ◌≤◌, ◌<◌, true, false, List, [], ◌∷◌, Option, Some, None, cond, refl, sym, subst, arith}
 use Rattle.plans.specs.Plans.{bind, ends, enter}
-use Rattle.acts.specs.Acts.{Places, put}
+use Rattle.acts.specs.Acts.{put}
 use Rattle.matching.proofs.Rules.{both_enter, both_cut}
 use Rattle.caja_units.specs.Units.{same_units}
 use Rattle.es3_tree.specs.Tree as t
@@ -16,7 +16,7 @@ use Rattle.cajita_meaning.specs.Direct.{Item}
 use Rattle.module_loader.specs.Page.{Kept}
 use Rattle.cajita_simulation.specs.Guest.{Guest}
 use Rattle.cajita_simulation.proofs.Doing as Source
-use Rattle.cajita_simulation.proofs.Relation.{EsValue, Val, Here, env_of, Tags, Temps, Rel, Stays, stays_refl, stays_trans, stays_step, stays_before, rel_less, rel_both}
+use Rattle.cajita_simulation.proofs.Relation.{EsValue, Val, Here, env_of, Tags, Temps, Rel, stays_refl, stays_trans, stays_step, stays_before, rel_less, rel_both}
 use Rattle.cajita_simulation.proofs.Laws.{Jumps, in_loop, Targets, ValueLaw, ValueBody, EffectLaw, EffectBody, BareBody, nested, bare, NextEffect, effect_from, still, Cont, Cont', M, Room, room_part, with_part, steps_hold, left_assoc, right_assoc}
 use Rattle.cajita_simulation.proofs.Forms.Values.{Values}
 use Rattle.cajita_simulation.proofs.Forms.List.{behind, behind'}

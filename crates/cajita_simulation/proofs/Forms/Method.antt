@@ -1,12 +1,11 @@
 -- Method calls and `new`: `o.k(a)` is `___.callPub(o,"k",[a])`, and `new f(a)` is `___.construct(f,[a])`.
-use Rattle.std.proofs.Common.{◌≡◌, ℕ, zero, suc, ◌+◌, ◌-◌, ◌≤◌, ◌<◌, true, false, List, [], ◌∷◌, ◌++◌, length, Option, Some, None, refl, sym, ap, ◌∙◌, subst, arith}
+use Rattle.std.proofs.Common.{◌≡◌, ℕ, suc, ◌+◌, ◌-◌, ◌≤◌, ◌<◌, false, List, [], ◌∷◌, ◌++◌, length, Option, Some, None, refl, sym, ap, ◌∙◌, subst, arith}
 use Rattle.std.specs.Prelude.{codes}
 use Rattle.plans.specs.Plans.{bind}
-use Rattle.acts.specs.Acts.{put, Places}
 use Rattle.matching.proofs.Rules.{right_enter}
 use Rattle.es3_tree.specs.Tree as t
 use Rattle.es3_heap.specs.declared.value.Value.TheVariants as es
-use Rattle.es3_heap.specs.Objects.{Objects, with_object, object_at, class_of}
+use Rattle.es3_heap.specs.Objects.{Objects, with_object, class_of}
 use Rattle.es3_heap.specs.Making.{array_object}
 use Rattle.es3_heap.proofs.Laws.{object_at-with_object}
 use Rattle.es3_language.specs.Store.{Store, with_heap}
@@ -35,17 +34,16 @@ use Rattle.cajita_simulation.specs.Guest.{Guest}
 use Rattle.cajita_simulation.proofs.Doing as Source
 use Rattle.cajita_simulation.proofs.Heaps.Arrays.{array_items_new}
 use Rattle.cajita_simulation.proofs.Heaps.Guards.{IsGuard, call_pub-guard, construct-guard}
-use Rattle.cajita_simulation.proofs.Relation.{EsValue, Val, val_keep, Vals, Here, env_of, Tags, Temps, Rel, Stays, rel_less, rel_pay, stays_refl, stays_step, stays_trans}
-use Rattle.cajita_simulation.proofs.Laws.{ValueLaw, ValueBody, NextValue, Throws, throws_from, value_from, value_since, Cont, Cont', M, room_part, with_part}
+use Rattle.cajita_simulation.proofs.Relation.{EsValue, val_keep, Vals, Here, env_of, Tags, Temps, Rel, rel_less, rel_pay, stays_step}
+use Rattle.cajita_simulation.proofs.Laws.{ValueLaw, ValueBody, NextValue, Throws, value_from, value_since, Cont, Cont', M, room_part, with_part}
 use Rattle.cajita_simulation.proofs.Calls.{callee_match}
 use Rattle.cajita_simulation.proofs.Records.{new_array_match}
-use Rattle.cajita_simulation.proofs.Rows.{EndsPlainly}
 use Rattle.cajita_simulation.proofs.Forms.Values.{Values}
 use Rattle.cajita_simulation.proofs.Forms.Items.{items_match}
 use Rattle.cajita_simulation.proofs.Forms.Key.{key_match}
 use Rattle.cajita_simulation.proofs.Forms.Call.{tail_next}
 use Rattle.cajita_simulation.proofs.Calling.Laws.{ClosureLaw, NativeLaw}
-use Rattle.cajita_simulation.proofs.Calling.Calls.{Looked, EndsCalling, IsCalling, calling_match}
+use Rattle.cajita_simulation.proofs.Calling.Calls.{EndsCalling, IsCalling, calling_match}
 
 -- the rows: what they call was looked at just before
 

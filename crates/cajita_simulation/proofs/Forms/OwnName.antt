@@ -1,5 +1,5 @@
 -- Function expressions with a name of their own, which stands in a scope around the function: `function f(a) {..}` is `___.func(function f(a){..})`.
-use Rattle.std.proofs.Common.{◌≡◌, ℕ, suc, ◌+◌, ◌*◌, ◌≤◌, ◌<◌, Bool, true, false, List, [], ◌∷◌, ◌++◌, length, Option, Some, None, cond, refl, sym, ap, ◌∙◌, subst, arith}
+use Rattle.std.proofs.Common.{◌≡◌, ℕ, suc, ◌+◌, ◌*◌, ◌≤◌, ◌<◌, Bool, true, false, List, [], ◌∷◌, ◌++◌, length, Some, None, cond, refl, sym, ap, ◌∙◌, subst, arith}
 use Rattle.std.specs.Prelude.{slice_get, codes, is_some, not, ◌&&◌, ◌||◌}
 use Rattle.std.specs.Cmp.Lexicographic.{same_text}
 use Rattle.std.proofs.lemmas.List.{length-append}
@@ -13,16 +13,13 @@ use Rattle.es3_heap.specs.Properties.{find}
 use Rattle.es3_heap.specs.Making.{count_at}
 use Rattle.es3_language.specs.Store as store
 use Rattle.es3_language.specs.Store.{Store, Code, own_name, name_value, with_scope, with_code}
-use Rattle.es3_language.specs.Arguments.{is_fixed}
 use Rattle.es3_language.specs.Hoisting.{code_of}
-use Rattle.es3_language.specs.Meaning as Target
 use Rattle.cajita_tree.specs.Tree as c
 use Rattle.cajita_rewrite.specs.Rewrite.{rewritten, runtime_name, runtime_call, single}
 use Rattle.cajita_meaning.specs.World as World
 use Rattle.cajita_meaning.specs.World.{Pairs, a_closure, World as State, next_name, next_scope}
 use Rattle.cajita_meaning.specs.Direct.{Item, made}
 use Rattle.heap_rows.specs.Marks.{simple_mark}
-use Rattle.heap_rows.specs.Opening.{runtime_id}
 use Rattle.module_loader.specs.Page.{Kept}
 use Rattle.row_simulation.proofs.Relation as row_relation
 use Rattle.row_simulation.proofs.Changes.{room, last_kept}

@@ -1,5 +1,5 @@
 -- Statements that are themselves over rewritten parts: expressions, `throw`, jumps; an expression statement directly in the module is `moduleResult___=e;`.
-use Rattle.std.proofs.Common.{◌≡◌, ℕ, suc, ◌≤◌, ◌<◌, List, [], Option, Some, None, refl, sym, ap, subst, arith}
+use Rattle.std.proofs.Common.{◌≡◌, ℕ, suc, List, [], Option, Some, None, refl, sym, ap, subst, arith}
 use Rattle.std.specs.Prelude.{is_some}
 use Rattle.plans.specs.Plans.{ends, bind}
 use Rattle.matching.proofs.Rules.{right_enter}

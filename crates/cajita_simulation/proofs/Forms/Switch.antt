@@ -1,5 +1,5 @@
 -- `switch`: the clause whose value is strictly equal, and the statements from there on.
-use Rattle.std.proofs.Common.{◌≡◌, ℕ, suc, ◌+◌, ◌≤◌, ◌<◌, Bool, true, false, List, [], ◌∷◌, Option, Some, None, cond, refl, sym, subst, arith}
+use Rattle.std.proofs.Common.{◌≡◌, ℕ, suc, ◌+◌, ◌≤◌, ◌<◌, true, false, List, [], ◌∷◌, Option, None, cond, refl, sym, subst, arith}
 use Rattle.plans.specs.Plans.{bind}
 use Rattle.acts.specs.Acts.{put, Places}
 use Rattle.es3_tree.specs.Tree as t
@@ -22,7 +22,7 @@ use Rattle.cajita_simulation.proofs.Laws.{Jumps, in_switch, Targets, ValueLaw, B
 use Rattle.cajita_simulation.proofs.Forms.Values.{Values}
 use Rattle.cajita_simulation.proofs.Forms.List.{Effects, list_match}
 use Rattle.cajita_simulation.proofs.Forms.Loop.{to_same}
-use Rattle.cajita_simulation.proofs.Forms.Endings.{EndIs, All, each, ended}
+use Rattle.cajita_simulation.proofs.Forms.Endings.{EndIs, each, ended}
 
 -- how a clause ends
 abbrev clause_plan : List (List ℕ) → (ℕ → Source.Act) → Here → Source.Completion → World → Source.Plan

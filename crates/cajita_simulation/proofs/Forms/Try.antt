@@ -1,5 +1,5 @@
 -- `try`: what an ending goes through, a `catch` and a `finally`.
-use Rattle.std.proofs.Common.{◌≡◌, ℕ, suc, ◌+◌, ◌≤◌, ◌<◌, true, false, List, [], ◌∷◌, length, Option, Some, None, refl, sym, subst, arith}
+use Rattle.std.proofs.Common.{◌≡◌, ℕ, suc, ◌+◌, ◌≤◌, ◌<◌, true, false, List, [], None, refl, sym, subst, arith}
 use Rattle.plans.specs.Plans.{bind, ends}
 use Rattle.es3_tree.specs.Tree as t
 use Rattle.es3_language.specs.Store.{Store}
@@ -14,10 +14,10 @@ use Rattle.module_loader.specs.Page.{Kept}
 use Rattle.cajita_simulation.specs.Guest.{Guest}
 use Rattle.cajita_simulation.proofs.Doing as Source
 use Rattle.cajita_simulation.proofs.Relation.{EsValue, Val, Here, env_of, Tags, Temps, Rel, Stays, stays_refl, stays_trans, rel_less}
-use Rattle.cajita_simulation.proofs.Catching.{catching, catch_store, catch_world, catch_tags, rel_catch, stays_catch, rel_back}
+use Rattle.cajita_simulation.proofs.Catching.{catching, catch_store, catch_world, rel_catch, stays_catch, rel_back}
 use Rattle.cajita_simulation.proofs.Laws.{Jumps, Targets, BareBody, bare, NextEffect, effect_from, Cont, Cont', M, Room, room_part}
 use Rattle.cajita_simulation.proofs.Forms.List.{Effects, list_match}
-use Rattle.cajita_simulation.proofs.Forms.Endings.{EndIs, end_keep, All, each, ended}
+use Rattle.cajita_simulation.proofs.Forms.Endings.{EndIs, end_keep, each, ended}
 
 -- the ending that was before a `finally`, with its value at the place 0
 kept_shut : (H : Here) (e : Source.Completion) (w : World) → Source.act_plan H 1 (Source.kept (Source.values_of (Source.shut e))) (Direct.without_value (Source.shape_of (Source.shut e)) 0) w ≡ ends (Source.shut e) w

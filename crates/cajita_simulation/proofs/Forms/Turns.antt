@@ -1,5 +1,5 @@
 -- What the acts of a loop do, as plans, at whatever places they stand.
-use Rattle.std.proofs.Common.{◌≡◌, ℕ, suc, Bool, true, false, List, [], ◌∷◌, Option, Some, None, cond, refl, ap, ◌∙◌}
+use Rattle.std.proofs.Common.{◌≡◌, ℕ, suc, Bool, true, false, List, [], ◌∷◌, Option, Some, None, cond, refl, ap}
 use Rattle.std.proofs.Math.Path.{fun_ext}
 use Rattle.plans.specs.Plans.{ends, enter}
 use Rattle.acts.specs.Acts.{Places, part, put}

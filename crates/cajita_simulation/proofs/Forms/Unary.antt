@@ -1,12 +1,11 @@
 -- Operators before a value (ES3 11.4) but `delete`; `typeof` takes its operand as a reference.
-use Rattle.std.proofs.Common.{◌≡◌, ℕ, zero, suc, ◌+◌, ◌≤◌, ◌<◌, true, List, [], ◌∷◌, refl, sym, ap, ◌∙◌, subst, arith}
+use Rattle.std.proofs.Common.{◌≡◌, ℕ, zero, suc, ◌≤◌, ◌<◌, true, List, [], ◌∷◌, refl, sym, subst, arith}
 use Rattle.plans.specs.Plans.{bind, enter}
 use Rattle.matching.proofs.Rules.{both_cut, both_enter}
 use Rattle.es3_tree.specs.Tree as t
 use Rattle.es3_tree.specs.declared.UnOp.{UnOp}
 use Rattle.es3_tree.specs.declared.UnOp.TheVariants as un
 use Rattle.es3_language.specs.Store.{Store}
-use Rattle.es3_language.specs.Operators.{convert}
 use Rattle.es3_language.specs.References.{slot}
 use Rattle.es3_language.specs.Expressions.{type_plan, type_of_value, convert_plan}
 use Rattle.es3_language.specs.Meaning as Target
@@ -17,10 +16,10 @@ use Rattle.cajita_meaning.specs.Direct.{Item}
 use Rattle.module_loader.specs.Page.{Kept}
 use Rattle.cajita_simulation.specs.Guest.{GuestName}
 use Rattle.cajita_simulation.proofs.Doing as Source
-use Rattle.cajita_simulation.proofs.Relation.{EsValue, Val, Here, env_of, Tags, Temps, Rel, Stays, rel_both, rel_less, stays_refl, stays_step, stays_trans}
+use Rattle.cajita_simulation.proofs.Relation.{EsValue, Val, Here, env_of, Tags, Temps, Rel, rel_both, stays_refl, stays_step}
 use Rattle.cajita_simulation.proofs.Slots.{slot_target}
 use Rattle.cajita_simulation.proofs.Writes.{find}
-use Rattle.cajita_simulation.proofs.Laws.{ValueLaw, ValueBody, NextValue, value_from, value_since, Room, room_part, Throws, with_part, give, steps_hold, Cont, Cont', M}
+use Rattle.cajita_simulation.proofs.Laws.{ValueLaw, ValueBody, NextValue, value_from, value_since, Room, with_part, give, steps_hold, Cont, Cont', M}
 use Rattle.cajita_simulation.proofs.Operators.{unary_match}
 
 -- an operator that takes the value of its operand

@@ -1,14 +1,12 @@
 -- A variable that is read and written: `x op= e`, `++x`, `x++` (ES3 11.13.2, 11.3, 11.4.4, 11.4.5).
-use Rattle.std.proofs.Common.{◌≡◌, ℕ, suc, ◌+◌, ◌≤◌, ◌<◌, Bool, true, false, List, [], ◌∷◌, Some, refl, sym, ap, ◌∙◌, subst, arith}
+use Rattle.std.proofs.Common.{◌≡◌, ℕ, suc, ◌+◌, Bool, true, false, List, [], ◌∷◌, Some, refl, sym, subst, arith}
 use Rattle.plans.specs.Plans.{bind}
 use Rattle.matching.proofs.Rules.{right_enter}
 use Rattle.es3_tree.specs.Tree as t
 use Rattle.es3_tree.specs.declared.BinOp.{BinOp}
-use Rattle.es3_tree.specs.declared.UnOp.TheVariants as un
 use Rattle.es3_convert.specs.Numbers.{number_of}
 use Rattle.es3_language.specs.Store.{Store}
 use Rattle.es3_language.specs.References.{slot, resolve}
-use Rattle.es3_language.specs.Operators.{convert}
 use Rattle.es3_language.specs.Expressions.{on_read, compound_to, compound_value, step_plan, step_value, write_plan}
 use Rattle.es3_language.specs.Meaning as Target
 use Rattle.cajita_tree.specs.Tree as c
@@ -20,11 +18,10 @@ use Rattle.row_simulation.specs.OperatorLaw.{IsOfValues, next_of}
 use Rattle.row_simulation.proofs.Operators.Steps.{before_law, behind_law}
 use Rattle.cajita_simulation.specs.Guest.{GuestName}
 use Rattle.cajita_simulation.proofs.Doing as Source
-use Rattle.cajita_simulation.proofs.Relation.{EsValue, Val, Here, env_of, Tags, Temps, Place, Rel, Stays, val_keep, rel_pay, rel_less, stays_refl, stays_step, stays_trans}
-use Rattle.cajita_simulation.proofs.Scopes.{FoundAt}
+use Rattle.cajita_simulation.proofs.Relation.{EsValue, Val, Here, env_of, Tags, Temps, Place, Rel, val_keep, rel_pay, stays_step, stays_trans}
 use Rattle.cajita_simulation.proofs.Writes.{find}
 use Rattle.cajita_simulation.proofs.Slots.{slot_target}
-use Rattle.cajita_simulation.proofs.Laws.{ValueLaw, ValueBody, NextValue, value_from, value_since, room_part, with_part, Cont, Cont', M}
+use Rattle.cajita_simulation.proofs.Laws.{ValueLaw, ValueBody, value_since, room_part, with_part, Cont, Cont', M}
 use Rattle.cajita_simulation.proofs.Operators.{binary_match, number_match, next_match}
 use Rattle.cajita_simulation.proofs.Forms.Assign.{written_match, found_later}
 

@@ -1,5 +1,5 @@
 -- The names of a module's function when its imports are there, beside those of the direct meaning.
-use Rattle.std.proofs.Common.{◌≡◌, ℕ, zero, suc, ◌<◌, Bool, true, false, List, [], ◌∷◌, Option, Some, None, cond, refl, sym, ap, ◌∙◌, subst, arith}
+use Rattle.std.proofs.Common.{◌≡◌, ℕ, zero, suc, ◌<◌, Bool, true, false, List, [], ◌∷◌, Option, Some, None, refl, sym, ap, ◌∙◌, subst, arith}
 use Rattle.std.specs.Prelude.{is_some, ◌||◌}
 use Rattle.std.specs.Cmp.Lexicographic.{same_text}
 use Rattle.caja_units.specs.Units.{same_units, is_hidden}
@@ -9,7 +9,7 @@ use Rattle.es3_heap.specs.Objects.{Objects}
 use Rattle.es3_language.specs.Store.{Names, name_value, with_name, with_vars, first_names}
 use Rattle.es3_language.specs.Arguments.{is_arguments}
 use Rattle.cajita_tree.specs.Tree as c
-use Rattle.cajita_rewrite.specs.Rewrite.{runtime_name, imports_name, result_name, temp_name, temps}
+use Rattle.cajita_rewrite.specs.Rewrite.{runtime_name, result_name, temp_name, temps}
 use Rattle.cajita_meaning.specs.World as world
 use Rattle.cajita_meaning.specs.World.{Value, Pairs, undefined, value_at, with_value, with_params}
 use Rattle.heap_rows.specs.Opening.{runtime_id}
@@ -18,7 +18,7 @@ use Rattle.cajita_simulation.proofs.Heaps.Names.{name_value-with_name, name_valu
 use Rattle.cajita_simulation.proofs.Temporaries.{temp_hidden}
 use Rattle.cajita_simulation.proofs.Relation.{EsValue, Val, Vals, OptVal, ScopeIs}
 use Rattle.cajita_simulation.proofs.Written.{value_at-with_value, value_at-with_value-other}
-use Rattle.cajita_simulation.proofs.Load.Names.{Module, module_vars, Declares, undefined_value, value_at-bound, value_at-unbound, own_names, open_differs, own_never, vars_known, temps_known, result_known, vars_bound, with_vars-bound, hidden_there, open_there, runtime_there}
+use Rattle.cajita_simulation.proofs.Load.Names.{Module, module_vars, Declares, undefined_value, value_at-bound, value_at-unbound, own_names, own_never, vars_known, temps_known, result_known, vars_bound, hidden_there, open_there, runtime_there}
 use Rattle.cajita_simulation.proofs.Load.Entering.{module_code, first_values}
 
 -- one of so many temporaries

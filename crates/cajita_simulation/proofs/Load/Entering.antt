@@ -11,7 +11,7 @@ use Rattle.es3_heap.specs.Properties.{own, lookup, value_of, get}
 use Rattle.es3_heap.specs.Reading.{property}
 use Rattle.es3_language.specs.Store as store
 use Rattle.es3_language.specs.Store.{Store, Code, activation, with_heap, with_code, first_names}
-use Rattle.es3_language.specs.Hoisting.{functions_of, code_of}
+use Rattle.es3_language.specs.Hoisting.{code_of}
 use Rattle.es3_language.specs.References.{member, named, global_name}
 use Rattle.es3_language.specs.Expressions.{apply_callable}
 use Rattle.es3_language.specs.Meaning as Target

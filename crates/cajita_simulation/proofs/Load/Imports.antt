@@ -1,5 +1,5 @@
 -- The statements that read what a module imports, each in turn: `var N=___.readImport(IMPORTS___,"N");`.
-use Rattle.std.proofs.Common.{◌≡◌, ℕ, suc, ◌+◌, ◌*◌, ◌<◌, true, false, List, [], ◌∷◌, ◌++◌, length, Option, Some, None, refl, sym, ap, ◌∙◌, subst, arith}
+use Rattle.std.proofs.Common.{◌≡◌, ℕ, suc, ◌+◌, ◌*◌, true, false, List, [], ◌∷◌, ◌++◌, length, Option, Some, None, refl, sym, ap, ◌∙◌, subst, arith}
 use Rattle.std.specs.Prelude.{codes, map, slice_get, slice_set, is_some}
 use Rattle.std.proofs.Math.Seq.{set-append_seam}
 use Rattle.plans.specs.Plans.{bind}
@@ -16,22 +16,21 @@ use Rattle.es3_language.specs.Arguments.{is_fixed}
 use Rattle.es3_language.specs.References.{slot, resolve, reference, member, write}
 use Rattle.es3_language.specs.Meaning as Target
 use Rattle.rows.specs.Nodes.{Rules}
-use Rattle.cajita_rewrite.specs.Rewrite.{runtime_name, imports_name, runtime_call, pair, import_stmts}
+use Rattle.cajita_rewrite.specs.Rewrite.{runtime_name, imports_name, pair, import_stmts}
 use Rattle.cajita_meaning.specs.Direct.{Item}
 use Rattle.heap_rows.specs.Opening.{runtime_id, imports_id}
 use Rattle.module_loader.specs.Page.{page_table, first_kept}
 use Rattle.cajita_simulation.specs.Guest.{is_among, GuestName}
 use Rattle.cajita_simulation.proofs.Doing as Source
 use Rattle.cajita_simulation.proofs.Heaps.Lists.{slice_get-push}
-use Rattle.cajita_simulation.proofs.Heaps.Names.{name_value-with_name, name_value-with_name-other}
+use Rattle.cajita_simulation.proofs.Heaps.Names.{name_value-with_name-other}
 use Rattle.cajita_simulation.proofs.Heaps.Opened.{IsOpened}
 use Rattle.cajita_simulation.proofs.Heaps.Guards.{read_import-guard, guard_call}
-use Rattle.cajita_simulation.proofs.Relation.{EsValue, names_at}
+use Rattle.cajita_simulation.proofs.Relation.{EsValue}
 use Rattle.cajita_simulation.proofs.Laws.{Cont', sides}
 use Rattle.cajita_simulation.proofs.Slots.{slot_plan}
 use Rattle.cajita_simulation.proofs.Entering.{names_new}
 use Rattle.cajita_simulation.proofs.Forms.Var.{name_written}
-use Rattle.cajita_simulation.proofs.Load.Names.{open_differs}
 use Rattle.cajita_simulation.proofs.Load.Bound.{imported}
 
 -- a name of the last scope is written there

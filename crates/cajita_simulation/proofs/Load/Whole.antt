@@ -1,5 +1,5 @@
 -- The load of a module and the run of its program are matched, at any related state.
-use Rattle.std.proofs.Common.{◌≡◌, ℕ, zero, suc, ◌+◌, ◌*◌, ◌≤◌, ◌<◌, true, List, [], ◌∷◌, length, Option, Some, None, cond, refl, sym, ap, ◌∙◌, subst, arith}
+use Rattle.std.proofs.Common.{◌≡◌, ℕ, zero, suc, ◌+◌, ◌*◌, ◌<◌, true, List, [], ◌∷◌, length, Option, Some, None, cond, refl, sym, ap, ◌∙◌, subst, arith}
 use Rattle.std.specs.Prelude.{is_some, false, nat_eq, map, ◌||◌}
 use Rattle.std.proofs.lemmas.Bool.Decides.{nat_tests}
 use Rattle.plans.specs.Plans.{ends, enter, bind}
@@ -23,7 +23,7 @@ use Rattle.cajita_simulation.proofs.Heaps.Functions.{opened_kept-function}
 use Rattle.module_loader.specs.Page.{Kept, first_kept}
 use Rattle.cajita_simulation.specs.Guest.{is_among, Guest}
 use Rattle.cajita_simulation.proofs.Doing as Source
-use Rattle.cajita_simulation.proofs.Relation.{EsValue, Vals, Here, env_of, Tags, Temps, declared, unknown, holds, SlotIs, Between, In, names_at, related_steps, related_between}
+use Rattle.cajita_simulation.proofs.Relation.{EsValue, Vals, Here, env_of, Tags, Temps, declared, holds, SlotIs, Between, In, names_at, related_steps, related_between}
 use Rattle.cajita_simulation.proofs.Calls.{opened_of}
 use Rattle.cajita_simulation.proofs.Slots.{slot_plan}
 use Rattle.cajita_simulation.proofs.Laws.{no_jumps, Targets, Cont', sides, after, HasResult, Room}
