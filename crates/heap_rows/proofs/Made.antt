@@ -12,12 +12,11 @@ use Rattle.es3_heap.specs.declared.value.Tag.TheVariants as tag
 use Rattle.es3_heap.specs.Objects.{Property, Callable, Object, Objects, plain_attrs, hidden_attrs, props_of}
 use Rattle.es3_heap.specs.Properties.{define, defined, with_props}
 use Rattle.es3_heap.specs.Making.{tagged, with_tag, awaits_name}
-use Rattle.rows.specs.Rows as r
 use Rattle.rows.specs.Rows.{Native}
 use Rattle.rows.specs.Names.{Tools, of_cajita, of_math, tools}
 use Rattle.heap_rows.specs.Marks.{marked, freeze, frozen_mark, without_set_marks}
 use Rattle.heap_rows.specs.Natives.{kind_of, tag_of_native, tag_of_tools}
-use Rattle.heap_rows.specs.Opening.{first, first_count, common, place_of, with_tools, with_record, with_native, with_natives, opened, named_function, with_module, begun, fixed_values, first_say, imports_id, opened_for_one}
+use Rattle.heap_rows.specs.Opening.{first, first_count, common, place_of, with_tools, with_record, with_native, with_natives, opened, own_function, with_module, begun, fixed_values, first_say, imports_id, opened_for_one}
 use Rattle.heap_rows.specs.Doing.{copied, record_object as record_of}
 
 -- the last object of a store
@@ -144,8 +143,8 @@ opened_long =
 
 pub module_long : (m : ℕ) (h : Objects) → length (with_module m h).list ≡ length h.list + 2
 module_long m h =
-    let say = named_function r.say (tag.Own m 0) in
-    let later = named_function r.later (tag.Own m 1) in
+    let say = own_function m 0 in
+    let later = own_function m 1 in
     let a = length-append h.list (say ∷ []) in
     let b = length-append (h.list ++ say ∷ []) (later ∷ []) in
     omega (arith, a, b)

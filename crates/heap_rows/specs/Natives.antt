@@ -1,5 +1,5 @@
 -- The built-in functions among the objects of ES3: the name and the kind of each.
-use Rattle.std.specs.Prelude.{ℕ, Bool, true, false, nat_eq, List, [], ◌∷◌, Option, Some, None, get_or, if◌then◌else◌}
+use Rattle.std.specs.Prelude.{ℕ, ◌+◌, ◌*◌, Bool, true, false, nat_eq, List, [], ◌∷◌, Option, Some, None, get_or, if◌then◌else◌}
 use Rattle.es3_heap.specs.declared.value.FuncKind.{FuncKind}
 use Rattle.es3_heap.specs.declared.value.FuncKind.TheVariants as kind
 use Rattle.es3_heap.specs.declared.value.Receiver.{Receiver as EsReceiver}
@@ -12,6 +12,14 @@ use Rattle.rows.specs.Names.{Tools, of_cajita, of_math, code_of, sort_of}
 -- the two records of built-ins are numbered before them
 abbrev pub number_of : r.Native → ℕ
 number_of f = get_or (code_of f) 0 0
+
+-- a module's own functions and those of a cell are known by numbers behind all others, four for each module and cell: `say` of module m and its `later`, as i is 0 or 1;
+-- `get` of cell c and its `set`, as i is 1 or 2
+abbrev pub own_number : ℕ → ℕ → ℕ
+own_number m i = 4 * m + (128 + i)
+
+abbrev pub cell_number : ℕ → ℕ → ℕ
+cell_number c i = 4 * c + (129 + i)
 
 abbrev pub tag_of_code : List ℕ → Tag
 tag_of_code (n ∷ []) = tag.Built n

@@ -4,6 +4,7 @@ use Rattle.std.specs.Prelude.{ℕ, zero, suc, ◌+◌, ◌≤◌, true, List, []
 use Rattle.es3_heap.specs.declared.value.Value.{Value}
 use Rattle.es3_heap.specs.declared.value.Value.TheVariants.{Obj, Bool, Undefined}
 use Rattle.es3_heap.specs.declared.value.Class.TheVariants as class
+use Rattle.es3_heap.specs.declared.value.FuncKind.{FuncKind}
 use Rattle.es3_heap.specs.declared.value.FuncKind.TheVariants.{Simple}
 use Rattle.es3_heap.specs.declared.value.Proto.TheVariants as proto
 use Rattle.es3_heap.specs.declared.value.Tag.{Tag}
@@ -15,7 +16,7 @@ use Rattle.es3_convert.specs.Conversions.{to_string}
 use Rattle.rows.specs.Rows as r
 use Rattle.rows.specs.Names.{Tools, of_cajita, of_math, tools}
 use Rattle.heap_rows.specs.Marks.{freeze, frozen_mark}
-use Rattle.heap_rows.specs.Natives.{number_of, tag_of_native, tag_of_tools, kind_of}
+use Rattle.heap_rows.specs.Natives.{number_of, own_number, cell_number, tag_of_native, tag_of_tools, kind_of}
 use Rattle.heap_rows.specs.Doing.{Page, record_object, copied}
 
 -- what has no name
@@ -108,12 +109,18 @@ empty_page = record { cells = λ c. Undefined; queues = λ m. [] }
 -- with modules and cells
 
 -- a function that the page makes, with a name
-abbrev pub named_function : r.Native → Tag → Object
-named_function f t = record { class = class.Function; proto = Some 1; callable = Some (record { kind = kind_of f; maker = 0 }); tag = t; props = [] }
+abbrev pub named_function : FuncKind → Tag → Object
+named_function k t = record { class = class.Function; proto = Some 1; callable = Some (record { kind = k; maker = 0 }); tag = t; props = [] }
+
+abbrev pub own_function : ℕ → ℕ → Object
+own_function m i = named_function (Simple (own_number m i)) (tag.Own m i)
+
+abbrev pub cell_function : ℕ → ℕ → Object
+cell_function c i = named_function (Simple (cell_number c i)) (tag.Cell c i)
 
 -- a module's own `say` and `later`
 abbrev pub with_module : ℕ → Objects → Objects
-with_module m h = with_object (with_object h (named_function r.say (tag.Own m 0))) (named_function r.later (tag.Own m 1))
+with_module m h = with_object (with_object h (own_function m 0)) (own_function m 1)
 
 -- the frozen record of a cell, whose functions stand at this place and at the next one
 abbrev pub cell_record : ℕ → ℕ → Object
@@ -126,7 +133,7 @@ cell_record c at = record {
 }
 
 abbrev pub with_cell : ℕ → Objects → Objects
-with_cell c h = with_object (with_object (with_object h (named_function r.get (tag.Cell c 1))) (named_function r.set (tag.Cell c 2))) (cell_record c (length h.list))
+with_cell c h = with_object (with_object (with_object h (cell_function c 1)) (cell_function c 2)) (cell_record c (length h.list))
 
 abbrev pub with_modules : ℕ → Objects → Objects
 with_modules zero h = h

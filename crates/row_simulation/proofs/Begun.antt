@@ -1,8 +1,9 @@
 -- A page that begins with modules and cells: each object with a name that is added leaves what corresponds.
-use Rattle.std.proofs.Common.{◌≡◌, ℕ, zero, suc, ◌+◌, ◌<◌, true, false, List, [], ◌∷◌, ◌++◌, length, Option, Some, None, refl, sym, ap, ◌∙◌, subst, arith}
+use Rattle.std.proofs.Common.{◌≡◌, ℕ, zero, suc, ◌+◌, ◌<◌, true, List, [], ◌∷◌, ◌++◌, length, Option, Some, None, refl, sym, ap, ◌∙◌, subst, arith}
 use Rattle.std.specs.Prelude.{codes}
 use Rattle.std.proofs.lemmas.Option.{none-some}
 use Rattle.std.proofs.lemmas.List.{length-append}
+use Rattle.es3_heap.specs.declared.value.FuncKind.TheVariants.{Simple}
 use Rattle.es3_heap.specs.declared.value.Tag.{Tag}
 use Rattle.es3_heap.specs.declared.value.Tag.TheVariants as tag
 use Rattle.es3_heap.specs.Objects as heap
@@ -12,9 +13,8 @@ use Rattle.rows.specs.Rows as r
 use Rattle.cajita_meaning.specs.World.{Name, cell_name, own_name, built_name, Object, empty_world}
 use Rattle.cajita_meaning.specs.Doing.{get_and_set}
 use Rattle.heap_rows.specs.Marks.{read_mark, set_mark}
-use Rattle.heap_rows.specs.Natives.{kind_of}
-use Rattle.heap_rows.specs.Doing.{sort_seen}
-use Rattle.heap_rows.specs.Opening.{first, first_count, place_of, opened, named_function, cell_record, with_module, with_cell, with_modules, begun, empty_page}
+use Rattle.heap_rows.specs.Natives.{own_number, cell_number}
+use Rattle.heap_rows.specs.Opening.{first, first_count, place_of, opened, named_function, own_function, cell_function, cell_record, with_module, with_cell, with_modules, begun, empty_page}
 use Rattle.row_simulation.specs.RowLaw.{PagesAre}
 use Rattle.row_simulation.proofs.Frozen.{frozen_props, all_guests, no_read, no_set, frozen_are}
 use Rattle.row_simulation.proofs.Names.{name_there, name_at, known_name, own_known, cell_known}
@@ -89,11 +89,11 @@ fresh_still h x n fresh other i t = cases_at h.list x i (λ q. heap.tag_of q ≡
 pub proto_few : (q p : ℕ) → q < first_count → (let x : Option ℕ = Some q in x) ≡ Some p → p < length first.list
 proto_few q p lt e = let f = up_few q p lt e in let many = first_many in omega (arith, f, many)
 
-function_is : (f : r.Native) (t : Tag) → sort_seen false (Some (record { kind = kind_of f; maker = 0 })) ≡ r.a_function r.simple → IsFunction r.simple (named_function f t)
-function_is f t e = record { class = refl; proto = refl; kind = e; no_text = refl; no_value = refl }
+function_is : (number : ℕ) (t : Tag) → IsFunction r.simple (named_function (Simple number) t)
+function_is number t = record { class = refl; proto = refl; kind = refl; no_text = refl; no_value = refl }
 
-function_fresh : (objects : ℕ → List Object) (h : Objects) (n : Name) (f : r.Native) → name_at (tag_of_name n) ≡ Some n → Fresh h n → IsNamed objects h n (named_function f (tag_of_name n)) → ((m k : ℕ) → tag_of_name n ≡ tag.Made m k → ⊥) → IsFresh first objects h n (named_function f (tag_of_name n))
-function_fresh objects h n f known fresh is unmade = record { known = known; tagged = refl; fresh = fresh; is = is; above = λ p e. proto_few 1 p (omega arith) e; reads = λ k. refl; sets = λ k. refl; unmade = unmade }
+function_fresh : (objects : ℕ → List Object) (h : Objects) (n : Name) (number : ℕ) → name_at (tag_of_name n) ≡ Some n → Fresh h n → IsNamed objects h n (named_function (Simple number) (tag_of_name n)) → ((m k : ℕ) → tag_of_name n ≡ tag.Made m k → ⊥) → IsFresh first objects h n (named_function (Simple number) (tag_of_name n))
+function_fresh objects h n number known fresh is unmade = record { known = known; tagged = refl; fresh = fresh; is = is; above = λ p e. proto_few 1 p (omega arith) e; reads = λ k. refl; sets = λ k. refl; unmade = unmade }
 
 pub own_unmade : (n i m k : ℕ) → tag.Own n i ≡ tag.Made m k → ⊥
 own_unmade n i m k e = cc
@@ -150,19 +150,19 @@ own_no_cell m i d j e = cc
 -- a module's `say` and `later`
 module_begins : {n k : ℕ} {h : Objects} → Begins n k h → Begins (suc n) k (with_module n h)
 module_begins {n = n} {k = k} {h = h} b = record {
-  objects = named_added first_added (own_name n 1) _ (function_fresh empty_world.objects h1 (own_name n 1) r.later (own_known n 1) (fresh_still h (named_function r.say (tag.Own n 0)) (own_name n 1) (fresh 1) (λ e. let q = (own_apart n 0 n 1 e).1 in omega (arith, q))) (function_is r.later (tag.Own n 1) refl) (own_unmade n 1));
-  modules = λ m i j t. was_or_is h1 (named_function r.later (tag.Own n 1)) (own_name m i) (m < suc n) (λ j t. was_or_is h (named_function r.say (tag.Own n 0)) (own_name m i) (m < suc n) (λ j t. let q = b.modules m i j t in omega (arith, q)) (λ e. let q = (own_apart n 0 m i e).0 in omega (arith, q)) j t) (λ e. let q = (own_apart n 1 m i e).0 in omega (arith, q)) j t;
-  cells = λ c i j t. was_or_is h1 (named_function r.later (tag.Own n 1)) (cell_name c i) (c < k) (λ j t. was_or_is h (named_function r.say (tag.Own n 0)) (cell_name c i) (c < k) (λ j t. b.cells c i j t) (λ e. absurd (own_no_cell n 0 c i e)) j t) (λ e. absurd (own_no_cell n 1 c i e)) j t;
+  objects = named_added first_added (own_name n 1) _ (function_fresh empty_world.objects h1 (own_name n 1) (own_number n 1) (own_known n 1) (fresh_still h (own_function n 0) (own_name n 1) (fresh 1) (λ e. let q = (own_apart n 0 n 1 e).1 in omega (arith, q))) (function_is (own_number n 1) (tag.Own n 1)) (own_unmade n 1));
+  modules = λ m i j t. was_or_is h1 (own_function n 1) (own_name m i) (m < suc n) (λ j t. was_or_is h (own_function n 0) (own_name m i) (m < suc n) (λ j t. let q = b.modules m i j t in omega (arith, q)) (λ e. let q = (own_apart n 0 m i e).0 in omega (arith, q)) j t) (λ e. let q = (own_apart n 1 m i e).0 in omega (arith, q)) j t;
+  cells = λ c i j t. was_or_is h1 (own_function n 1) (cell_name c i) (c < k) (λ j t. was_or_is h (own_function n 0) (cell_name c i) (c < k) (λ j t. b.cells c i j t) (λ e. absurd (own_no_cell n 0 c i e)) j t) (λ e. absurd (own_no_cell n 1 c i e)) j t;
 }
   where
     h1 : Objects
-    h1 = with_object h (named_function r.say (tag.Own n 0))
+    h1 = with_object h (own_function n 0)
 
     fresh : (i : ℕ) → Fresh h (own_name n i)
     fresh i j t = let q = b.modules n i j t in omega (arith, q)
 
-    first_added : ObjectsAre first place_of empty_world.objects (with_object h (named_function r.say (tag.Own n 0))) 0
-    first_added = named_added b.objects (own_name n 0) _ (function_fresh empty_world.objects h (own_name n 0) r.say (own_known n 0) (fresh 0) (function_is r.say (tag.Own n 0) refl) (own_unmade n 0))
+    first_added : ObjectsAre first place_of empty_world.objects (with_object h (own_function n 0)) 0
+    first_added = named_added b.objects (own_name n 0) _ (function_fresh empty_world.objects h (own_name n 0) (own_number n 0) (own_known n 0) (fresh 0) (function_is (own_number n 0) (tag.Own n 0)) (own_unmade n 0))
 
 cell_no_own : (m i d j : ℕ) → tag.Cell m i ≡ tag.Own d j → ⊥
 cell_no_own m i d j e = cc
@@ -175,34 +175,34 @@ module _ {n k : ℕ} {h : Objects} (b : Begins n k h) where
   apart_at : (i j : ℕ) → (i ≡ j → ⊥) → tag.Cell k i ≡ tag.Cell k j → ⊥
   apart_at i j ne e = ne (cell_apart k i k j e).1
 
-  one_more : length (with_object h (named_function r.get (tag.Cell k 1))).list ≡ length h.list + 1
-  one_more = length-append h.list (named_function r.get (tag.Cell k 1) ∷ [])
+  one_more : length (with_object h (cell_function k 1)).list ≡ length h.list + 1
+  one_more = length-append h.list (cell_function k 1 ∷ [])
 
-  got_there : Named (with_object (with_object h (named_function r.get (tag.Cell k 1))) (named_function r.set (tag.Cell k 2))) (cell_name k 1) (length h.list)
-  got_there = ap heap.tag_of (get-push-other (h.list ++ named_function r.get (tag.Cell k 1) ∷ []) (length h.list) (named_function r.set (tag.Cell k 2)) (let l = one_more in omega (arith, l)) ∙ get-push h.list (named_function r.get (tag.Cell k 1)))
+  got_there : Named (with_object (with_object h (cell_function k 1)) (cell_function k 2)) (cell_name k 1) (length h.list)
+  got_there = ap heap.tag_of (get-push-other (h.list ++ cell_function k 1 ∷ []) (length h.list) (cell_function k 2) (let l = one_more in omega (arith, l)) ∙ get-push h.list (cell_function k 1))
 
-  set_there : Named (with_object (with_object h (named_function r.get (tag.Cell k 1))) (named_function r.set (tag.Cell k 2))) (cell_name k 2) (length h.list + 1)
-  set_there = subst (Named (with_object (with_object h (named_function r.get (tag.Cell k 1))) (named_function r.set (tag.Cell k 2))) (cell_name k 2)) one_more (ap heap.tag_of (get-push (h.list ++ named_function r.get (tag.Cell k 1) ∷ []) (named_function r.set (tag.Cell k 2))))
+  set_there : Named (with_object (with_object h (cell_function k 1)) (cell_function k 2)) (cell_name k 2) (length h.list + 1)
+  set_there = subst (Named (with_object (with_object h (cell_function k 1)) (cell_function k 2)) (cell_name k 2)) one_more (ap heap.tag_of (get-push (h.list ++ cell_function k 1 ∷ []) (cell_function k 2)))
 
-  with_get : ObjectsAre first place_of empty_world.objects (with_object h (named_function r.get (tag.Cell k 1))) 0
-  with_get = named_added b.objects (cell_name k 1) _ (function_fresh empty_world.objects h (cell_name k 1) r.get (cell_known k 1) (fresh 1) (function_is r.get (tag.Cell k 1) refl) (cell_unmade k 1))
+  with_get : ObjectsAre first place_of empty_world.objects (with_object h (cell_function k 1)) 0
+  with_get = named_added b.objects (cell_name k 1) _ (function_fresh empty_world.objects h (cell_name k 1) (cell_number k 1) (cell_known k 1) (fresh 1) (function_is (cell_number k 1) (tag.Cell k 1)) (cell_unmade k 1))
 
-  fresh_one : (i : ℕ) → (1 ≡ i → ⊥) → Fresh (with_object h (named_function r.get (tag.Cell k 1))) (cell_name k i)
-  fresh_one i ne = fresh_still h (named_function r.get (tag.Cell k 1)) (cell_name k i) (fresh i) (apart_at 1 i ne)
+  fresh_one : (i : ℕ) → (1 ≡ i → ⊥) → Fresh (with_object h (cell_function k 1)) (cell_name k i)
+  fresh_one i ne = fresh_still h (cell_function k 1) (cell_name k i) (fresh i) (apart_at 1 i ne)
 
-  with_set : ObjectsAre first place_of empty_world.objects (with_object (with_object h (named_function r.get (tag.Cell k 1))) (named_function r.set (tag.Cell k 2))) 0
-  with_set = named_added with_get (cell_name k 2) _ (function_fresh empty_world.objects (with_object h (named_function r.get (tag.Cell k 1))) (cell_name k 2) r.set (cell_known k 2) (fresh_one 2 (λ e. omega (arith, e))) (function_is r.set (tag.Cell k 2) refl) (cell_unmade k 2))
+  with_set : ObjectsAre first place_of empty_world.objects (with_object (with_object h (cell_function k 1)) (cell_function k 2)) 0
+  with_set = named_added with_get (cell_name k 2) _ (function_fresh empty_world.objects (with_object h (cell_function k 1)) (cell_name k 2) (cell_number k 2) (cell_known k 2) (fresh_one 2 (λ e. omega (arith, e))) (function_is (cell_number k 2) (tag.Cell k 2)) (cell_unmade k 2))
 
   with_all : ObjectsAre first place_of empty_world.objects (with_cell k h) 0
   with_all = named_added with_set (cell_name k 0) _ (record_fresh empty_world.objects _ k (length h.list) got_there set_there
-      (fresh_still (with_object h (named_function r.get (tag.Cell k 1))) (named_function r.set (tag.Cell k 2)) (cell_name k 0) (fresh_one 0 (λ e. omega (arith, e))) (apart_at 2 0 (λ e. omega (arith, e)))))
+      (fresh_still (with_object h (cell_function k 1)) (cell_function k 2) (cell_name k 0) (fresh_one 0 (λ e. omega (arith, e))) (apart_at 2 0 (λ e. omega (arith, e)))))
 
   -- what holds of the names that were there, and of the three new ones
   of_cell : (q : Name) (P : Type 0) → ((j : ℕ) → Named h q j → P) → ((i : ℕ) → tag.Cell k i ≡ tag_of_name q → P) → (j : ℕ) → Named (with_cell k h) q j → P
   of_cell q P was is j t =
-      was_or_is (with_object (with_object h (named_function r.get (tag.Cell k 1))) (named_function r.set (tag.Cell k 2))) (cell_record k (length h.list)) q P
-      (λ j t. was_or_is (with_object h (named_function r.get (tag.Cell k 1))) (named_function r.set (tag.Cell k 2)) q P
-      (λ j t. was_or_is h (named_function r.get (tag.Cell k 1)) q P was (is 1) j t) (is 2) j t) (is 0) j t
+      was_or_is (with_object (with_object h (cell_function k 1)) (cell_function k 2)) (cell_record k (length h.list)) q P
+      (λ j t. was_or_is (with_object h (cell_function k 1)) (cell_function k 2) q P
+      (λ j t. was_or_is h (cell_function k 1) q P was (is 1) j t) (is 2) j t) (is 0) j t
 
   cell_begins : Begins n (suc k) (with_cell k h)
   cell_begins = record {

@@ -15,7 +15,7 @@ use Rattle.cajita_meaning.specs.Imports.{fixed_imports, imported}
 use Rattle.heap_rows.specs.Marks.{read_mark, set_mark}
 use Rattle.heap_rows.specs.Natives.{is_common}
 use Rattle.heap_rows.specs.Doing.{copied, record_object}
-use Rattle.heap_rows.specs.Opening.{first, place_of, place_of_tools, opened, named_function, with_module, begun, empty_page, fixed_values, with_imports, first_say, imports_id, opened_for_one}
+use Rattle.heap_rows.specs.Opening.{first, place_of, place_of_tools, opened, own_function, with_module, begun, empty_page, fixed_values, with_imports, first_say, imports_id, opened_for_one}
 use Rattle.heap_rows.proofs.Made.{opened_long, begun_long}
 use Rattle.row_simulation.specs.RowLaw.{PagesAre}
 use Rattle.row_simulation.proofs.Frozen.{first_guest}
@@ -131,21 +131,21 @@ import_found {h = h} {m = m} {say = say} f k =
 -- a module's own functions, behind the built-in ones
 
 module _ (h : Objects) (m : ℕ) where
-  say_keeps : Keeps h (with_object h (named_function r.say (tag.Own m 0)))
-  say_keeps = added_keeps h (named_function r.say (tag.Own m 0)) (own_unmade m 0)
+  say_keeps : Keeps h (with_object h (own_function m 0))
+  say_keeps = added_keeps h (own_function m 0) (own_unmade m 0)
 
-  later_keeps : Keeps (with_object h (named_function r.say (tag.Own m 0))) (with_module m h)
-  later_keeps = added_keeps (with_object h (named_function r.say (tag.Own m 0))) (named_function r.later (tag.Own m 1)) (own_unmade m 1)
+  later_keeps : Keeps (with_object h (own_function m 0)) (with_module m h)
+  later_keeps = added_keeps (with_object h (own_function m 0)) (own_function m 1) (own_unmade m 1)
 
-  one_more : length (with_object h (named_function r.say (tag.Own m 0))).list ≡ length h.list + 1
-  one_more = length-append h.list (named_function r.say (tag.Own m 0) ∷ [])
+  one_more : length (with_object h (own_function m 0)).list ≡ length h.list + 1
+  one_more = length-append h.list (own_function m 0 ∷ [])
 
   module_there : ((f : r.Native) → is_common f ≡ true → Named h (built_name f) (place_of f)) → ((t : Tools) → Named h (tools_name t) (place_of_tools t)) → FixedThere (with_module m h) m (length h.list)
   module_there natives tools = record {
     natives = λ f common. later_keeps.named (built_name f) _ (say_keeps.named (built_name f) _ (natives f common));
     tools = λ t. later_keeps.named (tools_name t) _ (say_keeps.named (tools_name t) _ (tools t));
-    says = later_keeps.named (own_name m 0) (length h.list) (ap heap.tag_of (get-push h.list (named_function r.say (tag.Own m 0))));
-    delays = subst (Named (with_module m h) (own_name m 1)) one_more (ap heap.tag_of (get-push (with_object h (named_function r.say (tag.Own m 0))).list (named_function r.later (tag.Own m 1))));
+    says = later_keeps.named (own_name m 0) (length h.list) (ap heap.tag_of (get-push h.list (own_function m 0)));
+    delays = subst (Named (with_module m h) (own_name m 1)) one_more (ap heap.tag_of (get-push (with_object h (own_function m 0)).list (own_function m 1)));
   }
 
 -- the page of one module
