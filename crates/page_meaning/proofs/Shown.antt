@@ -151,9 +151,9 @@ made_alike h n i (an_error maker message) o named there is =
 named_alike : (w : State) (h : Objects) (n : Name) (i : ℕ) (o : heap.Object) → Named h n i → heap.object_at h i ≡ Some o → IsNamed w.objects h n o → value_text h (es.Obj i) ≡ object_shown w n
 named_alike w h (made_name m n) i o named there is = made_alike h (made_name m n) i is.object o named there is.is ∙ ap (made_shown (made_name m n)) (sym is.known)
 named_alike w h (cell_name k zero) i o named there is = plain_alike h (cell_name k zero) i class.Object (record { class = ap heap.class_of there ∙ is.class; named = named; nothing = refl })
-named_alike w h (cell_name k (suc j)) i o named there is = plain_alike h (cell_name k (suc j)) i class.Function (record { class = ap heap.class_of there ∙ is.class; named = named; nothing = refl })
-named_alike w h (own_name m j) i o named there is = plain_alike h (own_name m j) i class.Function (record { class = ap heap.class_of there ∙ is.class; named = named; nothing = refl })
-named_alike w h (built_name f) i o named there is = plain_alike h (built_name f) i class.Function (record { class = ap heap.class_of there ∙ is.class; named = named; nothing = refl })
+named_alike w h (cell_name k (suc j)) i o named there is = plain_alike h (cell_name k (suc j)) i class.Function (record { class = ap heap.class_of there ∙ is.1.is.class; named = named; nothing = refl })
+named_alike w h (own_name m j) i o named there is = plain_alike h (own_name m j) i class.Function (record { class = ap heap.class_of there ∙ is.1.is.class; named = named; nothing = refl })
+named_alike w h (built_name f) i o named there is = plain_alike h (built_name f) i class.Function (record { class = ap heap.class_of there ∙ is.1.is.class; named = named; nothing = refl })
 named_alike w h (tools_name t) i o named there is = plain_alike h (tools_name t) i class.Object (record { class = ap heap.class_of there ∙ is.class; named = named; nothing = refl })
 named_alike w h (facet_name root k) i o named there is = absurd is
 named_alike w h (forward_name m p k j) i o named there is = absurd is

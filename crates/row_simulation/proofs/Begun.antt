@@ -18,7 +18,7 @@ use Rattle.heap_rows.specs.Opening.{first, first_count, place_of, opened, named_
 use Rattle.row_simulation.specs.RowLaw.{PagesAre}
 use Rattle.row_simulation.proofs.Frozen.{frozen_props, all_guests, no_read, no_set, frozen_are}
 use Rattle.row_simulation.proofs.Names.{name_there, name_at, known_name, own_known, cell_known}
-use Rattle.row_simulation.proofs.Relation.{Named, tag_of_name, PropsAre, IsFunction, IsNamed, Stands, IsMarked, ObjectsAre, Keeps, named_keep}
+use Rattle.row_simulation.proofs.Relation.{Named, tag_of_name, PropsAre, IsNative, IsNamed, Stands, IsMarked, ObjectsAre, Keeps, named_keep}
 use Rattle.row_simulation.proofs.Changes.{cases_at, get-push, get-push-other}
 use Rattle.row_simulation.proofs.Added.{added_keeps}
 use Rattle.row_simulation.proofs.First.{first_many, up_few}
@@ -89,8 +89,8 @@ fresh_still h x n fresh other i t = cases_at h.list x i (λ q. heap.tag_of q ≡
 pub proto_few : (q p : ℕ) → q < first_count → (let x : Option ℕ = Some q in x) ≡ Some p → p < length first.list
 proto_few q p lt e = let f = up_few q p lt e in let many = first_many in omega (arith, f, many)
 
-function_is : (number : ℕ) (t : Tag) → IsFunction r.simple (named_function (Simple number) t)
-function_is number t = record { class = refl; proto = refl; kind = refl; no_text = refl; no_value = refl }
+function_is : (number : ℕ) (t : Tag) → IsNative r.simple (Simple number) (named_function (Simple number) t)
+function_is number t = record { is = record { class = refl; proto = refl; kind = refl; no_text = refl; no_value = refl }; callable = refl }
 
 function_fresh : (objects : ℕ → List Object) (h : Objects) (n : Name) (number : ℕ) → name_at (tag_of_name n) ≡ Some n → Fresh h n → IsNamed objects h n (named_function (Simple number) (tag_of_name n)) → ((m k : ℕ) → tag_of_name n ≡ tag.Made m k → ⊥) → IsFresh first objects h n (named_function (Simple number) (tag_of_name n))
 function_fresh objects h n number known fresh is unmade = record { known = known; tagged = refl; fresh = fresh; is = is; above = λ p e. proto_few 1 p (omega arith) e; reads = λ k. refl; sets = λ k. refl; unmade = unmade }
@@ -150,7 +150,7 @@ own_no_cell m i d j e = cc
 -- a module's `say` and `later`
 module_begins : {n k : ℕ} {h : Objects} → Begins n k h → Begins (suc n) k (with_module n h)
 module_begins {n = n} {k = k} {h = h} b = record {
-  objects = named_added first_added (own_name n 1) _ (function_fresh empty_world.objects h1 (own_name n 1) (own_number n 1) (own_known n 1) (fresh_still h (own_function n 0) (own_name n 1) (fresh 1) (λ e. let q = (own_apart n 0 n 1 e).1 in omega (arith, q))) (function_is (own_number n 1) (tag.Own n 1)) (own_unmade n 1));
+  objects = named_added first_added (own_name n 1) _ (function_fresh empty_world.objects h1 (own_name n 1) (own_number n 1) (own_known n 1) (fresh_still h (own_function n 0) (own_name n 1) (fresh 1) (λ e. let q = (own_apart n 0 n 1 e).1 in omega (arith, q))) (omega arith, function_is (own_number n 1) (tag.Own n 1)) (own_unmade n 1));
   modules = λ m i j t. was_or_is h1 (own_function n 1) (own_name m i) (m < suc n) (λ j t. was_or_is h (own_function n 0) (own_name m i) (m < suc n) (λ j t. let q = b.modules m i j t in omega (arith, q)) (λ e. let q = (own_apart n 0 m i e).0 in omega (arith, q)) j t) (λ e. let q = (own_apart n 1 m i e).0 in omega (arith, q)) j t;
   cells = λ c i j t. was_or_is h1 (own_function n 1) (cell_name c i) (c < k) (λ j t. was_or_is h (own_function n 0) (cell_name c i) (c < k) (λ j t. b.cells c i j t) (λ e. absurd (own_no_cell n 0 c i e)) j t) (λ e. absurd (own_no_cell n 1 c i e)) j t;
 }
@@ -162,7 +162,7 @@ module_begins {n = n} {k = k} {h = h} b = record {
     fresh i j t = let q = b.modules n i j t in omega (arith, q)
 
     first_added : ObjectsAre first place_of empty_world.objects (with_object h (own_function n 0)) 0
-    first_added = named_added b.objects (own_name n 0) _ (function_fresh empty_world.objects h (own_name n 0) (own_number n 0) (own_known n 0) (fresh 0) (function_is (own_number n 0) (tag.Own n 0)) (own_unmade n 0))
+    first_added = named_added b.objects (own_name n 0) _ (function_fresh empty_world.objects h (own_name n 0) (own_number n 0) (own_known n 0) (fresh 0) (omega arith, function_is (own_number n 0) (tag.Own n 0)) (own_unmade n 0))
 
 cell_no_own : (m i d j : ℕ) → tag.Cell m i ≡ tag.Own d j → ⊥
 cell_no_own m i d j e = cc
@@ -185,13 +185,13 @@ module _ {n k : ℕ} {h : Objects} (b : Begins n k h) where
   set_there = subst (Named (with_object (with_object h (cell_function k 1)) (cell_function k 2)) (cell_name k 2)) one_more (ap heap.tag_of (get-push (h.list ++ cell_function k 1 ∷ []) (cell_function k 2)))
 
   with_get : ObjectsAre first place_of empty_world.objects (with_object h (cell_function k 1)) 0
-  with_get = named_added b.objects (cell_name k 1) _ (function_fresh empty_world.objects h (cell_name k 1) (cell_number k 1) (cell_known k 1) (fresh 1) (function_is (cell_number k 1) (tag.Cell k 1)) (cell_unmade k 1))
+  with_get = named_added b.objects (cell_name k 1) _ (function_fresh empty_world.objects h (cell_name k 1) (cell_number k 1) (cell_known k 1) (fresh 1) (omega arith, function_is (cell_number k 1) (tag.Cell k 1)) (cell_unmade k 1))
 
   fresh_one : (i : ℕ) → (1 ≡ i → ⊥) → Fresh (with_object h (cell_function k 1)) (cell_name k i)
   fresh_one i ne = fresh_still h (cell_function k 1) (cell_name k i) (fresh i) (apart_at 1 i ne)
 
   with_set : ObjectsAre first place_of empty_world.objects (with_object (with_object h (cell_function k 1)) (cell_function k 2)) 0
-  with_set = named_added with_get (cell_name k 2) _ (function_fresh empty_world.objects (with_object h (cell_function k 1)) (cell_name k 2) (cell_number k 2) (cell_known k 2) (fresh_one 2 (λ e. omega (arith, e))) (function_is (cell_number k 2) (tag.Cell k 2)) (cell_unmade k 2))
+  with_set = named_added with_get (cell_name k 2) _ (function_fresh empty_world.objects (with_object h (cell_function k 1)) (cell_name k 2) (cell_number k 2) (cell_known k 2) (fresh_one 2 (λ e. omega (arith, e))) (omega arith, function_is (cell_number k 2) (tag.Cell k 2)) (cell_unmade k 2))
 
   with_all : ObjectsAre first place_of empty_world.objects (with_cell k h) 0
   with_all = named_added with_set (cell_name k 0) _ (record_fresh empty_world.objects _ k (length h.list) got_there set_there

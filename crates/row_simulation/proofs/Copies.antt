@@ -104,9 +104,9 @@ copy_of {h = h} w o =
     by_name : (n : Name) (i : ℕ) (c : heap.Object) → object_at h i ≡ Some c → IsNamed w.objects h n c → PropsAre h false (direct.object_pairs w n) (es3.copied (es3.pairs_in c.class h i))
     by_name (made_name a b) i c there is = rw is.known (by_object i is.object c there is.is)
     by_name (cell_name a zero) i c there is = of_record i true _ c there is
-    by_name (cell_name a (suc b)) i c there is = rw is.class (empty_props h)
-    by_name (own_name a b) i c there is = rw is.class (empty_props h)
-    by_name (built_name f) i c there is = rw is.class (empty_props h)
+    by_name (cell_name a (suc b)) i c there is = rw is.1.is.class (empty_props h)
+    by_name (own_name a b) i c there is = rw is.1.is.class (empty_props h)
+    by_name (built_name f) i c there is = rw is.1.is.class (empty_props h)
     by_name (tools_name t) i c there is = of_record i true _ c there is
     by_name (facet_name root k) i c there is = absurd is
     by_name (forward_name a b d e) i c there is = absurd is

@@ -99,9 +99,9 @@ record_at {h = h} w a n i named plain =
     of_name : (n : Name) (stored : heap.Object) → heap.object_at h i ≡ Some stored → stored.class ≡ class.Object → IsNamed w.objects h n stored → RecordAt w h n i
     of_name (made_name b c) stored there plain is = of_made b c stored there plain is.object is.known is.is
     of_name (cell_name b zero) stored there plain is = record { frozen = true; pairs = _; seen = λ j. refl; stored = stored; there = there; is = is; open_one = λ e. cc }
-    of_name (cell_name b (suc c)) stored there plain is = cc (sym plain ∙ is.class)
-    of_name (own_name b c) stored there plain is = cc (sym plain ∙ is.class)
-    of_name (built_name f) stored there plain is = cc (sym plain ∙ is.class)
+    of_name (cell_name b (suc c)) stored there plain is = cc (sym plain ∙ is.1.is.class)
+    of_name (own_name b c) stored there plain is = cc (sym plain ∙ is.1.is.class)
+    of_name (built_name f) stored there plain is = cc (sym plain ∙ is.1.is.class)
     of_name (tools_name t) stored there plain is = record { frozen = true; pairs = _; seen = λ j. refl; stored = stored; there = there; is = is; open_one = λ e. cc }
     of_name (facet_name root k) stored there plain is = absurd is
     of_name (forward_name b c d e) stored there plain is = absurd is

@@ -1,11 +1,12 @@
 -- The opening of a page and the empty world correspond.
 use Rattle.std.proofs.Common.{◌≡◌, ℕ, zero, suc, ◌+◌, ◌-◌, ◌<◌, Bool, true, false, List, [], ◌∷◌, ◌++◌, length, Option, Some, None, cond, refl, sym, ap, ◌∙◌, subst, arith}
-use Rattle.std.specs.Prelude.{slice_get, codes, nat_eq, replicate, get_or}
+use Rattle.std.specs.Prelude.{slice_get, codes, nat_eq, nat_lt, replicate, get_or}
 use Rattle.std.proofs.lemmas.Option.{none-some}
 use Rattle.std.proofs.lemmas.List.{length-append}
 use Rattle.std.proofs.lemmas.Bool.Decides.{nat_tests}
 use Rattle.caja_units.specs.Units.{is_hidden}
 use Rattle.es3_heap.specs.declared.value.Class.TheVariants as class
+use Rattle.es3_heap.specs.declared.value.FuncKind.{FuncKind}
 use Rattle.es3_heap.specs.declared.value.Tag.{Tag}
 use Rattle.es3_heap.specs.declared.value.Tag.TheVariants as tag
 use Rattle.es3_heap.specs.Objects as heap
@@ -16,7 +17,7 @@ use Rattle.rows.specs.Names.{Tools, of_cajita, of_math, tools, sort_of, code_of}
 use Rattle.cajita_meaning.specs.World.{Name, made_name, cell_name, own_name, built_name, tools_name, facet_name, forward_name, empty_world}
 use Rattle.cajita_meaning.specs.Doing.{tool_pairs}
 use Rattle.heap_rows.specs.Marks.{read_mark, set_mark}
-use Rattle.heap_rows.specs.Natives.{kind_of, tag_of_native, tag_of_tools, is_common}
+use Rattle.heap_rows.specs.Natives.{number_of, kind_by, kind_of, tag_of_native, tag_of_tools, is_common}
 use Rattle.heap_rows.specs.Doing.{sort_seen, guests}
 use Rattle.heap_rows.specs.Opening.{first, first_count, common, place_of, place_of_tools, opened}
 use Rattle.heap_rows.proofs.Made as made
@@ -24,7 +25,7 @@ use Rattle.heap_rows.proofs.Made.{native_object, native_objects, entries, frozen
 use Rattle.row_simulation.proofs.First.{AllFrom, each_at, both_from, hidden_functions, first_list, first_list_is, first_list_count, first_many, IsUnnamed, up_few, all_unnamed, by_first}
 use Rattle.row_simulation.proofs.Frozen.{frozen_props, all_guests, first_guest, no_read, no_set, frozen_are}
 use Rattle.row_simulation.proofs.Names.{code_of_tag, native_back, name_there, known_name, tools_known}
-use Rattle.row_simulation.proofs.Relation.{Named, tag_of_name, PairsAre, Once, IsRecord, IsFunction, IsNamed, Stands, ObjectsAre}
+use Rattle.row_simulation.proofs.Relation.{Named, tag_of_name, PairsAre, Once, IsRecord, IsNative, IsNamed, Stands, ObjectsAre}
 
 -- the objects of the opening, one by one
 
@@ -127,9 +128,9 @@ kind_seen : (f : r.Native) → sort_seen false (Some (record { kind = kind_of f;
 kind_seen (r.makes r.error) = refl
 kind_seen f = refl
 
-native_is : (f : r.Native) → IsFunction (sort_of f) (native_object f)
+native_is : (f : r.Native) → IsNative (sort_of f) (kind_of f) (native_object f)
 unfolding native_object
-native_is f = record { class = refl; proto = refl; kind = kind_seen f; no_text = refl; no_value = refl }
+native_is f = record { is = record { class = refl; proto = refl; kind = kind_seen f; no_text = refl; no_value = refl }; callable = refl }
 
 sort_or : Option r.Native → r.Sort
 sort_or None = r.simple
@@ -145,18 +146,48 @@ sort_back (r.makes r.error) = refl
 sort_back (r.service k) = refl
 sort_back f = refl
 
+number_by : Tag → ℕ
+number_by (tag.Built n) = n
+number_by t = 58
+
+number_back : (f : r.Native) → number_by (tag_of_native f) ≡ number_of f
+unfolding number_by
+number_back (r.makes r.error) = refl
+number_back (r.service k) = refl
+number_back f = refl
+
+kind_at : Tag → FuncKind
+kind_at t = kind_by (number_by t) (sort_by t)
+
+kind_back : (f : r.Native) → kind_at (tag_of_native f) ≡ kind_of f
+unfolding kind_at
+kind_back f = ap (λ n. kind_by n (sort_by (tag_of_native f))) (number_back f) ∙ ap (kind_by (number_of f)) (sort_back f)
+
+common_by : Tag → Bool
+common_by (tag.Built n) = nat_lt n 52
+common_by t = false
+
+common_back : (f : r.Native) → common_by (tag_of_native f) ≡ is_common f
+unfolding common_by
+common_back (r.makes r.error) = refl
+common_back (r.service k) = refl
+common_back f = refl
+
 -- what a native function's name may be
-native_named : (f : r.Native) (n : Name) → tag_of_native f ≡ tag_of_name n → IsNamed empty_world.objects opened n (native_object f)
+native_named : (f : r.Native) → is_common f ≡ true → (n : Name) → tag_of_native f ≡ tag_of_name n → IsNamed empty_world.objects opened n (native_object f)
 unfolding code_of_tag
-native_named f (built_name g) e = subst (λ s. IsFunction s (native_object f)) (sym (sort_back f) ∙ ap sort_by e ∙ sort_back g) (native_is f)
-native_named f (made_name a b) e = let x : 3 ∷ code_of f ≡ 0 ∷ a ∷ b ∷ [] = sym (native_back f) ∙ ap code_of_tag e in let y : 3 ≡ 0 = ap (λ l. get_or l 0 9) x in absurd (omega (arith, y))
-native_named f (cell_name a zero) e = let x : 3 ∷ code_of f ≡ 1 ∷ a ∷ 0 ∷ [] = sym (native_back f) ∙ ap code_of_tag e in let y : 3 ≡ 1 = ap (λ l. get_or l 0 9) x in absurd (omega (arith, y))
-native_named f (cell_name a (suc b)) e = let x : 3 ∷ code_of f ≡ 1 ∷ a ∷ suc b ∷ [] = sym (native_back f) ∙ ap code_of_tag e in let y : 3 ≡ 1 = ap (λ l. get_or l 0 9) x in absurd (omega (arith, y))
-native_named f (own_name a b) e = let x : 3 ∷ code_of f ≡ 2 ∷ a ∷ b ∷ [] = sym (native_back f) ∙ ap code_of_tag e in let y : 3 ≡ 2 = ap (λ l. get_or l 0 9) x in absurd (omega (arith, y))
-native_named f (tools_name of_cajita) e = let x : 3 ∷ code_of f ≡ 4 ∷ 0 ∷ [] = sym (native_back f) ∙ ap code_of_tag e in let y : 3 ≡ 4 = ap (λ l. get_or l 0 9) x in absurd (omega (arith, y))
-native_named f (tools_name of_math) e = let x : 3 ∷ code_of f ≡ 4 ∷ 1 ∷ [] = sym (native_back f) ∙ ap code_of_tag e in let y : 3 ≡ 4 = ap (λ l. get_or l 0 9) x in absurd (omega (arith, y))
-native_named f (facet_name a b) e = let x : 3 ∷ code_of f ≡ [] = sym (native_back f) ∙ ap code_of_tag e in let y : 3 ≡ 9 = ap (λ l. get_or l 0 9) x in absurd (omega (arith, y))
-native_named f (forward_name a b c d) e = let x : 3 ∷ code_of f ≡ [] = sym (native_back f) ∙ ap code_of_tag e in let y : 3 ≡ 9 = ap (λ l. get_or l 0 9) x in absurd (omega (arith, y))
+native_named f common (built_name g) e = (
+  sym (common_back g) ∙ sym (ap common_by e) ∙ common_back f ∙ common,
+  subst (λ s. IsNative s (kind_of g) (native_object f)) (sym (sort_back f) ∙ ap sort_by e ∙ sort_back g) (subst (λ k. IsNative (sort_of f) k (native_object f)) (sym (kind_back f) ∙ ap kind_at e ∙ kind_back g) (native_is f)),
+)
+native_named f common (made_name a b) e = let x : 3 ∷ code_of f ≡ 0 ∷ a ∷ b ∷ [] = sym (native_back f) ∙ ap code_of_tag e in let y : 3 ≡ 0 = ap (λ l. get_or l 0 9) x in absurd (omega (arith, y))
+native_named f common (cell_name a zero) e = let x : 3 ∷ code_of f ≡ 1 ∷ a ∷ 0 ∷ [] = sym (native_back f) ∙ ap code_of_tag e in let y : 3 ≡ 1 = ap (λ l. get_or l 0 9) x in absurd (omega (arith, y))
+native_named f common (cell_name a (suc b)) e = let x : 3 ∷ code_of f ≡ 1 ∷ a ∷ suc b ∷ [] = sym (native_back f) ∙ ap code_of_tag e in let y : 3 ≡ 1 = ap (λ l. get_or l 0 9) x in absurd (omega (arith, y))
+native_named f common (own_name a b) e = let x : 3 ∷ code_of f ≡ 2 ∷ a ∷ b ∷ [] = sym (native_back f) ∙ ap code_of_tag e in let y : 3 ≡ 2 = ap (λ l. get_or l 0 9) x in absurd (omega (arith, y))
+native_named f common (tools_name of_cajita) e = let x : 3 ∷ code_of f ≡ 4 ∷ 0 ∷ [] = sym (native_back f) ∙ ap code_of_tag e in let y : 3 ≡ 4 = ap (λ l. get_or l 0 9) x in absurd (omega (arith, y))
+native_named f common (tools_name of_math) e = let x : 3 ∷ code_of f ≡ 4 ∷ 1 ∷ [] = sym (native_back f) ∙ ap code_of_tag e in let y : 3 ≡ 4 = ap (λ l. get_or l 0 9) x in absurd (omega (arith, y))
+native_named f common (facet_name a b) e = let x : 3 ∷ code_of f ≡ [] = sym (native_back f) ∙ ap code_of_tag e in let y : 3 ≡ 9 = ap (λ l. get_or l 0 9) x in absurd (omega (arith, y))
+native_named f common (forward_name a b c d) e = let x : 3 ∷ code_of f ≡ [] = sym (native_back f) ∙ ap code_of_tag e in let y : 3 ≡ 9 = ap (λ l. get_or l 0 9) x in absurd (omega (arith, y))
 
 tools_named : (t : Tools) (n : Name) → tag_of_tools t ≡ tag_of_name n → IsNamed empty_world.objects opened n (tools_object t)
 tools_named t n e = subst (λ k. IsNamed empty_world.objects opened k (tools_object t)) (sym (known_name (tools_name t) n (tools_known t) (sym e))) (tools_are t)
@@ -182,9 +213,9 @@ unfolding AllFrom
 all_unnamed_open i [] a = tt
 all_unnamed_open i (o ∷ os) a = (unnamed_open i o a.0, all_unnamed_open (suc i) os a.1)
 
-native_open : (f : r.Native) (i : ℕ) → spot (tag_of_native f) ≡ i → IsOpen i (native_object f)
+native_open : (f : r.Native) → is_common f ≡ true → (i : ℕ) → spot (tag_of_native f) ≡ i → IsOpen i (native_object f)
 unfolding native_object
-native_open f i at = record { named = λ n e. native_named f n e; placed = λ n e. at; reads = λ k. refl; sets = λ k. refl; above = λ p e. up_few 1 p (omega arith) e }
+native_open f common i at = record { named = λ n e. native_named f common n e; placed = λ n e. at; reads = λ k. refl; sets = λ k. refl; above = λ p e. up_few 1 p (omega arith) e }
 
 tools_open : (t : Tools) (i : ℕ) → spot (tag_of_tools t) ≡ i → IsOpen i (tools_object t)
 unfolding tools_object
@@ -192,15 +223,16 @@ tools_open t i at = record { named = λ n e. tools_named t n e; placed = λ n e.
 
 in_order : ℕ → List r.Native → Bool
 in_order i [] = true
-in_order i (f ∷ fs) = cond (nat_eq (spot (tag_of_native f)) i) (in_order (suc i) fs) false
+in_order i (f ∷ fs) = cond (nat_eq (spot (tag_of_native f)) i) (cond (is_common f) (in_order (suc i) fs) false) false
 
 natives_open : (i : ℕ) (fs : List r.Native) → in_order i fs ≡ true → AllFrom IsOpen i (native_objects fs)
 unfolding AllFrom in_order native_objects
 natives_open i [] e = tt
 natives_open i (f ∷ fs) e =
-    let x = first_common (nat_eq (spot (tag_of_native f)) i) (in_order (suc i) fs) e in
+    let x = first_common (nat_eq (spot (tag_of_native f)) i) (cond (is_common f) (in_order (suc i) fs) false) e in
     let y = x.0 in
-    (native_open f i (grind (arith, nat_tests)), natives_open (suc i) fs x.1)
+    let c = first_common (is_common f) (in_order (suc i) fs) x.1 in
+    (native_open f c.0 i (grind (arith, nat_tests)), natives_open (suc i) fs c.1)
 
 common_in_order : in_order 32 common ≡ true
 unfolding in_order spot

@@ -4,7 +4,7 @@ use Rattle.es3_heap.specs.declared.value.Value.TheVariants as es
 use Rattle.es3_heap.specs.Objects as heap
 use Rattle.es3_heap.specs.Objects.{Property, Objects}
 use Rattle.cajita_meaning.specs.World.{Value, undefined, null, truth, number, text, object, Pairs, Object, a_record, an_array, a_closure, an_error, Name, made_name, cell_name, own_name, built_name, tools_name, facet_name, forward_name}
-pub use Rattle.row_simulation.specs.Correspond.{EsValue, tag_of_name, Named, Val, Vals, PairsAre, Once, PropsAre, IsRecord, closing, IsArray, IsFunction, value_is, IsError, Is, IsMade, IsNamed, Stands, IsMarked, ObjectsAre, Keeps}
+pub use Rattle.row_simulation.specs.Correspond.{EsValue, tag_of_name, Named, Val, Vals, PairsAre, Once, PropsAre, IsRecord, closing, IsArray, IsFunction, IsNative, value_is, IsError, Is, IsMade, IsNamed, Stands, IsMarked, ObjectsAre, Keeps}
 
 pub val_keep : {a b : Objects} → Keeps a b → (v : Value) (e : EsValue) → Val a v e → Val b v e
 val_keep k undefined es.Undefined p = tt

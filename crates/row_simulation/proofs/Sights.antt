@@ -81,9 +81,9 @@ named_alike : (w : World) (h : Objects) (n : ℕ) (k : Name) (i : ℕ) (c : heap
 named_alike w h n (made_name a b) i c there is =
     rw is.known (subst (λ q. Alike h (direct.see_made n (Some is.object)) (es3.see_object n h i (heap.class_of q))) (sym there) (object_alike h n i is.object c there is.is))
 named_alike w h n (cell_name a zero) i c there is = record_seen h n i _ c there is
-named_alike w h n (cell_name a (suc b)) i c there is = function_alike h n i r.simple c there is
-named_alike w h n (own_name a b) i c there is = function_alike h n i r.simple c there is
-named_alike w h n (built_name f) i c there is = function_alike h n i (Rattle.rows.specs.Names.sort_of f) c there is
+named_alike w h n (cell_name a (suc b)) i c there is = function_alike h n i r.simple c there is.1.is
+named_alike w h n (own_name a b) i c there is = function_alike h n i r.simple c there is.1.is
+named_alike w h n (built_name f) i c there is = function_alike h n i (Rattle.rows.specs.Names.sort_of f) c there is.1.is
 named_alike w h n (tools_name t) i c there is = record_seen h n i _ c there is
 named_alike w h n (facet_name root k) i c there is = absurd is
 named_alike w h n (forward_name a b d e) i c there is = absurd is

@@ -219,9 +219,9 @@ on_record {first = first} {places = places} {m = m} {h = h} w old change g law k
     by_name : (n : Name) (i : ℕ) → Named h n i → (c : heap.Object) → object_at h i ≡ Some c → IsNamed w.objects h n c → Changed first places m h (direct.changed change (object n) w).objects (es3.of_record c.class (g i) h)
     by_name (made_name a b) i p c there is = rw is.known (by_object a b i p is.object is.known c there is.is)
     by_name (cell_name a zero) i p c there is = rw is.class (kept (cell_name a zero) i c _ p (cell_known a zero) there is (λ x r. r))
-    by_name (cell_name a (suc b)) i p c there is = rw is.class (unchanged old)
-    by_name (own_name a b) i p c there is = rw is.class (unchanged old)
-    by_name (built_name f) i p c there is = rw is.class (unchanged old)
+    by_name (cell_name a (suc b)) i p c there is = rw is.1.is.class (unchanged old)
+    by_name (own_name a b) i p c there is = rw is.1.is.class (unchanged old)
+    by_name (built_name f) i p c there is = rw is.1.is.class (unchanged old)
     by_name (tools_name t) i p c there is = rw is.class (kept (tools_name t) i c _ p (tools_known t) there is (λ x r. r))
     by_name (facet_name root k) i p c there is = absurd is
     by_name (forward_name a b d e) i p c there is = absurd is

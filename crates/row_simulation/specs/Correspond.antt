@@ -5,6 +5,8 @@ use Rattle.caja_units.specs.Units.{is_hidden}
 use Rattle.es3_heap.specs.declared.value.Value as es_value
 use Rattle.es3_heap.specs.declared.value.Value.TheVariants as es
 use Rattle.es3_heap.specs.declared.value.Class.TheVariants as class
+use Rattle.es3_heap.specs.declared.value.FuncKind.{FuncKind}
+use Rattle.es3_heap.specs.declared.value.FuncKind.TheVariants as kind
 use Rattle.es3_heap.specs.declared.value.Proto.TheVariants as proto
 use Rattle.es3_heap.specs.declared.value.Tag.{Tag}
 use Rattle.es3_heap.specs.declared.value.Tag.TheVariants as tag
@@ -18,7 +20,7 @@ use Rattle.rows.specs.Guards.{maker_name}
 use Rattle.cajita_meaning.specs.World.{Name, made_name, cell_name, own_name, built_name, tools_name, facet_name, forward_name, Value, undefined, null, truth, number, text, object, Pairs, Object, a_record, an_array, a_closure, an_error, value_at}
 use Rattle.cajita_meaning.specs.Doing.{get_and_set, tool_pairs}
 use Rattle.heap_rows.specs.Marks.{read_mark, set_mark, frozen_mark, simple_mark}
-use Rattle.heap_rows.specs.Natives.{tag_of_native, tag_of_tools, is_common}
+use Rattle.heap_rows.specs.Natives.{tag_of_native, tag_of_tools, is_common, kind_of, own_number, cell_number}
 use Rattle.heap_rows.specs.Doing.{guests, sort_seen, proto_of}
 
 abbrev pub EsValue : Type 0
@@ -103,6 +105,11 @@ pub record IsFunction (sort : r.Sort) (o : heap.Object) : Type 0 where
   pub no_text : find (codes "toString") o.props ≡ None
   pub no_value : find (codes "valueOf") o.props ≡ None
 
+-- a function that no module made: by its kind it is known what does what it does
+pub record IsNative (sort : r.Sort) (k : FuncKind) (o : heap.Object) : Type 0 where
+  pub is : IsFunction sort o
+  pub callable : o.callable ≡ Some (record { kind = k; maker = 0 })
+
 abbrev pub value_is : Option Property → EsValue → Type 0
 value_is None e = ⊥
 value_is (Some p) e = p.value ≡ e
@@ -128,13 +135,13 @@ pub record IsMade (objects : List Object) (h : Objects) (number : ℕ) (o : heap
   pub known : slice_get objects number ≡ Some object
   pub is : Is h object o
 
--- what a named object is. Nodes and forwarders aren't among these objects: none has such a name
+-- what a named object is. Nodes, forwarders and services of a host aren't among these objects: none has such a name
 abbrev pub IsNamed : (ℕ → List Object) → Objects → Name → heap.Object → Type 0
 IsNamed objects h (made_name m n) o = IsMade (objects m) h n o
 IsNamed objects h (cell_name c zero) o = IsRecord h true (get_and_set (cell_name c 1) (cell_name c 2)) o
-IsNamed objects h (cell_name c (suc i)) o = IsFunction r.simple o
-IsNamed objects h (own_name m i) o = IsFunction r.simple o
-IsNamed objects h (built_name f) o = IsFunction (sort_of f) o
+IsNamed objects h (cell_name c (suc i)) o = (i < 2) × IsNative r.simple (kind.Simple (cell_number c (suc i))) o
+IsNamed objects h (own_name m i) o = (i < 2) × IsNative r.simple (kind.Simple (own_number m i)) o
+IsNamed objects h (built_name f) o = (is_common f ≡ true) × IsNative (sort_of f) (kind_of f) o
 IsNamed objects h (tools_name t) o = IsRecord h true (tool_pairs (tools t)) o
 IsNamed objects h (facet_name r k) o = ⊥
 IsNamed objects h (forward_name m p c i) o = ⊥

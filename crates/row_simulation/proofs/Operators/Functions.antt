@@ -34,9 +34,9 @@ object_whole h (an_error maker message) o is = rw (is.class, is.no_call) refl
 named_whole : (objects : ℕ → List Object) (h : Objects) (n : Name) (o : heap.Object) → IsNamed objects h n o → IsWhole o
 named_whole objects h (made_name a b) o is = object_whole h is.object o is.is
 named_whole objects h (cell_name a zero) o is = record_whole h true _ o is
-named_whole objects h (cell_name a (suc b)) o is = function_whole r.simple o is
-named_whole objects h (own_name a b) o is = function_whole r.simple o is
-named_whole objects h (built_name f) o is = function_whole _ o is
+named_whole objects h (cell_name a (suc b)) o is = function_whole r.simple o is.1.is
+named_whole objects h (own_name a b) o is = function_whole r.simple o is.1.is
+named_whole objects h (built_name f) o is = function_whole _ o is.1.is
 named_whole objects h (tools_name t) o is = record_whole h true _ o is
 named_whole objects h (facet_name root k) o is = absurd is
 named_whole objects h (forward_name a b d e) o is = absurd is
