@@ -1,6 +1,1 @@
-pub mod BuiltIns
-pub mod Keeps
-pub mod Natives
-pub mod Objects
 pub mod Opening
-pub mod OwnFunctions

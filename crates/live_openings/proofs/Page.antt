@@ -5,8 +5,6 @@ use Rattle.std.proofs.lemmas.List.Elements.{All-nil, All-cons, All-head, All-tai
 use Rattle.es3_heap.specs.declared.value.Value.TheVariants.{Obj, Bool}
 use Rattle.es3_heap.specs.declared.value.Class.{Class}
 use Rattle.es3_heap.specs.declared.value.Class.TheVariants as class
-use Rattle.es3_heap.specs.declared.value.Tag.{Tag}
-use Rattle.es3_heap.specs.declared.value.Tag.TheVariants as tag
 use Rattle.es3_heap.specs.Objects.{Property, Callable, Object, Objects, plain_attrs, hidden_attrs}
 use Rattle.es3_heap.specs.Making.{bare, first_objects}
 use Rattle.es3_convert.specs.Conversions.{to_string}
@@ -15,12 +13,11 @@ use Rattle.es3_live.proofs.Reading.{LiveProps}
 use Rattle.es3_live.proofs.Writing.{Grown, grown_trans}
 use Rattle.es3_live.proofs.Making.{with_object_grown}
 use Rattle.live_rows.proofs.Changes.{defined_live}
-use Rattle.rows.specs.Rows as r
 use Rattle.rows.specs.Rows.{Native}
 use Rattle.rows.specs.Names.{Tools, of_cajita, of_math, tools}
 use Rattle.heap_rows.specs.Marks.{frozen_mark}
 use Rattle.heap_rows.specs.Doing.{copied, record_object as record_of}
-use Rattle.heap_rows.specs.Opening.{load_module, guard_names, common, place_of, built_ins_there, opened, named_function, with_module, begun, fixed_values, with_imports, first_say, opened_for_one}
+use Rattle.heap_rows.specs.Opening.{load_module, guard_names, common, place_of, built_ins_there, opened, own_function, with_module, begun, fixed_values, with_imports, first_say, opened_for_one}
 use Rattle.heap_rows.proofs.Made.{stored, entries, frozen_entries, record_object, native_object, native_objects, opened_is, opened_long, begun_long, one_long}
 use Rattle.row_simulation.proofs.First.{simple_function, holder, hidden, hidden_props, hidden_functions, conversion_names, guards, global_names, conversions, first_list, first_list_is}
 
@@ -138,12 +135,12 @@ opened_closed = subst AreClosed (sym opened_objects) (record {
 
 module_grown : (m : ℕ) (h : Objects) → AreClosed h → Grown h (with_module m h)
 module_grown m h closed =
-    let first = with_object_grown h (named_function r.say (tag.Own m 0)) closed (named_holds (length h.list) r.say (tag.Own m 0) closed.prototypes) in
-    let second = with_object_grown _ (named_function r.later (tag.Own m 1)) first.closed (named_holds _ r.later (tag.Own m 1) first.closed.prototypes) in
+    let first = with_object_grown h (own_function m 0) closed (own_holds (length h.list) 0 closed.prototypes) in
+    let second = with_object_grown _ (own_function m 1) first.closed (own_holds _ 1 first.closed.prototypes) in
     grown_trans first second
   where
-    named_holds : (n : ℕ) (f : Native) (t : Tag) → 10 ≤ n → HoldsLive n (named_function f t)
-    named_holds n f t ten = record { proto = omega (arith, ten); values = All-nil (λ (p : Property). IsLive n p.value) }
+    own_holds : (n i : ℕ) → 10 ≤ n → HoldsLive n (own_function m i)
+    own_holds n i ten = record { proto = omega (arith, ten); values = All-nil (λ (p : Property). IsLive n p.value) }
 
 fixed_live : (n say : ℕ) → 82 ≤ n → say + 1 < n → LiveProps n (copied (fixed_values say))
 fixed_live n say many below =

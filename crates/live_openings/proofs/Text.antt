@@ -17,7 +17,7 @@ use Rattle.heap_rows.specs.Marks.{call_mark}
 use Rattle.heap_rows.specs.Opening.{runtime_id, built_ins_there, opened_for_one}
 use Rattle.heap_rows.proofs.Made.{one_long}
 use Rattle.global_names.specs.Opening.{object_number, function_number, array_number, math_place, constructors, with_hidden, with_constructor, with_constructors, with_names, placed, with_methods, with_call_marks, array_calls, text_calls, with_marks, global_attrs, with_functions, with_globals, with_prototypes, with_global_names, text_objects, text_globals}
-use Rattle.global_names.specs.Natives.{nothing_said, text_fits}
+use Rattle.page_natives.specs.Natives.{kept_fits, first_kept}
 use Rattle.live_openings.proofs.Page.{one_there, one_closed}
 
 -- a property that holds an object which is there
@@ -139,8 +139,14 @@ text_kept : WithNames opened_for_one text_objects
 unfolding text_objects
 text_kept = global_names_kept opened_for_one one_there one_closed
 
-pub text_there : text_fits nothing_said text_objects
-text_there = let long = one_long in let more = text_kept.grown.later.more in (omega (arith, long, more), All-nil (IsLive (length text_objects.list)))
+pub text_there : kept_fits first_kept text_objects
+text_there = let long = one_long in let more = text_kept.grown.later.more in record {
+  runtime = omega (arith, long, more);
+  imports = omega (arith, long, more);
+  built_ins = omega (arith, long, more);
+  cells = All-nil (IsLive (length text_objects.list));
+  waiting = All-nil (λ w. IsLive (length text_objects.list) w.function);
+}
 
 pub text_globals_there : text_globals < length text_objects.list
 text_globals_there = let long = one_long in let more = text_kept.globals in omega (arith, long, more)

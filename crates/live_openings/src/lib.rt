@@ -8,9 +8,9 @@ ghost use Rattle.es3_language.specs.Meaning.{run_program};
 ghost use Rattle.es3_live.specs.Live.{AreClosed};
 ghost use Rattle.es3_kept.specs.Kept.{KeptRun};
 ghost use Rattle.heap_rows.specs.Opening.{opened_for_one};
-ghost use Rattle.module_loader.specs.Page.{kept_fits, module_run};
+ghost use Rattle.page_natives.specs.Natives.{kept_fits, first_kept, page_table};
+ghost use Rattle.module_loader.specs.Page.{module_run};
 ghost use Rattle.global_names.specs.Opening.{text_objects, text_globals};
-ghost use Rattle.global_names.specs.Natives.{nothing_said, text_natives, text_fits};
 
 /// The store in which a page of one module begins names live objects alone.
 #[tactic(auto, using(crate::proofs::Page::one_closed))]
@@ -35,5 +35,5 @@ pub fn a_module_keeps_objects_live()
 #[tactic(auto, using(crate::proofs::Runs::text_run_kept))]
 pub fn a_text_keeps_objects_live()
     ensures { (p : t.Tree t.program) (by n : ℕ)
-        → KeptRun text_fits text_objects (run_program text_natives p by (record { heap = text_objects; scopes = []; codes = []; globals = text_globals; shared = [] }) nothing_said n) }
+        → KeptRun kept_fits text_objects (run_program page_table p by (record { heap = text_objects; scopes = []; codes = []; globals = text_globals; shared = [] }) first_kept n) }
 {}

@@ -4,7 +4,8 @@ use crate::lists::alone;
 use caja_units::{Memory, Units};
 use es3_heap::{Class, FuncKind, ObjId, Tag, Value};
 use es3_moves::natives::{Answer, Natives};
-use module_loader::{Opened, PageNatives, open};
+use module_loader::{Opened, open};
+use page_natives::PageNatives;
 use std::alloc::Global;
 use std::test::Fail;
 
@@ -22,7 +23,7 @@ fn calls(alloc: Global, is_function: bool) -> Result<bool, Memory> {
     let function = heap.make_func(FuncKind::Code(0), 0)?;
     let callee = if is_function { function } else { imports };
     let args = alone(alloc, Value::Obj(callee))?;
-    let mut natives = PageNatives { runtime, imports };
+    let mut natives = PageNatives::new(alloc, runtime, imports);
     match natives.call(alloc, &mut heap, LOAD_MODULE, 0, &Value::Undefined, &args) {
         Answer::Invoke(_, _, _, _) => Ok(true),
         _other => Ok(false),

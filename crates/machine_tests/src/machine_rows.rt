@@ -4,14 +4,14 @@ use crate::lists::alone;
 use caja_num::Whole;
 use caja_units::{Memory, Units};
 use es3_convert::out_of_memory;
-use es3_heap::{Class, Heap, Proto, Stop, Value};
+use es3_heap::{Class, Heap, ObjId, Proto, Stop, Value};
 use es3_machine::Machine;
 use es3_moves::natives::Completion;
 use es3_tree::{
     BinOp, Expr, Func, Name, Program, Stmt, boxed, make_assign, make_binary, make_call,
     make_function, make_return,
 };
-use global_names::TextNatives;
+use page_natives::PageNatives;
 use std::alloc::Global;
 use std::test::Fail;
 
@@ -24,11 +24,16 @@ fn started(alloc: Global, heap: &mut Heap, body: Vec<Stmt>) -> Result<Machine, M
     Ok(machine)
 }
 
+/// Natives of which none is called here.
+fn natives(alloc: Global) -> PageNatives {
+    PageNatives::new(alloc, ObjId::new(0), ObjId::new(0))
+}
+
 /// Runs a program in a new store.
 fn run(alloc: Global, body: Vec<Stmt>, steps: u64) -> Result<(Completion, u64), Stop> {
     let mut heap = Heap::new(alloc).map_err(out_of_memory)?;
     let mut machine = started(alloc, &mut heap, body).map_err(out_of_memory)?;
-    machine.run(&mut heap, &mut TextNatives::new(alloc), steps)
+    machine.run(&mut heap, &mut natives(alloc), steps)
 }
 
 fn name(alloc: Global, text: &str) -> Result<Name, Memory> {
@@ -117,14 +122,14 @@ fn called_from_outside(alloc: Global, argument: Value) -> Result<(Completion, u6
     let function = identity(alloc).map_err(out_of_memory)?;
     let body = alone(alloc, Stmt::Expr(function)).map_err(out_of_memory)?;
     let mut machine = started(alloc, &mut heap, body).map_err(out_of_memory)?;
-    let (completion, _taken) = machine.run(&mut heap, &mut TextNatives::new(alloc), 100)?;
+    let (completion, _taken) = machine.run(&mut heap, &mut natives(alloc), 100)?;
     let function = match completion {
         Completion::Normal(v) => v,
         Completion::Thrown(v) => v,
     };
     let args = alone(alloc, argument).map_err(out_of_memory)?;
     machine.start_call(function, Value::Undefined, args, 0);
-    machine.run(&mut heap, &mut TextNatives::new(alloc), 2)
+    machine.run(&mut heap, &mut natives(alloc), 2)
 }
 
 #[test]

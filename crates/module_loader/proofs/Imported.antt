@@ -9,14 +9,14 @@ use Rattle.es3_heap.specs.Objects.{Property, Objects, with_object, plain_attrs}
 use Rattle.es3_heap.specs.Properties.{define, defined}
 use Rattle.es3_heap.specs.Making.{made, made_function, tagged}
 use Rattle.heap_rows.specs.Doing.{copied}
-use Rattle.heap_rows.specs.Opening.{opened, fixed_values, with_module, with_imports, opened_for_one}
+use Rattle.heap_rows.specs.Opening.{opened, named_function, fixed_values, with_module, with_imports, opened_for_one}
 use Rattle.heap_rows.proofs.Made.{ending, holder, define_last, tagged_last, opened_long}
 use Rattle.module_loader.specs.declared.imports.TheConstants.{FIXED_NAMES}
 use Rattle.module_loader.specs.BuiltIns.{with_entries}
-use Rattle.module_loader.specs.Imports.{own_function, with_names}
+use Rattle.module_loader.specs.Imports.{with_names}
 
 -- a function gets its name
-pub own_function_is : (number : ℕ) (t : Tag) (h : Objects) → tagged (made_function (Simple number) 0 h) (length h.list) t ≡ with_object h (own_function number t)
+pub own_function_is : (number : ℕ) (t : Tag) (h : Objects) → tagged (made_function (Simple number) 0 h) (length h.list) t ≡ with_object h (named_function (Simple number) t)
 own_function_is number t h = tagged_last h.counts h.list class.Function (Some 1) (Some (record { kind = Simple number; maker = 0 })) [] t
 
 -- the properties of a new object, one by one

@@ -1,18 +1,12 @@
--- How a module's own functions and what it may import are made.
+-- How what a module may import is made.
 use Rattle.std.specs.Prelude.{ℕ, [], ◌∷◌, Some, codes, length, map}
 use Rattle.es3_heap.specs.declared.value.Value.TheVariants.{Undefined}
 use Rattle.es3_heap.specs.declared.value.Class.TheVariants as class
-use Rattle.es3_heap.specs.declared.value.FuncKind.TheVariants.{Simple}
-use Rattle.es3_heap.specs.declared.value.Tag.{Tag}
-use Rattle.es3_heap.specs.Objects.{Object, Objects, plain_attrs}
+use Rattle.es3_heap.specs.Objects.{Objects, plain_attrs}
 use Rattle.es3_heap.specs.Properties.{define}
 use Rattle.es3_heap.specs.Making.{made}
 use Rattle.module_loader.specs.declared.imports.TheConstants.{FIXED_NAMES}
 use Rattle.module_loader.specs.BuiltIns.{with_entries}
-
--- a function by its number, with a name in the log
-abbrev pub own_function : ℕ → Tag → Object
-own_function number t = record { class = class.Function; proto = Some 1; callable = Some (record { kind = Simple number; maker = 0 }); tag = t; props = [] }
 
 -- a record with `undefined`, then the names of a table, then a module's own functions
 unfoldable pub with_names : ℕ → ℕ → Objects → Objects

@@ -2,18 +2,15 @@
 
 ghost use Rattle.std.specs.Prelude.{◌≡◌, ◌≤◌, ◌+◌, IfOk, OnOk, length};
 ghost use Rattle.es3_heap.specs.Objects.{with_object};
-ghost use Rattle.heap_rows.specs.Opening.{with_module, with_imports};
-ghost use Rattle.module_loader.specs.Imports.{own_function};
+ghost use Rattle.heap_rows.specs.Opening.{named_function, with_module, with_imports};
 
 use crate::built_ins::fill;
 use caja_units::{Memory, Units};
 use es3_heap::{Attrs, Class, FuncKind, Heap, ObjId, Proto, Tag, Value};
 use std::alloc::Global;
 
-/// The numbers of a module's own functions among the natives.
-const SAY: u32 = 52;
-
-const LATER: u32 = 53;
+/// The number of the first function that a module or a cell has among the natives: four numbers for each.
+const FIRST_OWN: u32 = 128;
 
 /// The names that every module may import, with the objects that they are: the two records, and built-in functions.
 const FIXED_NAMES: [(&[u8], u32); 8] = [
@@ -31,7 +28,7 @@ const FIXED_NAMES: [(&[u8], u32); 8] = [
 #[tactic(auto, using(crate::proofs::Imported::own_function_is))]
 fn add_own_function(heap: &mut Heap, number: u32, name: Tag) -> Result<ObjId, Memory>
     ensures id { IfOk result (λ o. o ≡ length heap.old.list) }
-    ensures store { OnOk result (heap.new ≡ with_object heap.old (own_function number name)) }
+    ensures store { OnOk result (heap.new ≡ with_object heap.old (named_function (FuncKind.Simple number) name)) }
     ensures live { length heap.old.list ≤ length heap.new.list }
 {
     let function = heap.make_func(FuncKind::Simple(number), 0)?;
@@ -39,15 +36,17 @@ fn add_own_function(heap: &mut Heap, number: u32, name: Tag) -> Result<ObjId, Me
     Ok(function)
 }
 
-/// Makes a module's own `say` and `later`.
+/// Makes a module's own `say` and `later`, known by its numbers.
 pub(crate) fn add_own_functions(heap: &mut Heap, owner: u32) -> Result<(ObjId, ObjId), Memory>
+    requires few { owner < 64 }
     ensures say { IfOk result (λ o. o.0 ≡ length heap.old.list) }
     ensures later { IfOk result (λ o. o.1 ≡ length heap.old.list + 1) }
     ensures store { OnOk result (heap.new ≡ with_module owner heap.old) }
     ensures live { length heap.old.list ≤ length heap.new.list }
 {
-    let say = add_own_function(heap, SAY, Tag::Own(owner, 0))?;
-    let later = add_own_function(heap, LATER, Tag::Own(owner, 1))?;
+    let first = 4 * owner + FIRST_OWN;
+    let say = add_own_function(heap, first, Tag::Own(owner, 0))?;
+    let later = add_own_function(heap, first + 1, Tag::Own(owner, 1))?;
     Ok((say, later))
 }
 

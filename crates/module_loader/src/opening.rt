@@ -9,10 +9,8 @@ use crate::imports::{add_imports, add_own_functions};
 use caja_units::{Memory, Units};
 use es3_convert::TO_STRING;
 use es3_heap::{Attrs, Class, FuncKind, Heap, ObjId, Proto, Value};
+use page_natives::LOAD_MODULE;
 use std::alloc::Global;
-
-/// The number of `loadModule` among the natives of a page.
-pub const LOAD_MODULE: u32 = 64;
 
 /// The number of the module that a page of one module has.
 const MAIN: u32 = 0;

@@ -20,7 +20,9 @@ use Rattle.es3_language.specs.Meaning.{Run}
 use Rattle.es3_moves.specs.declared.natives.Completion.{Completion}
 use Rattle.es3_moves.specs.declared.natives.Completion.TheVariants.{Normal, Thrown}
 use Rattle.es3_machine.specs.Machine.{completed}
+use Rattle.heap_rows.specs.Doing.{Told, touched, said}
 use Rattle.heap_rows.specs.Opening.{common}
+use Rattle.page_natives.specs.Natives.{Kept}
 use Rattle.module_loader.specs.Page.{module_run}
 use Rattle.page_runner.specs.declared.End.{End}
 use Rattle.page_runner.specs.declared.End.TheVariants.{Done, Number, Depth, Convert, Steps}
@@ -98,9 +100,14 @@ end_of convert_fault = Convert
 abbrev pub say_line : List ℕ → List ℕ
 say_line us = codes "say " ++ main_name ++ codes " " ++ literal us ++ line_end
 
-abbrev pub say_lines : List (List ℕ) → List ℕ
-say_lines [] = []
-say_lines (us ∷ lines) = say_line us ++ say_lines lines
+-- what was told, in order: a touch has no line here
+abbrev pub told_line : Told → List ℕ
+told_line (said m us) = say_line us
+told_line (touched by t g k) = []
+
+abbrev pub told_lines : List Told → List ℕ
+told_lines [] = []
+told_lines (t ∷ ts) = told_line t ++ told_lines ts
 
 -- what natives keep at the end of a run
 abbrev pub state_after : {S : Type 0} → Run S → S
@@ -114,9 +121,9 @@ completion_log (over c s z n) = completion_line s.heap (completed c)
 completion_log (stopped f s z n) = []
 completion_log (out s z n) = []
 
--- the log of a run, where natives keep the texts that were said: a line for each of them, which stays where the load was cut off, and then that of the load
-abbrev pub run_log : {S : Type 0} → (S → List (List ℕ)) → Run S → List ℕ
-run_log said r = say_lines (said (state_after r)) ++ completion_log r
+-- the log of a run among the natives of a page: a line for each text that was said, which stays where the load was cut off, and then that of the load
+abbrev pub run_log : Run Kept → List ℕ
+run_log r = told_lines (state_after r).told ++ completion_log r
 
 -- how it ended
 abbrev pub run_end : {S : Type 0} → Run S → End
@@ -124,9 +131,9 @@ run_end (over c s z n) = Done
 run_end (stopped f s z n) = end_of f
 run_end (out s z n) = Steps
 
--- the log of a page whose only module has this program; no module says anything yet
+-- the log of a page whose only module has this program
 unfoldable pub page_log : t.Tree t.program → ℕ → List ℕ
-page_log p steps = run_log (λ z. []) (module_run p 0 steps)
+page_log p steps = run_log (module_run p 0 steps)
 
 unfoldable pub page_end : t.Tree t.program → ℕ → End
 page_end p steps = run_end (module_run p 0 steps)

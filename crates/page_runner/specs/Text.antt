@@ -4,7 +4,7 @@ use Rattle.es3_tree.specs.Tree as t
 use Rattle.es3_language.specs.Store.{Store}
 use Rattle.es3_language.specs.Meaning.{Run, run_program}
 use Rattle.global_names.specs.Opening.{text_objects, text_globals}
-use Rattle.global_names.specs.Natives.{Said, nothing_said, text_natives}
+use Rattle.page_natives.specs.Natives.{Kept, first_kept, page_table}
 use Rattle.page_runner.specs.declared.End.{End}
 use Rattle.page_runner.specs.Log.{run_log, run_end}
 
@@ -13,11 +13,11 @@ abbrev pub text_store : Store
 text_store = record { heap = text_objects; scopes = []; codes = []; globals = text_globals; shared = [] }
 
 -- what the program of a text comes to by itself, with so many steps
-abbrev pub text_run : t.Tree t.program → ℕ → Run Said
-text_run p steps = run_program text_natives p 0 text_store nothing_said steps
+abbrev pub text_run : t.Tree t.program → ℕ → Run Kept
+text_run p steps = run_program page_table p 0 text_store first_kept steps
 
 unfoldable pub text_log : t.Tree t.program → ℕ → List ℕ
-text_log p steps = run_log (λ z. z.lines) (text_run p steps)
+text_log p steps = run_log (text_run p steps)
 
 unfoldable pub text_end : t.Tree t.program → ℕ → End
 text_end p steps = run_end (text_run p steps)

@@ -11,8 +11,8 @@ mod text;
 
 use caja_units::Memory;
 use es3_tree::Program;
-use module_loader::{Opened, PageNatives, open};
-use running::run_among;
+use module_loader::open;
+use running::run_opened;
 use std::alloc::Global;
 pub use text::run_text;
 
@@ -43,12 +43,5 @@ pub fn run_page(alloc: Global, p: Program, steps: u64) -> Result<Outcome, Memory
     ensures log { IfOk result (λ o. o.log.items ≡ page_log (program p) steps) }
     ensures end { IfOk result (λ o. o.end ≡ page_end (program p) steps) }
 {
-    let Opened {
-        heap,
-        runtime,
-        imports,
-        globals,
-    } = open(alloc)?;
-    let mut natives = PageNatives { runtime, imports };
-    run_among(alloc, heap, globals, &mut natives, p, steps)
+    run_opened(alloc, open(alloc)?, p, steps)
 }

@@ -5,12 +5,14 @@ ghost use Rattle.caja_units.specs.Number.{number_text};
 ghost use Rattle.caja_units.specs.Literal.{literal};
 ghost use Rattle.es3_heap.specs.Objects.{object_at, class_of, tag_of};
 ghost use Rattle.es3_heap.specs.Properties.{own, value_of};
-ghost use Rattle.page_runner.specs.Log.{built_names, own_names, object_name, text_units, error_text, class_text, after_name, value_text, load_line, completion_line, say_line, say_lines};
+ghost use Rattle.page_runner.specs.Log.{built_names, own_names, object_name, text_units, error_text, class_text, after_name, value_text, load_line, completion_line, say_line, told_lines};
+ghost use Rattle.page_natives.specs.Natives.{told_of};
 
 use caja_num::Whole;
 use caja_units::{Memory, Units};
 use es3_heap::{Class, Heap, ObjId, Tag, Value};
 use es3_moves::natives::Completion;
+use page_natives::Said;
 use std::alloc::Global;
 
 /// The names of the built-ins in the order of their numbers.
@@ -239,21 +241,21 @@ fn push_said(alloc: Global, out: &mut Vec<u8>, text: &Units) -> Result<(), Memor
 }
 
 /// Appends a line for each text that was said.
-fn push_all_said(alloc: Global, out: &mut Vec<u8>, texts: &[Units]) -> Result<(), Memory>
-    ensures { OnOk result (out.new.items ≡ out.old.items ++ say_lines texts.now) }
+fn push_all_said(alloc: Global, out: &mut Vec<u8>, told: &[Said]) -> Result<(), Memory>
+    ensures { OnOk result (out.new.items ≡ out.old.items ++ told_lines (told_of told.now)) }
 {
-    for text in texts {
-        push_said(alloc, out, text)?;
+    for said in told {
+        push_said(alloc, out, &said.text)?;
     }
     Ok(())
 }
 
 /// What was said, and then the log of the load.
-pub fn said_first(alloc: Global, texts: &[Units], load: &[u8]) -> Result<Vec<u8>, Memory>
-    ensures { IfOk result (λ log. log.items ≡ say_lines texts.now ++ load.now) }
+pub fn said_first(alloc: Global, told: &[Said], load: &[u8]) -> Result<Vec<u8>, Memory>
+    ensures { IfOk result (λ log. log.items ≡ told_lines (told_of told.now) ++ load.now) }
 {
     let mut log = Vec::new(alloc);
-    push_all_said(alloc, &mut log, texts)?;
+    push_all_said(alloc, &mut log, told)?;
     push(&mut log, load)?;
     Ok(log)
 }

@@ -6,23 +6,38 @@ ghost use Rattle.es3_language.specs.Meaning.{Run, run_program};
 ghost use Rattle.es3_language.specs.Store.{Store};
 ghost use Rattle.es3_machine.specs.Held.{new_store};
 ghost use Rattle.es3_machine.specs.Machine.{Ran};
-ghost use Rattle.page_runner.specs.Log.{state_after, completion_log, run_end};
+ghost use Rattle.page_natives.specs.Natives.{new_kept, page_table};
+ghost use Rattle.page_runner.specs.Log.{state_after, completion_log, run_log, run_end};
 ghost use Rattle.page_runner.specs.Shown.{ShowsAtOnce};
 
-use crate::log::completion_line;
+use crate::log::{completion_line, said_first};
 use crate::{End, Outcome};
 use caja_units::Memory;
 use es3_heap::{Heap, ObjId, Stop};
 use es3_machine::Machine;
 use es3_moves::natives::{Completion, Natives};
 use es3_tree::Program;
+use module_loader::Opened;
+use page_natives::PageNatives;
 use std::alloc::Global;
 
 /// The number of the module that a page of one module has, and of a text that runs as it stands.
 const MAIN: u32 = 0;
 
+/// Runs a program among the natives of a page, over the store of one that was opened, with so many steps. What is shown is what
+/// was said, and then the load.
+pub fn run_opened(alloc: Global, page: Opened, p: Program, steps: u64) -> Result<Outcome, Memory>
+    ensures log { IfOk result (λ o. o.log.items ≡ run_log (run_program page_table (program p) 0 (new_store page.heap page.globals) (new_kept page.runtime page.imports) steps)) }
+    ensures end { IfOk result (λ o. o.end ≡ run_end (run_program page_table (program p) 0 (new_store page.heap page.globals) (new_kept page.runtime page.imports) steps)) }
+{
+    let mut natives = PageNatives::new(alloc, page.runtime, page.imports);
+    let load = run_among(alloc, page.heap, page.globals, &mut natives, p, steps)?;
+    let log = said_first(alloc, &natives.told, &load.log)?;
+    Ok(Outcome { log, end: load.end })
+}
+
 /// Runs a program among natives, over a store with this global object, with so many steps. What is shown is the load alone.
-pub fn run_among<N: Natives>(
+fn run_among<N: Natives>(
     alloc: Global,
     heap: Heap,
     globals: ObjId,

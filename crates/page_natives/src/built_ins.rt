@@ -1,8 +1,8 @@
-//! The built-in functions of a text (ES3 15), each by its number.
+//! The built-in functions of a page (ES3 15), each by its number.
 
 ghost use Rattle.std.specs.Prelude.{◌≡◌, ◌≤◌, length, slice_get};
 ghost use Rattle.row_outcomes.specs.Comes.{Comes};
-ghost use Rattle.global_names.specs.BuiltIns.{tool_done, method_done, done_of, built_in};
+ghost use Rattle.page_natives.specs.BuiltIns.{tool_done, method_done, node_done, done_of, built_in};
 
 use crate::objects::{array_from, function_from, object_from, to_string, value_of};
 use builtin_array::{concat, join, pop, push, reverse, shift, slice, unshift};
@@ -15,7 +15,7 @@ use builtin_string::{
 };
 use es3_heap::{Heap, Stop, Value};
 use freeze_marks::tools;
-use row_outcomes::Outcome;
+use row_outcomes::{Outcome, thrown};
 use std::alloc::Global;
 
 /// A function of the record `cajita`.
@@ -51,7 +51,25 @@ pub enum Method {
     Reverse,
 }
 
-/// A built-in function of a text.
+/// A method of nodes.
+#[derive(Clone, Copy, Debug)]
+pub enum NodeMethod {
+    GetTagName,
+    GetParentNode,
+    GetChildNodes,
+    GetElementById,
+    GetAttribute,
+    SetAttribute,
+    GetText,
+    SetText,
+    CreateElement,
+    CreateTextNode,
+    AppendChild,
+    RemoveChild,
+    On,
+}
+
+/// A built-in function.
 #[derive(Clone, Copy, Debug)]
 pub enum BuiltIn {
     Tool(Tool),
@@ -70,6 +88,7 @@ pub enum BuiltIn {
     Call,
     Apply,
     Method(Method),
+    OfNode(NodeMethod),
     Object,
     Function,
     Array,
@@ -84,7 +103,7 @@ const FIRST_ROW: u32 = 2;
 const FIRST_OBJECT_FUNCTION: u32 = 59;
 
 /// The rows in the order of their numbers.
-const ROWS: [BuiltIn; 37] = [
+const ROWS: [BuiltIn; 50] = [
     BuiltIn::Tool(Tool::Freeze),
     BuiltIn::Tool(Tool::IsFrozen),
     BuiltIn::Tool(Tool::Copy),
@@ -122,6 +141,19 @@ const ROWS: [BuiltIn; 37] = [
     BuiltIn::Method(Method::Pop),
     BuiltIn::Method(Method::Shift),
     BuiltIn::Method(Method::Reverse),
+    BuiltIn::OfNode(NodeMethod::GetTagName),
+    BuiltIn::OfNode(NodeMethod::GetParentNode),
+    BuiltIn::OfNode(NodeMethod::GetChildNodes),
+    BuiltIn::OfNode(NodeMethod::GetElementById),
+    BuiltIn::OfNode(NodeMethod::GetAttribute),
+    BuiltIn::OfNode(NodeMethod::SetAttribute),
+    BuiltIn::OfNode(NodeMethod::GetText),
+    BuiltIn::OfNode(NodeMethod::SetText),
+    BuiltIn::OfNode(NodeMethod::CreateElement),
+    BuiltIn::OfNode(NodeMethod::CreateTextNode),
+    BuiltIn::OfNode(NodeMethod::AppendChild),
+    BuiltIn::OfNode(NodeMethod::RemoveChild),
+    BuiltIn::OfNode(NodeMethod::On),
 ];
 
 /// The functions that are no rows, in the order of their numbers.
@@ -140,7 +172,7 @@ fn function_at(functions: &[BuiltIn], place: u32) -> Option<BuiltIn>
     functions.get(place as usize).copied()
 }
 
-/// The built-in function of a number, where a text has it.
+/// The built-in function of a number, where there is one.
 pub(crate) fn built_in(which: u32) -> Option<BuiltIn>
     ensures { result ≡ built_in which }
 {
@@ -208,6 +240,22 @@ fn method_done(
     }
 }
 
+/// A method of nodes comes to a TypeError `bad receiver`: no page has nodes.
+#[tactic(auto, using(crate::proofs::Nodes::refused_comes))]
+fn node_done(
+    alloc: Global,
+    h: &mut Heap,
+    method: NodeMethod,
+    by: u32,
+    this: &Value,
+    args: &[Value],
+) -> Result<Outcome, Stop>
+    ensures outcome { Comes (node_done method by this.now args.now h.old) result h.new }
+    ensures live { length h.old.list ≤ length h.new.list }
+{
+    thrown(alloc, h, by, b"bad receiver")
+}
+
 /// What a built-in function comes to.
 pub(crate) fn done(
     alloc: Global,
@@ -242,5 +290,6 @@ pub(crate) fn done(
         BuiltIn::ToString => to_string(alloc, h, this),
         BuiltIn::ValueOf => value_of(alloc, h, this),
         BuiltIn::Method(method) => method_done(alloc, h, method, by, this, args),
+        BuiltIn::OfNode(method) => node_done(alloc, h, method, by, this, args),
     }
 }

@@ -1,6 +1,6 @@
--- The natives of a text name live objects alone.
-use Rattle.std.proofs.Common.{ℕ, Bool, true, false, List, [], ◌∷◌, All, length, cond, Option, Some, None, Ok, Err, lt_of_lt_of_le, arith}
-use Rattle.std.proofs.lemmas.List.Elements.{All-head, All-push}
+-- The natives of a page name live objects alone.
+use Rattle.std.proofs.Common.{ℕ, zero, suc, ◌+◌, ◌-◌, ◌≤◌, Bool, true, false, List, [], ◌∷◌, All, length, replicate, cond, Option, Some, None, Ok, Err, lt_of_lt_of_le, le_trans}
+use Rattle.std.proofs.lemmas.List.Elements.{All-nil, All-cons, All-head, All-tail, All-push, All-append, All-set, All-weaker}
 use Rattle.std.specs.Prelude.{codes, nat_lt, Result}
 use Rattle.plans.specs.Plans.{Fault}
 use Rattle.es3_heap.specs.declared.value.Value.{Value}
@@ -11,28 +11,31 @@ use Rattle.es3_convert.specs.Conversions.{and_then, text_of}
 use Rattle.es3_language.specs.Natives.{value_reply}
 use Rattle.es3_live.specs.Live.{IsLive, AreClosed, Later}
 use Rattle.es3_live.specs.Keeps.{AfterCall, KeepsLive}
-use Rattle.es3_live.proofs.Growth.{all_more, later_refl}
+use Rattle.es3_live.proofs.Growth.{live_more, all_more, later_refl}
 use Rattle.rows.specs.Rows as r
 use Rattle.rows.specs.Rows.{most_items}
 use Rattle.heap_rows.specs.Doing.{makes, too_long}
-use Rattle.heap_rows.specs.Opening.{built_ins_there, runtime_id, imports_id}
+use Rattle.heap_rows.specs.Opening.{built_ins_there}
 use Rattle.row_outcomes.specs.Arguments.{argument, told}
 use Rattle.row_outcomes.specs.Arrays.{new_array}
 use Rattle.live_rows.specs.Live.{LiveDone}
 use Rattle.live_rows.proofs.Made.{throws_live, array_live, copy_live}
 use Rattle.live_tables.proofs.Among.{built_in_live}
 use Rattle.guard_runtime.proofs.Live.{load_module_live, guard_live}
-use Rattle.global_names.specs.declared.built_ins.Tool.{Tool}
-use Rattle.global_names.specs.declared.built_ins.Tool.TheVariants as tool
-use Rattle.global_names.specs.declared.built_ins.Method.{Method}
-use Rattle.global_names.specs.declared.built_ins.Method.TheVariants as m
-use Rattle.global_names.specs.declared.built_ins.BuiltIn.{BuiltIn}
-use Rattle.global_names.specs.declared.built_ins.BuiltIn.TheVariants as b
-use Rattle.global_names.specs.declared.natives.Callee.{Callee}
-use Rattle.global_names.specs.declared.natives.Callee.TheVariants as c
-use Rattle.global_names.specs.Objects.{object_from, array_from}
-use Rattle.global_names.specs.BuiltIns.{tool_done, method_done, done_of}
-use Rattle.global_names.specs.Natives.{Said, callee_of, can_wait, say_done, with_line, later_done, with_waiting, done_by, kept_by, answer_of, text_natives, text_fits}
+use Rattle.page_natives.specs.declared.built_ins.Tool.{Tool}
+use Rattle.page_natives.specs.declared.built_ins.Tool.TheVariants as tool
+use Rattle.page_natives.specs.declared.built_ins.Method.{Method}
+use Rattle.page_natives.specs.declared.built_ins.Method.TheVariants as m
+use Rattle.page_natives.specs.declared.built_ins.NodeMethod.{NodeMethod}
+use Rattle.page_natives.specs.declared.built_ins.BuiltIn.{BuiltIn}
+use Rattle.page_natives.specs.declared.built_ins.BuiltIn.TheVariants as b
+use Rattle.page_natives.specs.declared.natives.Callee.{Callee}
+use Rattle.page_natives.specs.declared.natives.Callee.TheVariants as c
+use Rattle.page_natives.specs.Objects.{object_from, array_from}
+use Rattle.page_natives.specs.BuiltIns.{tool_done, method_done, of_node, done_of}
+use Rattle.page_natives.specs.declared.natives.Waiting.{Waiting}
+use Rattle.page_natives.specs.Answered.{turn_of}
+use Rattle.page_natives.specs.Natives.{Kept, Fits, kept_fits, callee_of, can_wait, cell_value, padded, put_at, say_done, with_said, later_done, with_waiting, with_kept, done_by, kept_by, turn_by, page_table}
 
 -- the functions that are no rows
 
@@ -118,13 +121,14 @@ done_live b.RangeError by this args h there closed a l = built_in_live (r.makes 
 done_live b.Call by this args h there closed a l = built_in_live r.call by this args h there closed a l
 done_live b.Apply by this args h there closed a l = built_in_live r.apply by this args h there closed a l
 done_live (b.Method m) by this args h there closed a l = method_live m by this args h there closed a l
+done_live (b.OfNode m) by this args h there closed a l = built_in_live (of_node m) by this args h there closed a l
 done_live b.Object by this args h there closed a l = object_live by (argument 0 args) h closed (argument_live (length h.list) args l)
 done_live b.Function by this args h there closed a l = refused by h closed
 done_live b.Array by this args h there closed a l = array_from_live by args h closed l
 done_live b.ToString by this args h there closed a l = text_live (text_of h this) h closed
 done_live b.ValueOf by this args h there closed a l = record { later = later_refl h; closed = closed; answer = a }
 
--- a text's own functions
+-- the functions of modules and cells
 
 say_live : (t : Result (List ℕ) Fault) (h : Objects) → AreClosed h → LiveDone h (say_done t h)
 say_live (Ok us) h closed = record { later = later_refl h; closed = closed; answer = tt }
@@ -134,45 +138,80 @@ later_live : (waits : Bool) (by : ℕ) (h : Objects) → AreClosed h → LiveDon
 later_live true by h closed = record { later = later_refl h; closed = closed; answer = tt }
 later_live false by h closed = throws_live by (codes "bad argument") h [] closed
 
-line_fits : (t : Result (List ℕ) Fault) (h : Objects) (z : Said) → text_fits z h → text_fits (with_line t z) h
-line_fits (Ok us) h z fits = fits
-line_fits (Err f) h z fits = fits
+cell_live : (n cell : ℕ) (cells : List Value) → All (IsLive n) cells → IsLive n (cell_value cell cells)
+cell_live n cell [] live = tt
+cell_live n zero (x ∷ cells) live = All-head (IsLive n) x cells live
+cell_live n (suc cell) (x ∷ cells) live = cell_live n cell cells (All-tail (IsLive n) x cells live)
 
-waiting_fits : (waits : Bool) (x : Value) (h : Objects) (z : Said) → text_fits z h → IsLive (length h.list) x → text_fits (with_waiting waits x z) h
-waiting_fits true x h z fits live = (fits.0, All-push (IsLive (length h.list)) z.queue x fits.1 live)
-waiting_fits false x h z fits live = fits
+nothing_live : (n k : ℕ) → All (IsLive n) (replicate k v.Undefined)
+nothing_live n zero = All-nil (IsLive n)
+nothing_live n (suc k) = All-cons (IsLive n) v.Undefined (replicate k v.Undefined) tt (nothing_live n k)
+
+put_live : (n cell : ℕ) (x : Value) (cells : List Value) → All (IsLive n) cells → IsLive n x → All (IsLive n) (put_at cell x cells)
+put_live n cell x cells all live = All-set (IsLive n) (padded (cell + 1) cells) cell x live (All-append (IsLive n) cells _ all (nothing_live n (cell + 1 - length cells)))
+
+said_fits : (m : ℕ) (t : Result (List ℕ) Fault) (h : Objects) (z : Kept) → kept_fits z h → kept_fits (with_said m t z) h
+said_fits m (Ok us) h z fits = record { runtime = fits.runtime; imports = fits.imports; built_ins = fits.built_ins; cells = fits.cells; waiting = fits.waiting }
+said_fits m (Err f) h z fits = fits
+
+abbrev WaitsLive : ℕ → Waiting → Type 0
+WaitsLive n w = IsLive n w.function
+
+waiting_fits : (m : ℕ) (waits : Bool) (x : Value) (h : Objects) (z : Kept) → kept_fits z h → IsLive (length h.list) x → kept_fits (with_waiting m waits x z) h
+waiting_fits m true x h z fits live = record {
+  runtime = fits.runtime;
+  imports = fits.imports;
+  built_ins = fits.built_ins;
+  cells = fits.cells;
+  waiting = All-push (WaitsLive (length h.list)) z.waiting (record { by = m; function = x }) fits.waiting live;
+}
+waiting_fits m false x h z fits live = fits
 
 -- all of them
 
-all_there : (z : Said) (h : Objects) → text_fits z h → built_ins_there h
-all_there z h fits = let many = fits.0 in omega (arith, many)
+callee_live : (f : Callee) (by : ℕ) (this : Value) (args : List Value) (h : Objects) (z : Kept) → kept_fits z h → AreClosed h → IsLive (length h.list) this → All (IsLive (length h.list)) args → LiveDone h (done_by f by this args h z)
+callee_live (c.BuiltIn f) by this args h z fits closed a l = done_live f by this args h fits.built_ins closed a l
+callee_live c.LoadModule by this args h z fits closed a l = load_module_live z.runtime z.imports by (argument 0 args) h closed fits.runtime fits.imports (argument_live (length h.list) args l)
+callee_live (c.Guard g) by this args h z fits closed a l = guard_live g by args h fits.built_ins closed l
+callee_live (c.Say m) by this args h z fits closed a l = say_live (text_of h (argument 0 args)) h closed
+callee_live (c.Later m) by this args h z fits closed a l = later_live (can_wait h (argument 0 args)) by h closed
+callee_live (c.Get cell) by this args h z fits closed a l = record { later = later_refl h; closed = closed; answer = cell_live (length h.list) cell z.cells fits.cells }
+callee_live (c.Set cell) by this args h z fits closed a l = record { later = later_refl h; closed = closed; answer = tt }
 
-callee_live : (f : Callee) (by : ℕ) (this : Value) (args : List Value) (h : Objects) (z : Said) → text_fits z h → AreClosed h → IsLive (length h.list) this → All (IsLive (length h.list)) args → LiveDone h (done_by f by this args h)
-callee_live (c.BuiltIn f) by this args h z fits closed a l = done_live f by this args h (all_there z h fits) closed a l
-callee_live c.Say by this args h z fits closed a l = say_live (text_of h (argument 0 args)) h closed
-callee_live c.Later by this args h z fits closed a l = later_live (can_wait h (argument 0 args)) by h closed
-callee_live c.LoadModule by this args h z fits closed a l = load_module_live runtime_id imports_id by (argument 0 args) h closed (let many = fits.0 in omega (arith, many)) fits.0 (argument_live (length h.list) args l)
-callee_live (c.Guard g) by this args h z fits closed a l = guard_live g by args h (all_there z h fits) closed l
-
-callee_fits : (f : Callee) (args : List Value) (h : Objects) (z : Said) → text_fits z h → All (IsLive (length h.list)) args → text_fits (kept_by f args h z) h
+callee_fits : (f : Callee) (args : List Value) (h : Objects) (z : Kept) → kept_fits z h → All (IsLive (length h.list)) args → kept_fits (kept_by f args h z) h
 callee_fits (c.BuiltIn f) args h z fits live = fits
-callee_fits c.Say args h z fits live = line_fits (text_of h (argument 0 args)) h z fits
-callee_fits c.Later args h z fits live = waiting_fits (can_wait h (argument 0 args)) (argument 0 args) h z fits (argument_live (length h.list) args live)
 callee_fits c.LoadModule args h z fits live = fits
 callee_fits (c.Guard g) args h z fits live = fits
+callee_fits (c.Say m) args h z fits live = said_fits m (text_of h (argument 0 args)) h z fits
+callee_fits (c.Later m) args h z fits live = waiting_fits m (can_wait h (argument 0 args)) (argument 0 args) h z fits (argument_live (length h.list) args live)
+callee_fits (c.Get cell) args h z fits live = fits
+callee_fits (c.Set cell) args h z fits live = record {
+  runtime = fits.runtime;
+  imports = fits.imports;
+  built_ins = fits.built_ins;
+  cells = put_live (length h.list) cell (argument 0 args) z.cells fits.cells (argument_live (length h.list) args live);
+  waiting = fits.waiting;
+}
 
-fits_later : (z : Said) (h g : Objects) → text_fits z h → Later h g → text_fits z g
-fits_later z h g fits later = (lt_of_lt_of_le fits.0 later.more, all_more z.queue later.more fits.1)
+fits_later : (z : Kept) (h g : Objects) → kept_fits z h → Later h g → kept_fits z g
+fits_later z h g fits later = record {
+  runtime = lt_of_lt_of_le fits.runtime later.more;
+  imports = lt_of_lt_of_le fits.imports later.more;
+  built_ins = le_trans fits.built_ins later.more;
+  cells = all_more z.cells later.more fits.cells;
+  waiting = All-weaker (WaitsLive (length h.list)) (WaitsLive (length g.list)) (λ w. live_more w.function later.more) z.waiting fits.waiting;
+}
 
-answer_live : (f : Option Callee) (by : ℕ) (this : Value) (args : List Value) (h : Objects) (z : Said) → text_fits z h → AreClosed h → IsLive (length h.list) this → All (IsLive (length h.list)) args → AfterCall text_fits h (answer_of f by this args h z)
+answer_live : (f : Option Callee) (by : ℕ) (this : Value) (args : List Value) (h : Objects) (z : Kept) → kept_fits z h → AreClosed h → IsLive (length h.list) this → All (IsLive (length h.list)) args → AfterCall kept_fits h (turn_by f by this args h z)
 answer_live (Some f) by this args h z fits closed a l =
     let d = callee_live f by this args h z fits closed a l in
-    record { later = d.later; closed = d.closed; answer = d.answer; kept = fits_later (kept_by f args h z) h (done_by f by this args h).heap (callee_fits f args h z fits l) d.later }
-answer_live None by this args h z fits closed a l = record { later = later_refl h; closed = closed; answer = tt; kept = fits }
+    record { later = d.later; closed = d.closed; answer = d.answer; kept = fits_later (kept_by f args h z) h (done_by f by this args h z).heap (callee_fits f args h z fits l) d.later }
+answer_live None by this args h z fits closed a l =
+    let d = throws_live by (codes "not a function") h [] closed in
+    record { later = d.later; closed = d.closed; answer = d.answer; kept = fits_later z h _ fits d.later }
 
-pub text_keeps_live : KeepsLive text_fits text_natives
-unfolding text_natives
-text_keeps_live = record {
+pub page_keeps_live : KeepsLive kept_fits page_table
+page_keeps_live = record {
   called = λ which by this args h z fits closed a l. answer_live (callee_of which) by this args h z fits closed a l;
   touched = λ i h z fits. fits;
   later = λ h g z fits later. fits_later z h g fits later;

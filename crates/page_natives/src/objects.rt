@@ -3,7 +3,7 @@
 ghost use Rattle.std.specs.Prelude.{◌≡◌, ◌≤◌, IfOk, OnOk, length};
 ghost use Rattle.row_outcomes.specs.Comes.{Comes};
 ghost use Rattle.row_outcomes.specs.Arguments.{argument};
-ghost use Rattle.global_names.specs.Objects.{new_object, object_from, function_from, array_from, to_text, to_value};
+ghost use Rattle.page_natives.specs.Objects.{new_object, object_from, function_from, array_from, to_text, to_value};
 
 use caja_units::Memory;
 use es3_convert::{out_of_memory, to_text};

@@ -9,7 +9,7 @@ use Rattle.row_outcomes.specs.declared.Outcome.{Outcome}
 use Rattle.row_outcomes.specs.declared.Outcome.TheVariants as outcome
 use Rattle.row_outcomes.specs.Comes.{Comes}
 use Rattle.heap_rows.specs.Doing.{Done}
-use Rattle.module_loader.specs.Answered.{answered, turn_of}
+use Rattle.page_natives.specs.Answered.{answered, turn_of}
 
 same_turn : {S : Type 0} (a b : Reply) (h g : Objects) (z : S) → a ≡ b → h ≡ g → (let t : Turn S = record { reply = a; heap = h; state = z } in t) ≡ record { reply = b; heap = g; state = z }
 same_turn a b h g z same left = ap (λ r. record { reply = r; heap = h; state = z }) same ∙ ap (λ q. record { reply = b; heap = q; state = z }) left

@@ -1,0 +1,5 @@
+pub mod Answered
+pub mod Cells
+pub mod Nodes
+pub mod Numbers
+pub mod OwnFunctions

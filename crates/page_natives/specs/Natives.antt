@@ -1,0 +1,163 @@
+-- The natives of a page: what each answers, by its number, and what they keep.
+use Rattle.std.specs.Prelude.{ℕ, ◌+◌, ◌-◌, ◌/◌, ◌%◌, ◌<◌, Bool, true, false, List, [], ◌∷◌, ◌++◌, All, Option, Some, None, Result, Ok, Err, is_some, map, length, get_or, set, replicate, codes, nat_eq, nat_lt, if◌then◌else◌}
+use Rattle.plans.specs.Plans.{Fault}
+use Rattle.es3_heap.specs.declared.value.Value.{Value}
+use Rattle.es3_heap.specs.declared.value.Value.TheVariants as v
+use Rattle.es3_heap.specs.declared.value.Class.{Class}
+use Rattle.es3_heap.specs.declared.value.Class.TheVariants as class
+use Rattle.es3_heap.specs.declared.value.FuncKind.{FuncKind}
+use Rattle.es3_heap.specs.declared.value.FuncKind.TheVariants as kind
+use Rattle.es3_heap.specs.Objects.{Objects, object_at, class_of, callable_of}
+use Rattle.es3_heap.specs.Properties.{own}
+use Rattle.es3_heap.specs.Reading.{kind_of}
+use Rattle.es3_convert.specs.Conversions.{text_of}
+use Rattle.es3_language.specs.Natives.{Turn, Table}
+use Rattle.es3_live.specs.Live.{IsLive}
+use Rattle.heap_rows.specs.Marks.{simple_mark}
+use Rattle.heap_rows.specs.Doing.{Told, said, Done, Page, gives}
+use Rattle.heap_rows.specs.Opening.{load_module as load_module_number, built_ins_there, runtime_id, imports_id}
+use Rattle.row_outcomes.specs.Comes.{throws}
+use Rattle.row_outcomes.specs.Arguments.{argument, after}
+use Rattle.guard_runtime.specs.declared.Guard.{Guard}
+use Rattle.guard_runtime.specs.Guards as guards
+use Rattle.page_natives.specs.Answered.{turn_of}
+use Rattle.page_natives.specs.declared.built_ins.BuiltIn.{BuiltIn}
+use Rattle.page_natives.specs.declared.natives.Callee.{Callee}
+use Rattle.page_natives.specs.declared.natives.Callee.TheVariants as c
+use Rattle.page_natives.specs.declared.natives.Said.{Said}
+use Rattle.page_natives.specs.declared.natives.Waiting.{Waiting}
+use Rattle.page_natives.specs.declared.natives.PageNatives.{PageNatives}
+use Rattle.page_natives.specs.BuiltIns.{done_of, built_in}
+
+-- what is kept: the object of the runtime and that of the imports; what the log prints; what each cell holds; the functions that wait to be called, each in the queue
+-- of a module
+pub record Kept : Type 0 where
+  pub runtime : ℕ
+  pub imports : ℕ
+  pub told : List Told
+  pub cells : List Value
+  pub waiting : List Waiting
+
+abbrev pub told_of : List Said → List Told
+told_of texts = map (λ t. said t.by t.text) texts
+
+abbrev pub kept_of : PageNatives → Kept
+kept_of n = record { runtime = n.runtime; imports = n.imports; told = told_of n.told.items; cells = n.cells.items; waiting = n.waiting.items }
+
+abbrev pub new_kept : ℕ → ℕ → Kept
+new_kept runtime imports = record { runtime = runtime; imports = imports; told = []; cells = []; waiting = [] }
+
+abbrev pub first_kept : Kept
+first_kept = new_kept runtime_id imports_id
+
+-- what is kept, as rows see it: a cell into which nothing was put holds nothing
+
+abbrev pub queue_of : ℕ → List Waiting → List Value
+queue_of m [] = []
+queue_of m (w ∷ ws) = if nat_eq m w.by then w.function ∷ queue_of m ws else queue_of m ws
+
+abbrev pub cell_value : ℕ → List Value → Value
+cell_value cell cells = get_or cells cell v.Undefined
+
+abbrev pub page_of : Kept → Page
+page_of z = record { cells = λ cell. cell_value cell z.cells; queues = λ m. queue_of m z.waiting }
+
+-- the callees by their numbers: the built-in functions, `loadModule`, the guards; and behind them four for each module and cell
+
+abbrev pub own_callee : ℕ → ℕ → Callee
+own_callee i owner = if nat_eq i 0 then c.Say owner else if nat_eq i 1 then c.Later owner else if nat_eq i 2 then c.Get owner else c.Set owner
+
+abbrev pub other_callee : Option BuiltIn → Option Guard → Option Callee
+other_callee (Some f) g = Some (c.BuiltIn f)
+other_callee None (Some g) = Some (c.Guard g)
+other_callee None None = None
+
+abbrev pub callee_of : ℕ → Option Callee
+callee_of n =
+    if nat_lt n 128 then if nat_eq n load_module_number then Some c.LoadModule else other_callee (built_in n) (guards.guard_at n)
+    else Some (own_callee (n % 4) (n / 4 - 32))
+
+-- whether a value is a function of a text that modules may use
+abbrev pub is_closure : Bool → Option FuncKind → Bool
+is_closure marked (Some (kind.Code n)) = marked
+is_closure marked k = false
+
+abbrev pub can_wait_by : Class → Objects → ℕ → Bool
+can_wait_by class.Function h o = is_closure (is_some (own h o simple_mark)) (kind_of (callable_of (object_at h o)))
+can_wait_by c h o = false
+
+abbrev pub can_wait : Objects → Value → Bool
+can_wait h (v.Obj o) = can_wait_by (class_of (object_at h o)) h o
+can_wait h x = false
+
+-- say(v) of a module: the text of v is said
+
+abbrev pub say_done : Result (List ℕ) Fault → Objects → Done
+say_done t h = after t h (λ us. gives v.Undefined h [])
+
+abbrev pub with_said : ℕ → Result (List ℕ) Fault → Kept → Kept
+with_said m (Ok us) z = record z { told = z.told ++ said m us ∷ [] }
+with_said m (Err f) z = z
+
+-- later(f) of a module: f waits
+
+abbrev pub later_done : Bool → ℕ → Objects → Done
+later_done waits by h = if waits then gives v.Undefined h [] else throws (codes "bad argument") by h
+
+abbrev pub with_waiting : ℕ → Bool → Value → Kept → Kept
+with_waiting m waits x z = if waits then record z { waiting = z.waiting ++ record { by = m; function = x } ∷ [] } else z
+
+-- get() and set(v) of a cell
+
+abbrev pub cell_done : ℕ → List Value → Objects → Done
+cell_done cell cells h = gives (cell_value cell cells) h []
+
+abbrev pub set_done : Objects → Done
+set_done h = gives v.Undefined h []
+
+-- so many at least
+abbrev pub padded : ℕ → List Value → List Value
+padded n cells = cells ++ replicate (n - length cells) v.Undefined
+
+abbrev pub put_at : ℕ → Value → List Value → List Value
+put_at cell x cells = set (padded (cell + 1) cells) cell x
+
+abbrev pub with_kept : ℕ → Value → Kept → Kept
+with_kept cell x z = record z { cells = put_at cell x z.cells }
+
+-- what a callee comes to, and what is kept then
+
+abbrev pub done_by : Callee → ℕ → Value → List Value → Objects → Kept → Done
+done_by (c.BuiltIn f) by this args h z = done_of f by this args h
+done_by c.LoadModule by this args h z = guards.load_module z.runtime z.imports by (argument 0 args) h
+done_by (c.Guard g) by this args h z = guards.done_of g by args h
+done_by (c.Say m) by this args h z = say_done (text_of h (argument 0 args)) h
+done_by (c.Later m) by this args h z = later_done (can_wait h (argument 0 args)) by h
+done_by (c.Get cell) by this args h z = cell_done cell z.cells h
+done_by (c.Set cell) by this args h z = set_done h
+
+abbrev pub kept_by : Callee → List Value → Objects → Kept → Kept
+kept_by (c.Say m) args h z = with_said m (text_of h (argument 0 args)) z
+kept_by (c.Later m) args h z = with_waiting m (can_wait h (argument 0 args)) (argument 0 args) z
+kept_by (c.Set cell) args h z = with_kept cell (argument 0 args) z
+kept_by f args h z = z
+
+-- no function of a page has another number
+abbrev pub turn_by : Option Callee → ℕ → Value → List Value → Objects → Kept → Turn Kept
+turn_by (Some f) by this args h z = turn_of (done_by f by this args h z) (kept_by f args h z)
+turn_by None by this args h z = turn_of (throws (codes "not a function") by h) z
+
+-- touches aren't kept yet
+abbrev pub page_table : Table Kept
+page_table = record { answer = λ which by this args h z. turn_by (callee_of which) by this args h z; touch = λ i z. z }
+
+-- what is kept fits a store's objects: the runtime and the imports are there, the built-in functions and their two records, and so is all that a cell holds and that waits
+pub record Fits (z : Kept) (h : Objects) : Type 0 where
+  pub runtime : z.runtime < length h.list
+  pub imports : z.imports < length h.list
+  pub built_ins : built_ins_there h
+  pub cells : All (IsLive (length h.list)) z.cells
+  pub waiting : All (λ w. IsLive (length h.list) w.function) z.waiting
+
+abbrev pub kept_fits : Kept → Objects → Type 0
+kept_fits z h = Fits z h

@@ -1,0 +1,41 @@
+//! The natives of a page: what its modules, and a text that runs as it stands, may call, each by its number, and what that keeps (ES3 15).
+//!
+//! What each native answers, and what the natives keep, is specs/Natives.antt; what a built-in function comes to, specs/BuiltIns.antt; the
+//! functions that are no rows, specs/Objects.antt; that the functions of modules and cells do their rows, specs/OwnFunctions.antt.
+#![tactic(auto)]
+
+ghost use Rattle.rows.specs.Rows.{say, later, get, set};
+ghost use Rattle.std.specs.Prelude.{ℕ};
+ghost use Rattle.es3_heap.specs.declared.value.Tag.TheVariants as tag;
+ghost use Rattle.heap_rows.specs.Natives.{own_number, cell_number};
+ghost use Rattle.page_natives.specs.OwnFunctions.{DoesItsRow, HasItsNumber, BuiltInsDoTheirRows};
+
+mod built_ins;
+mod natives;
+mod objects;
+mod waiting;
+
+pub use built_ins::{BuiltIn, Method, NodeMethod, Tool};
+pub use natives::{Callee, LOAD_MODULE, PageNatives, Said, Waiting, answer_of};
+pub use objects::{array_from, function_from, object_from, to_string, value_of};
+
+/// What `say` and `later` of a module and `get` and `set` of a cell answer, and what they keep, is what their rows do among objects.
+pub fn own_functions_do_their_rows()
+    ensures say { (m : ℕ) → DoesItsRow (Callee.Say m) say (tag.Own m 0) }
+    ensures later { (m : ℕ) → DoesItsRow (Callee.Later m) later (tag.Own m 1) }
+    ensures get { (cell : ℕ) → DoesItsRow (Callee.Get cell) get (tag.Cell cell 1) }
+    ensures set { (cell : ℕ) → DoesItsRow (Callee.Set cell) set (tag.Cell cell 2) }
+{}
+
+/// Each of them is called by its number.
+pub fn own_functions_have_their_numbers()
+    ensures say { (m : ℕ) → HasItsNumber (Callee.Say m) (own_number m 0) }
+    ensures later { (m : ℕ) → HasItsNumber (Callee.Later m) (own_number m 1) }
+    ensures get { (cell : ℕ) → HasItsNumber (Callee.Get cell) (cell_number cell 1) }
+    ensures set { (cell : ℕ) → HasItsNumber (Callee.Set cell) (cell_number cell 2) }
+{}
+
+/// A built-in function that a page has from its beginning comes to its row, by its number.
+pub fn built_ins_do_their_rows()
+    ensures { BuiltInsDoTheirRows }
+{}

@@ -1,0 +1,273 @@
+//! What the modules of a page and a text may call, each by its number, and what that keeps.
+
+ghost use Rattle.std.specs.Prelude.{◌≡◌, ◌≤◌, ◌%◌, ◌/◌, ◌-◌, true, OnOk, Ok, length};
+ghost use Rattle.es3_convert.specs.Conversions.{text_of};
+ghost use Rattle.es3_moves.specs.Answers.{Answers};
+ghost use Rattle.page_natives.specs.Answered.{answered, turn_of};
+ghost use Rattle.page_natives.specs.Natives.{Kept, kept_of, new_kept, kept_fits, own_callee, callee_of, can_wait, say_done, with_said, later_done, with_waiting, cell_done, set_done, put_at, with_kept, done_by, kept_by, page_table};
+ghost use Rattle.page_natives.specs.Keeps.{page_keeps_live};
+
+use crate::built_ins::{BuiltIn, built_in, done};
+use crate::waiting::can_wait;
+use caja_units::{Memory, Units};
+use es3_convert::{out_of_memory, to_text};
+use es3_heap::{Heap, ObjId, Stop, Tag, Value};
+use es3_language::Touch;
+use es3_moves::natives::{Answer, Natives};
+use guard_runtime::{Guard, call_guard, guard_at, load_module};
+use row_outcomes::{Outcome, thrown, value_or};
+use std::alloc::Global;
+
+/// The number of `loadModule`; those of the guards follow it.
+pub const LOAD_MODULE: u32 = 64;
+
+/// The number of the first function that a module or a cell has: four numbers for each.
+const FIRST_OWN: u32 = 128;
+
+/// What a module or a text may call.
+#[derive(Clone, Copy, Debug)]
+pub enum Callee {
+    BuiltIn(BuiltIn),
+    LoadModule,
+    Guard(Guard),
+    /// `say` of a module.
+    Say(u32),
+    /// `later` of a module.
+    Later(u32),
+    /// `get` of a cell.
+    Get(u32),
+    /// `set` of a cell.
+    Set(u32),
+}
+
+/// The function of a module or of a cell that a number stands for.
+fn own_callee(which: u32) -> Callee
+    requires own { FIRST_OWN ≤ which }
+    ensures { result ≡ own_callee (which % 4) (which / 4 - 32) }
+{
+    let owner = which / 4 - 32;
+    match which % 4 {
+        0 => Callee::Say(owner),
+        1 => Callee::Later(owner),
+        2 => Callee::Get(owner),
+        _ => Callee::Set(owner),
+    }
+}
+
+/// What a number stands for, where there is such a function.
+fn callee_of(which: u32) -> Option<Callee>
+    ensures { result ≡ callee_of which }
+{
+    if which >= FIRST_OWN {
+        return Some(own_callee(which));
+    }
+    if which == LOAD_MODULE {
+        return Some(Callee::LoadModule);
+    }
+    match built_in(which) {
+        Some(function) => Some(Callee::BuiltIn(function)),
+        None => Some(Callee::Guard(guard_at(which)?)),
+    }
+}
+
+/// The answer of a native that comes to this.
+pub fn answer_of(outcome: Result<Outcome, Stop>) -> Answer
+    ensures { result ≡ answered outcome }
+{
+    match outcome {
+        Ok(Outcome::Value(value)) => Answer::Value(value),
+        Ok(Outcome::Throw(value)) => Answer::Throw(value),
+        Ok(Outcome::Invoke(recorded, function, this, args)) => {
+            Answer::Invoke(recorded, function, this, args)
+        }
+        Err(stop) => Answer::Stop(stop),
+    }
+}
+
+/// A text that a module said.
+#[derive(Drop)]
+pub struct Said {
+    /// The module's number.
+    pub by: u32,
+    pub text: Units,
+}
+
+/// A function that waits to be called.
+#[derive(Drop)]
+pub struct Waiting {
+    /// The number of the module in whose queue it stands.
+    pub by: u32,
+    pub function: Value,
+}
+
+/// The natives of a page, and what they keep.
+#[derive(Drop)]
+pub struct PageNatives {
+    /// The object of the runtime.
+    pub runtime: ObjId,
+    /// The object of what a module may import.
+    pub imports: ObjId,
+    /// What was said, in order.
+    pub told: Vec<Said>,
+    /// What each cell holds; nothing was put into a cell behind them.
+    pub cells: Vec<Value>,
+    /// The functions that wait to be called, in order.
+    pub waiting: Vec<Waiting>,
+}
+
+/// Puts a value into a cell. The cells before it of which there were none yet hold nothing.
+fn put_at(cells: &mut Vec<Value>, cell: u32, value: Value) -> Result<(), Memory>
+    ensures { OnOk result (cells.new.items ≡ put_at cell value cells.old.items) }
+{
+    let at = cell as usize;
+    while cells.len() <= at {
+        cells.push(Value::Undefined)?;
+    }
+    cells[at] = value;
+    Ok(())
+}
+
+impl PageNatives {
+    /// Natives of which none was called.
+    pub fn new(alloc: Global, runtime: ObjId, imports: ObjId) -> PageNatives
+        ensures { kept_of result ≡ new_kept runtime imports }
+    {
+        PageNatives {
+            runtime,
+            imports,
+            told: Vec::new(alloc),
+            cells: Vec::new(alloc),
+            waiting: Vec::new(alloc),
+        }
+    }
+
+    /// Keeps a text as the last one that was said.
+    fn keep_said(&mut self, by: u32, text: Units) -> Result<(), Memory>
+        ensures { OnOk result (kept_of self.new ≡ with_said by (Ok text) (kept_of self.old)) }
+    {
+        self.told.push(Said { by, text })?;
+        Ok(())
+    }
+
+    /// Keeps a function as the last one that waits.
+    fn keep_waiting(&mut self, by: u32, function: Value) -> Result<(), Memory>
+        ensures { OnOk result (kept_of self.new ≡ with_waiting by true function (kept_of self.old)) }
+    {
+        self.waiting.push(Waiting { by, function })?;
+        Ok(())
+    }
+
+    /// `say(v)` of a module: the text of the argument is said. The run stops where it has none.
+    fn say(&mut self, alloc: Global, h: &Heap, owner: u32, value: &Value) -> Result<Outcome, Stop>
+        ensures { let text = text_of h.now value.now in Answers (turn_of (say_done text h.now) (with_said owner text (kept_of self.old))) (answered result) h.now (kept_of self.new) }
+    {
+        let text = to_text(alloc, h, value)?;
+        self.keep_said(owner, text).map_err(out_of_memory)?;
+        Ok(Outcome::Value(Value::Undefined))
+    }
+
+    /// `later(f)` of a module: the argument waits to be called. It throws a TypeError `bad argument` where that is no
+    /// function of a text that modules may use.
+    fn later(
+        &mut self,
+        alloc: Global,
+        h: &mut Heap,
+        owner: u32,
+        by: u32,
+        value: &Value,
+    ) -> Result<Outcome, Stop>
+        ensures answers { let waits = can_wait h.old value.now in Answers (turn_of (later_done waits by h.old) (with_waiting owner waits value.now (kept_of self.old))) (answered result) h.new (kept_of self.new) }
+        ensures live { length h.old.list ≤ length h.new.list }
+    {
+        if !can_wait(alloc, h, value).map_err(out_of_memory)? {
+            return thrown(alloc, h, by, b"bad argument");
+        }
+        let function = value.copy(alloc).map_err(out_of_memory)?;
+        self.keep_waiting(owner, function).map_err(out_of_memory)?;
+        Ok(Outcome::Value(Value::Undefined))
+    }
+
+    /// `get()` of a cell: what it holds.
+    fn get(&self, alloc: Global, h: &Heap, cell: u32) -> Result<Outcome, Stop>
+        ensures { Answers (turn_of (cell_done cell (kept_of self.now).cells h.now) (kept_of self.now)) (answered result) h.now (kept_of self.now) }
+    {
+        let absent = Value::Undefined;
+        let held = value_or(&self.cells, cell as usize, &absent);
+        let value = held.copy(alloc).map_err(out_of_memory)?;
+        Ok(Outcome::Value(value))
+    }
+
+    /// `set(v)` of a cell: it holds the argument.
+    fn set(&mut self, alloc: Global, h: &Heap, cell: u32, value: &Value) -> Result<Outcome, Stop>
+        ensures { Answers (turn_of (set_done h.now) (with_kept cell value.now (kept_of self.old))) (answered result) h.now (kept_of self.new) }
+    {
+        let value = value.copy(alloc).map_err(out_of_memory)?;
+        put_at(&mut self.cells, cell, value).map_err(out_of_memory)?;
+        Ok(Outcome::Value(Value::Undefined))
+    }
+
+    /// What a callee comes to.
+    #[tactic(auto, using(crate::proofs::Answered::comes_answers))]
+    fn outcome(
+        &mut self,
+        alloc: Global,
+        h: &mut Heap,
+        callee: Callee,
+        by: u32,
+        this: &Value,
+        args: &[Value],
+    ) -> Result<Outcome, Stop>
+        ensures answers { Answers (turn_of (done_by callee by this.now args.now h.old (kept_of self.old)) (kept_by callee args.now h.old (kept_of self.old))) (answered result) h.new (kept_of self.new) }
+        ensures live { length h.old.list ≤ length h.new.list }
+    {
+        let absent = Value::Undefined;
+        let first = value_or(args, 0, &absent);
+        match callee {
+            Callee::BuiltIn(function) => done(alloc, h, function, by, this, args),
+            Callee::LoadModule => load_module(alloc, h, by, first, self.runtime, self.imports),
+            Callee::Guard(guard) => call_guard(alloc, h, guard, by, args),
+            Callee::Say(owner) => self.say(alloc, h, owner, first),
+            Callee::Later(owner) => self.later(alloc, h, owner, by, first),
+            Callee::Get(cell) => self.get(alloc, h, cell),
+            Callee::Set(cell) => self.set(alloc, h, cell, first),
+        }
+    }
+}
+
+impl Natives for PageNatives {
+    ghost State = { Kept };
+
+    ghost state = { kept_of };
+
+    ghost table = { page_table };
+
+    ghost fits = { kept_fits };
+
+    fn call(
+        &mut self,
+        alloc: Global,
+        h: &mut Heap,
+        which: u32,
+        by: u32,
+        this: &Value,
+        args: &[Value],
+    ) -> Answer {
+        match callee_of(which) {
+            Some(callee) => answer_of(self.outcome(alloc, h, callee, by, this, args)),
+            None => answer_of(thrown(alloc, h, by, b"not a function")),
+        }
+    }
+
+    fn touch(
+        &mut self,
+        _alloc: Global,
+        _by: u32,
+        _what: Touch,
+        _on: Tag,
+        _key: Option<&Units>,
+    ) -> Result<(), Memory> {
+        Ok(())
+    }
+
+    ghost keeps_live = { page_keeps_live };
+}
