@@ -5,3 +5,8 @@ pub mod Arguments
 pub mod Laws
 pub mod Calls
 pub mod Body
+pub mod Receiver
+pub mod BuiltIns
+pub mod Natives
+pub mod Own
+pub mod Native

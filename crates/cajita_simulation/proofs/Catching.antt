@@ -10,7 +10,7 @@ use Rattle.es3_language.specs.References.{slot, resolve}
 use Rattle.cajita_rewrite.specs.Rewrite.{runtime_name}
 use Rattle.cajita_meaning.specs.World.{Value, World, with_scope, next_scope, value_at}
 use Rattle.cajita_meaning.specs.Direct.{Item}
-use Rattle.module_loader.specs.Page.{Kept}
+use Rattle.page_natives.specs.Natives.{Kept}
 use Rattle.cajita_simulation.specs.Guest.{inner}
 use Rattle.cajita_simulation.proofs.Heaps.Lists.{slice_get-push}
 use Rattle.cajita_simulation.proofs.Relation.{EsValue, Val, OptVal, tag_of_scope, Tags, Here, Temps, Slot, unknown, declared, holds, SlotIs, names_at, AreScopes, Place, In, Rel, Stays, keeps_refl}

@@ -14,19 +14,20 @@ use Rattle.cajita_meaning.specs.Direct.{Item, made, got, touched, passed, grante
 use Rattle.heap_rows.specs.Marks.{simple_mark}
 use Rattle.heap_rows.specs.Doing.{Page}
 use Rattle.heap_rows.specs.Opening.{first, place_of}
-use Rattle.module_loader.specs.Page.{Kept}
+use Rattle.page_natives.specs.Natives.{Kept, page_of}
 use Rattle.row_simulation.specs.Correspond as rows
 use Rattle.row_simulation.specs.RowLaw.{PagesAre}
 use Rattle.row_simulation.proofs.Changes.{named_within}
 use Rattle.row_simulation.proofs.Relation as row_relation
+use Rattle.cajita_simulation.specs.Alike.{shown}
+use Rattle.cajita_simulation.specs.Related.{KnowsPage}
 use Rattle.cajita_simulation.proofs.Relation.{Named, ObjectsAre, Tags, AreScopes, Temps, Slot, unknown, declared, holds, SlotIs, ScopesAre, Here, CodeIs, ClosuresAre, Related, Rel, Closed, Shaped, Stays, optval_keep}
 use Rattle.cajita_simulation.proofs.Scopes.{captured_stays, in_stays}
 
--- objects changed on both sides, and correspond again when m' steps are taken; no closure of a module came or went, and no scope of the world changed
-pub record Changes (w : World) (s : Store) (w' : World) (h' : Objects) (m' : ℕ) : Type 0 where
+-- objects changed on both sides, and correspond again when m' steps are taken, with a page that keeps this; no closure of a module came or went, and no scope of the world changed
+pub record Changes (g : Page) (w : World) (s : Store) (w' : World) (h' : Objects) (m' : ℕ) : Type 0 where
   pub objects : ObjectsAre first place_of w'.objects h' m'
-  pub page : Page
-  pub pages : PagesAre h' w' page
+  pub pages : PagesAre h' w' g
   pub keeps : rows.Keeps s.heap h'
   pub scopes : w'.scopes ≡ w.scopes
   pub older : (m n : ℕ) (f : c.Tree c.func) (chain : List ℕ) → slice_get (w'.objects m) n ≡ Some (a_closure f chain) → slice_get (w.objects m) n ≡ Some (a_closure f chain)
@@ -78,7 +79,7 @@ closures_kept {objects = world} {h' = h'} {g = g} {s = s} keeps are objects r = 
           code_stays (keeps.functions i (named_within s.heap (made_name m n) i was) class) (shaped_heap g s h') are are (p.1 i was),
     )
 
-closures_changed : {w w' : World} {h' : Objects} {g : Tags} {s : Store} {m m' : ℕ} → Changes w s w' h' m' → AreScopes s → ObjectsAre first place_of w.objects s.heap m → ClosuresAre w.objects g s → ClosuresAre w'.objects g (with_heap s h')
+closures_changed : {p : Page} {w w' : World} {h' : Objects} {g : Tags} {s : Store} {m m' : ℕ} → Changes p w s w' h' m' → AreScopes s → ObjectsAre first place_of w.objects s.heap m → ClosuresAre w.objects g s → ClosuresAre w'.objects g (with_heap s h')
 closures_changed x are objects r = λ m n f chain known. closures_kept x.keeps are objects r m n f chain (x.older m n f chain known)
 
 -- values of variables and of hidden names
@@ -100,27 +101,33 @@ scopes_keep {T = T} {s = s} {h' = h'} k r = record {
   unshared = r.unshared;
 }
 
-pub stays_changed : {w w' : World} {h' : Objects} {s : Store} {m m' : ℕ} (g : Tags) → Changes w s w' h' m' → m ≤ m' → Stays w g s m w' g (with_heap s h') m'
+pub stays_changed : {p : Page} {w w' : World} {h' : Objects} {s : Store} {m m' : ℕ} (g : Tags) → Changes p w s w' h' m' → m ≤ m' → Stays w g s m w' g (with_heap s h') m'
 stays_changed {h' = h'} {s = s} g x le = record { heap = record { objects = x.keeps; more = le }; shaped = shaped_heap g s h'; closed = x.closed }
 
-pub related_changed : {T : Temps} {j k : ℕ} {w w' : World} {h' : Objects} {z : List Item} {n : ℕ} {g : Tags} {s : Store} {y : Kept} {m m' : ℕ} → Changes w s w' h' m' → m ≤ m' → m' + k ≤ 64 * n → Related T j w z n g s y m → Related T k w' z n g (with_heap s h') y m'
-related_changed {T = T} {h' = h'} {g = g} {s = s} x le fits r = record {
+-- what natives keep may change too, and what is printed
+pub related_settled : {T : Temps} {j k : ℕ} {w w' : World} {h' : Objects} {z z' : List Item} {n : ℕ} {g : Tags} {s : Store} {y y' : Kept} {m m' : ℕ} → Changes (page_of y') w s w' h' m' → KnowsPage y' → printed z' ≡ shown y' → m ≤ m' → m' + k ≤ 64 * n → Related T j w z n g s y m → Related T k w' z' n g (with_heap s h') y' m'
+related_settled {T = T} {h' = h'} {g = g} {s = s} x knows items le fits r = record {
   steps = fits;
-  items = r.items;
+  items = items;
   objects = x.objects;
-  page = x.page;
   pages = x.pages;
   closures = closures_changed x r.scopes.are r.objects r.closures;
   scopes = subst (λ q. ScopesAre T g q (with_heap s h')) (sym x.scopes) (scopes_keep x.keeps r.scopes);
   globals = r.globals;
-  kept = r.kept;
+  kept = knows;
 }
 
-pub rel_changed : {H : Here} {T : Temps} {j k : ℕ} {w w' : World} {h' : Objects} {z : List Item} {n : ℕ} {g : Tags} {s : Store} {y : Kept} {m m' : ℕ} → Changes w s w' h' m' → m ≤ m' → m' + k ≤ 64 * n → Rel H T j w z n g s y m → Rel H T k w' z n g (with_heap s h') y m'
-rel_changed {h' = h'} {g = g} {s = s} x le fits r = record {
-  all = related_changed x le fits r.all;
+pub rel_settled : {H : Here} {T : Temps} {j k : ℕ} {w w' : World} {h' : Objects} {z z' : List Item} {n : ℕ} {g : Tags} {s : Store} {y y' : Kept} {m m' : ℕ} → Changes (page_of y') w s w' h' m' → KnowsPage y' → printed z' ≡ shown y' → m ≤ m' → m' + k ≤ 64 * n → Rel H T j w z n g s y m → Rel H T k w' z' n g (with_heap s h') y' m'
+rel_settled {h' = h'} {g = g} {s = s} x knows items le fits r = record {
+  all = related_settled x knows items le fits r.all;
   here = in_stays (shaped_heap g s h') r.all.scopes.are r.all.scopes.are r.here;
 }
+
+pub related_changed : {T : Temps} {j k : ℕ} {w w' : World} {h' : Objects} {z : List Item} {n : ℕ} {g : Tags} {s : Store} {y : Kept} {m m' : ℕ} → Changes (page_of y) w s w' h' m' → m ≤ m' → m' + k ≤ 64 * n → Related T j w z n g s y m → Related T k w' z n g (with_heap s h') y m'
+related_changed x le fits r = related_settled x r.kept r.items le fits r
+
+pub rel_changed : {H : Here} {T : Temps} {j k : ℕ} {w w' : World} {h' : Objects} {z : List Item} {n : ℕ} {g : Tags} {s : Store} {y : Kept} {m m' : ℕ} → Changes (page_of y) w s w' h' m' → m ≤ m' → m' + k ≤ 64 * n → Rel H T j w z n g s y m → Rel H T k w' z n g (with_heap s h') y m'
+rel_changed x le fits r = rel_settled x r.all.kept r.all.items le fits r
 
 -- what is told that the log doesn't print
 
@@ -138,6 +145,6 @@ printed_quiet (ended m e o ∷ z) more quiet = ap (λ l. ended m e o ∷ l) (pri
 
 pub rel_told : {H : Here} {T : Temps} {k : ℕ} {w : World} {z : List Item} {n : ℕ} {g : Tags} {s : Store} {y : Kept} {m : ℕ} (more : List Item) → printed more ≡ [] → Rel H T k w z n g s y m → Rel H T k w (z ++ more) n g s y m
 rel_told {z = z} more quiet r = record {
-  all = record { steps = r.all.steps; items = printed_quiet z more quiet ∙ r.all.items; objects = r.all.objects; page = r.all.page; pages = r.all.pages; closures = r.all.closures; scopes = r.all.scopes; globals = r.all.globals; kept = r.all.kept };
+  all = record { steps = r.all.steps; items = printed_quiet z more quiet ∙ r.all.items; objects = r.all.objects; pages = r.all.pages; closures = r.all.closures; scopes = r.all.scopes; globals = r.all.globals; kept = r.all.kept };
   here = r.here;
 }

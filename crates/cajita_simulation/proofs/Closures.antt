@@ -23,7 +23,7 @@ use Rattle.heap_rows.specs.Marks.{read_mark, set_mark, simple_mark}
 use Rattle.heap_rows.specs.Doing.{Done, gives}
 use Rattle.heap_rows.specs.Opening.{first, place_of, runtime_id}
 use Rattle.guard_runtime.specs.Guards.{func, func_of}
-use Rattle.module_loader.specs.Page.{Kept, page_table}
+use Rattle.page_natives.specs.Natives.{Kept, page_table}
 use Rattle.row_simulation.specs.Correspond as rows
 use Rattle.row_simulation.proofs.Relation as row_relation
 use Rattle.row_simulation.proofs.Row as row_laws
@@ -179,8 +179,7 @@ module _ (g : Tags) (s : Store) (by : ℕ) (f : c.Tree c.func) (direct chain : L
         steps = fits;
         items = r.items;
         objects = closure_objects below few r.objects;
-        page = r.page;
-        pages = record { cells = λ a. row_relation.val_keep keeps (w.cells a) (r.page.cells a) (r.pages.cells a); queues = λ a. row_relation.vals_keep keeps (w.queues a) (r.page.queues a) (r.pages.queues a) };
+        pages = record { cells = λ a. row_relation.val_keep keeps (w.cells a) _ (r.pages.cells a); queues = λ a. row_relation.vals_keep keeps (w.queues a) _ (r.pages.queues a) };
         closures = closures_with below few r.scopes.are r.objects captured guest r1.closures;
         scopes = scopes_keep keeps r1.scopes;
         globals = r.globals;

@@ -17,7 +17,7 @@ use Rattle.cajita_meaning.specs.World.{Pairs, World, with_last, with_scope, scop
 use Rattle.cajita_meaning.specs.Direct.{Item}
 use Rattle.heap_rows.specs.Marks.{read_mark, set_mark}
 use Rattle.heap_rows.specs.Opening.{first, first_count, runtime_id}
-use Rattle.module_loader.specs.Page.{Kept}
+use Rattle.page_natives.specs.Natives.{Kept, page_of}
 use Rattle.row_simulation.proofs.Relation as row_relation
 use Rattle.row_simulation.proofs.Keys.{hidden_read, hidden_set, apart_too}
 use Rattle.row_simulation.proofs.First.{first_many, up_few}
@@ -169,7 +169,6 @@ related_scope {w = w} {g = g} {s = s} {owner = owner} {names = names} m new r = 
   steps = r.steps;
   items = r.items;
   objects = r.objects;
-  page = r.page;
   pages = record { cells = r.pages.cells; queues = r.pages.queues };
   closures = closures_shaped w.objects {g = g} {s = s} refl (shaped_scope g (tag_of_scope m (next_scope m w)) owner names s) r.scopes.are (scopes_are owner names s new.own r.scopes.are) r.closures;
   scopes = scopes_more m new r.scopes;
@@ -209,17 +208,16 @@ two_keep h a b new new' =
     let two : Keeps (with_object h a) 0 (with_object (with_object h a) b) 0 = record { objects = added_keeps (with_object h a) b (λ m n e. unmade m n (sym new'.bare ∙ e)); more = omega arith } in
     (keeps_trans one two).objects
 
-function_changes : {T : Temps} {k : ℕ} {w : World} {z : List Item} {n : ℕ} {g : Tags} {s : Store} {y : Kept} {m : ℕ} (code params maker : ℕ) → Related T k w z n g s y m → Changes w s w (store.new_function code params maker s.heap) (suc (suc m))
-function_changes {w = w} {s = s} {m = m} code params maker r =
+function_changes : {T : Temps} {k : ℕ} {w : World} {z : List Item} {n : ℕ} {g : Tags} {s : Store} {y : Kept} {m : ℕ} (code params maker : ℕ) → Related T k w z n g s y m → Changes (page_of y) w s w (store.new_function code params maker s.heap) (suc (suc m))
+function_changes {w = w} {s = s} {y = y} {m = m} code params maker r =
     let a = function_object code params maker (suc (length s.heap.list)) in
     let b = prototype_object (length s.heap.list) in
     let new = function_is_new code params maker (suc (length s.heap.list)) in
     let new' = prototype_is_new (length s.heap.list) in
     let keeps = two_keep s.heap a b new new' in
-    subst (λ h. Changes w s w h (suc (suc m))) (sym (function_new code params maker s.heap)) (record {
+    subst (λ h. Changes (page_of y) w s w h (suc (suc m))) (sym (function_new code params maker s.heap)) (record {
       objects = objects_added w.objects (with_object s.heap a) b (objects_added w.objects s.heap a r.objects new) new';
-      page = r.page;
-      pages = record { cells = λ c. row_relation.val_keep keeps (w.cells c) (r.page.cells c) (r.pages.cells c); queues = λ c. row_relation.vals_keep keeps (w.queues c) (r.page.queues c) (r.pages.queues c) };
+      pages = record { cells = λ c. row_relation.val_keep keeps (w.cells c) _ (r.pages.cells c); queues = λ c. row_relation.vals_keep keeps (w.queues c) _ (r.pages.queues c) };
       keeps = keeps;
       scopes = refl;
       older = λ m n f chain e. e;
@@ -235,7 +233,6 @@ related_code {w = w} {g = g} {s = s} code r = record {
   steps = r.steps;
   items = r.items;
   objects = r.objects;
-  page = r.page;
   pages = r.pages;
   closures = closures_shaped w.objects {g = g} {s = s} refl (shaped_code g code s) r.scopes.are (λ c. r.scopes.are c) r.closures;
   scopes = record { same = r.scopes.same; once = r.scopes.once; known = r.scopes.known; count = r.scopes.count; temps = λ c x hidden. slot_same c x _ (r.scopes.temps c x hidden); runtime = r.scopes.runtime; are = λ c. r.scopes.are c; unshared = r.scopes.unshared };

@@ -14,7 +14,7 @@ use Rattle.cajita_meaning.specs.Direct.{Item}
 use Rattle.heap_rows.specs.Doing as es3
 use Rattle.heap_rows.specs.Opening.{place_of, empty_page, runtime_id}
 use Rattle.row_simulation.specs.Among.{IsAmongObjects}
-use Rattle.module_loader.specs.Page.{Kept, page_table}
+use Rattle.page_natives.specs.Natives.{Kept, page_table}
 use Rattle.cajita_simulation.proofs.Doing as Source
 use Rattle.cajita_simulation.proofs.Heaps.Guards.{IsGuard}
 use Rattle.cajita_simulation.proofs.Relation.{EsValue, Val, Vals, Here, env_of, Tags, Temps, Rel, Stays, rel_less, stays_step, stays_trans}

@@ -18,16 +18,14 @@ use Rattle.rows.specs.Nodes.{Rules}
 use Rattle.cajita_rewrite.specs.Rewrite.{result_name, temp_name}
 use Rattle.cajita_meaning.specs.World.{Value, World}
 use Rattle.cajita_meaning.specs.Direct.{Item, printed, direct}
-use Rattle.module_loader.specs.Page.{Kept, page_table}
+use Rattle.page_natives.specs.Natives.{Kept, page_table}
 pub use Rattle.cajita_simulation.specs.Alike.{most_steps}
-use Rattle.cajita_simulation.specs.Alike.{IsPrefix}
+use Rattle.cajita_simulation.specs.Alike.{IsPrefix, printed_told, shown}
 pub use Rattle.cajita_simulation.specs.Jumps.{Jumps, no_jumps, all_jumps, in_loop, in_switch, in_label, Targets}
 use Rattle.cajita_simulation.specs.Sides.{Ends, Stops, Outs, Begins, Affords}
 use Rattle.cajita_simulation.proofs.Doing as Source
+use Rattle.cajita_simulation.proofs.Told.{told_more, told_grows, printed_append, items_append}
 use Rattle.cajita_simulation.proofs.Relation.{EsValue, Val, Here, env_of, Tags, Temps, declared, holds, Rel, Stays, stays_refl, stays_trans, stays_step, stays_before, more, rel_less, rel_both}
-
-abbrev pub Same : Kept → Kept → Type 0
-Same x y = Unit {0}
 
 pub prefix_refl : (xs : List Item) → IsPrefix xs xs
 prefix_refl xs = record { rest = []; is = sym (append-nil xs) }
@@ -38,8 +36,28 @@ prefix_trans xs ys zs p q = record { rest = p.rest ++ q.rest; is = q.is ∙ ap (
 abbrev pub direct_grows : (rules : Rules) → Grows (direct rules) IsPrefix
 direct_grows rules = record { same = prefix_refl; more = prefix_trans; note = λ i z. record { rest = i ∷ []; is = refl }; kept = λ t w z. prefix_refl z }
 
-abbrev pub target_grows : Grows (es3 page_table) Same
-target_grows = record { same = λ y. tt; more = λ a b c p q. tt; note = λ i y. tt; kept = λ t s y. tt }
+-- what natives print only grows
+abbrev pub PrintsMore : Kept → Kept → Type 0
+PrintsMore a b = IsPrefix (shown a) (shown b)
+
+pub target_kept : (t : Target.Task) (s : Store) (y : Kept) → PrintsMore y (Target.task_state page_table t s y)
+target_kept (Target.native_call w this vs env) s y = record { rest = printed_told (told_more w vs s.heap); is = ap printed_told (told_grows w env.by this vs s.heap y) ∙ printed_append y.told _ }
+target_kept t s y = prefix_refl (shown y)
+
+abbrev pub target_grows : Grows (es3 page_table) PrintsMore
+target_grows = record { same = λ y. prefix_refl (shown y); more = λ a b c p q. prefix_trans (shown a) (shown b) (shown c) p q; note = λ i y. prefix_refl (shown y); kept = target_kept }
+
+-- the same is printed on both sides, so one is the beginning of the other
+pub begins_there : (z : List Item) (y : Kept) → printed z ≡ shown y → Begins y z
+begins_there z y e = record { rest = []; is = e ∙ sym (append-nil (shown y)) }
+
+pub ends_there : (e : Source.Completion) (x : World) (z : List Item) (n : ℕ) (e' : Target.Completion) (x' : Store) (y : Kept) (n' : ℕ) → Ends e x z n e' x' y n' → Begins y z
+ends_there (Source.gave v) x z n (Target.normal (Some u)) x' y n' p = begins_there z y p.1.1.items
+ends_there (Source.threw v) x z n (Target.threw u) x' y n' p = begins_there z y p.1.1.items
+ends_there _ x z n _ x' y n' p = absurd p
+
+pub begins_still : (a' b' : Kept) (a b : List Item) → PrintsMore a' b' → Begins b' a → IsPrefix a b → Begins a' b
+begins_still a' b' a b p q r = prefix_trans (shown a') (printed a) (printed b) (prefix_trans (shown a') (shown b') (printed a) p q) (record { rest = printed r.rest; is = ap printed r.is ∙ items_append a r.rest })
 
 abbrev pub sides : Rules → Sides Source.Task Source.Completion World Item (List Item) Target.Task Target.Completion Store Touched Kept
 sides rules = record {
@@ -47,7 +65,7 @@ sides rules = record {
   right = es3 page_table;
   Longer = IsPrefix;
   grows = direct_grows rules;
-  Longer' = Same;
+  Longer' = PrintsMore;
   grows' = target_grows;
   Affords = Affords;
   affords_more = λ n k m le few. omega (arith, le, few);
@@ -56,10 +74,10 @@ sides rules = record {
   Stops = Stops;
   Outs = Outs;
   Begins = Begins;
-  ends_begin = λ e x z n e' x' z' n' p. record { rest = printed z; is = refl };
-  stops_begin = λ f x z f' x' z' p. record { rest = printed z; is = refl };
-  outs_begin = λ z z' p. record { rest = printed z; is = refl };
-  begins_more = λ a' b' a b p q r. record { rest = printed b; is = refl };
+  ends_begin = ends_there;
+  stops_begin = λ f x z f' x' z' p. begins_there z z' p.2;
+  outs_begin = λ z z' p. begins_there z z' p;
+  begins_more = begins_still;
 }
 
 -- the two plans, with what is kept and counted

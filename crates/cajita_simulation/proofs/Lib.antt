@@ -3,6 +3,7 @@ pub mod Relation
 pub mod Doing
 pub mod Scopes
 pub mod Written
+pub mod Told
 pub mod Laws
 pub mod Jumping
 pub mod Temporaries

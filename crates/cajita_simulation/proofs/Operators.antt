@@ -38,7 +38,7 @@ use Rattle.row_simulation.proofs.Operators.Each.{binary_comes}
 use Rattle.row_simulation.proofs.Operators.Unary.{unary_comes}
 use Rattle.row_simulation.proofs.Operators.Steps.{next_comes, before_law, behind_law}
 use Rattle.row_simulation.proofs.Operators.Functions.{typed}
-use Rattle.module_loader.specs.Page.{Kept}
+use Rattle.page_natives.specs.Natives.{Kept}
 use Rattle.cajita_simulation.proofs.Pure.{EndsPurely, IsPure, pure_plain, binary_pure, unary_pure, next_pure}
 use Rattle.cajita_simulation.proofs.Relation.{EsValue, Val, Vals, ObjectsAre, Here, Tags, Temps, Rel}
 use Rattle.cajita_simulation.proofs.Changes.{rel_told}

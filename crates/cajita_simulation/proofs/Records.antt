@@ -21,11 +21,11 @@ use Rattle.cajita_meaning.specs.World as World
 use Rattle.cajita_meaning.specs.World.{Value, Pairs, Object, a_record, a_closure, with_last, with_object, with_value, with_values, next_name, World as State}
 use Rattle.cajita_meaning.specs.Asking.{paired, a_record_of}
 use Rattle.cajita_meaning.specs.Direct as Direct
-use Rattle.cajita_meaning.specs.Direct.{Item, made, printed}
+use Rattle.cajita_meaning.specs.Direct.{Item, made}
 use Rattle.heap_rows.specs.Marks.{read_mark, set_mark}
 use Rattle.heap_rows.specs.Doing.{Page}
 use Rattle.heap_rows.specs.Opening.{first, place_of, runtime_id}
-use Rattle.module_loader.specs.Page.{Kept, page_table}
+use Rattle.page_natives.specs.Natives.{Kept, page_of, page_table}
 use Rattle.row_simulation.specs.Correspond as rows
 use Rattle.row_simulation.specs.Correspond.{PropsAre}
 use Rattle.row_simulation.specs.RowLaw.{PagesAre}
@@ -48,7 +48,7 @@ use Rattle.cajita_simulation.proofs.Heaps.Guards.{IsGuard, guard_call, initializ
 use Rattle.cajita_simulation.proofs.Relation.{EsValue, Val, Named, ObjectsAre, Here, env_of, Tags, Temps, Rel, closed_refl, Stays, stays_trans}
 use Rattle.cajita_simulation.proofs.Changes.{Changes, stays_changed, rel_changed, rel_told}
 use Rattle.cajita_simulation.proofs.Calls.{opened_of, guard_match}
-use Rattle.cajita_simulation.proofs.Laws.{Gives, Cont, Cont', M, most_steps, steps_hold}
+use Rattle.cajita_simulation.proofs.Laws.{Gives, Cont, Cont', M, most_steps, steps_hold, begins_there}
 
 -- keys that a record may have, with values that correspond
 abbrev pub FieldsAre : Objects → List (List ℕ) → List Value → List (List ℕ × EsValue) → Type 0
@@ -124,13 +124,12 @@ push_kept by o objects m n x e = elim (nat_eq m by) as (λ b. slice_get (cond b 
 ]
 
 -- the array that the guard is given: no step is taken for it
-array_changes : (vs : List EsValue) {w : State} {s : Store} {m : ℕ} (page : Page) → length vs < 4294967296 → ObjectsAre first place_of w.objects s.heap m → PagesAre s.heap w page → Changes w s w (heap.with_object s.heap (array_object vs)) m
+array_changes : (vs : List EsValue) {w : State} {s : Store} {m : ℕ} (page : Page) → length vs < 4294967296 → ObjectsAre first place_of w.objects s.heap m → PagesAre s.heap w page → Changes page w s w (heap.with_object s.heap (array_object vs)) m
 array_changes vs {w = w} {s = s} page few o p =
     let a = objects_added w.objects s.heap (array_object vs) o (array_new first_is false vs few) in
     let k = awaiting_keeps s.heap (array_object vs) refl in
     record {
       objects = record { each = a.each; once = a.once; natives = a.natives; reads = a.reads; sets = a.sets; above = a.above; count = a.count; few = o.few; opened = a.opened; unnamed = a.unnamed; large = a.large };
-      page = page;
       pages = pages_still k p;
       keeps = k;
       scopes = refl;
@@ -140,7 +139,7 @@ array_changes vs {w = w} {s = s} page few o p =
 
 -- the record, with the module's next name on both sides
 record_changes : (by : ℕ) → by < 64 → (ks : List (List ℕ)) (vs : List Value) (qs : List (List ℕ × EsValue)) {w : State} {s : Store} {m : ℕ} (page : Page) → suc m ≤ 4294967295 → FieldsAre s.heap ks vs qs → ObjectsAre first place_of w.objects s.heap m → PagesAre s.heap w page
-    → Changes w s (with_object by (a_record false (with_values (paired ks vs) [])) w) (with_named s.heap (record_object qs) by) (suc m)
+    → Changes page w s (with_object by (a_record false (with_values (paired ks vs) [])) w) (with_named s.heap (record_object qs) by) (suc m)
 record_changes by below ks vs qs {w = w} {s = s} {m = m} page small p o pages =
     let ps = with_values (paired ks vs) [] in
     let number : count_at (slice_get s.heap.counts by) ≡ length (w.objects by) = ap count_at (o.count by below) in
@@ -149,7 +148,6 @@ record_changes by below ks vs qs {w = w} {s = s} {m = m} page small p o pages =
     let pages' = pages_still k pages in
     record {
       objects = objects_made by w.objects below o (a_record false ps) (record_object qs) small (record_new s.heap ks vs qs p) (record { class = refl; no_call = refl; proto = refl; props = props_all _ ks vs qs [] [] (fields_keep k ks vs qs p) (empty_props _) });
-      page = page;
       pages = record { cells = pages'.cells; queues = pages'.queues };
       keeps = k;
       scopes = refl;
@@ -167,13 +165,13 @@ pub new_array_match : {H : Here} {T : Temps} {d k : ℕ} {guard : List ℕ} {num
 new_array_match {H = H} {T = T} {d = d} {k = k} {guard = guard} is front us {p = p} {w = w} {z = z} {n = n} {g = g} {s = s} {y = y} {m = m} next' many r f =
     let h1 = heap.with_object s.heap (array_object us) in
     let cases = elim (nat_lt most_steps m) as (λ b. nat_lt most_steps m ≡ b → M H d p z n (bind (Target.do_call (Target.called (member (es.Obj runtime_id) guard)) (front ++ es.Obj (length s.heap.list) ∷ []) (env_of H) (with_heap s h1)) next') y m) [
-      | true ↦ λ past. subst (λ q. M H d p z n (bind q next') y m) (sym (guard_call guard _ is (front ++ es.Obj (length s.heap.list) ∷ []) (env_of H) (with_heap s h1) (opened_kept s.heap (array_object us) (opened_of r.all.objects)))) (right_past (grind (arith, nat_tests)) (steps_hold r) (record { rest = printed z; is = refl }))
+      | true ↦ λ past. subst (λ q. M H d p z n (bind q next') y m) (sym (guard_call guard _ is (front ++ es.Obj (length s.heap.list) ∷ []) (env_of H) (with_heap s h1) (opened_kept s.heap (array_object us) (opened_of r.all.objects)))) (right_past (grind (arith, nat_tests)) (steps_hold r) (begins_there z y r.all.items))
       | false ↦ λ few. within (grind (arith, nat_tests))
     ] in cases refl
   where
     within : m ≤ 4294967294 → M H d p z n (bind (Target.do_call (Target.called (member (es.Obj runtime_id) guard)) (front ++ es.Obj (length s.heap.list) ∷ []) (env_of H) (with_heap s (heap.with_object s.heap (array_object us)))) next') y m
     within few =
-        let x1 : Changes w s w (heap.with_object s.heap (array_object us)) m = array_changes us r.all.page (omega (arith, many, few)) r.all.objects r.all.pages in
+        let x1 : Changes (page_of y) w s w (heap.with_object s.heap (array_object us)) m = array_changes us (page_of y) (omega (arith, many, few)) r.all.objects r.all.pages in
         let r1 : Rel H T k w z n g (with_heap s (heap.with_object s.heap (array_object us))) y m = rel_changed x1 (omega arith) r.all.steps r in
         guard_match is (front ++ es.Obj (length s.heap.list) ∷ []) next' r1 (λ small. f small r1 (stays_changed g x1 (omega arith)))
 
@@ -187,5 +185,5 @@ record_match {H = H} {T = T} {d = d} {k = k} below ks vs qs {w = w} {z = z} {n =
   where
     made_match : (h1 : Objects) → suc m ≤ 4294967295 → FieldsAre h1 ks vs qs → Stays w g s m w g (with_heap s h1) m → Rel H T (suc k) w z n g (with_heap s h1) y m → M H d (bind (Source.act_plan H 1 (Source.kept vs) (Direct.asked (a_record_of ks) (0 ∷ []) Direct.give) w) next) z n (next' (Target.gave (es.Obj (length h1.list))) (with_heap s (with_named h1 (record_object qs) H.by))) y (suc m)
     made_match h1 small p1 k1 r1 =
-        let x2 = record_changes H.by below ks vs qs r1.all.page small p1 r1.all.objects r1.all.pages in
+        let x2 = record_changes H.by below ks vs qs (page_of y) small p1 r1.all.objects r1.all.pages in
         left_told (x.on d (omega arith) (World.object (next_name H.by w)) (es.Obj (length h1.list)) _ _ _ _ _ _ _ (record_named H.by below w (record_object qs) r1.all.objects) (rel_told (made H.by (next_name H.by w) ∷ []) refl (rel_changed x2 (omega arith) (omega (arith, r1.all.steps)) r1)) (stays_trans k1 (stays_changed g x2 (omega arith))))

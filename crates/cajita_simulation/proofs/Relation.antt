@@ -8,7 +8,7 @@ use Rattle.es3_language.specs.Arguments.{is_fixed}
 use Rattle.cajita_tree.specs.Tree as c
 use Rattle.cajita_meaning.specs.World.{Value, Object, a_closure, World}
 use Rattle.cajita_meaning.specs.Direct.{Item}
-use Rattle.module_loader.specs.Page.{Kept}
+use Rattle.page_natives.specs.Natives.{Kept}
 pub use Rattle.row_simulation.specs.Correspond.{EsValue, Named, Val, Vals, ObjectsAre}
 use Rattle.row_simulation.specs.Correspond as rows
 use Rattle.row_simulation.proofs.Relation as row_relation
@@ -95,7 +95,7 @@ pub objects_step : {first : Objects} {places : Rattle.rows.specs.Rows.Native →
 objects_step le o = record { each = o.each; once = o.once; natives = o.natives; reads = o.reads; sets = o.sets; above = o.above; count = o.count; few = λ n. let f = o.few n in omega (arith, f, le); opened = o.opened; unnamed = o.unnamed; large = o.large }
 
 pub related_steps : {T : Temps} {j k : ℕ} {w : World} {z : List Item} {n n' : ℕ} {g : Tags} {s : Store} {y : Kept} {m m' : ℕ} → m ≤ m' → m' + k ≤ 64 * n' → Related T j w z n g s y m → Related T k w z n' g s y m'
-related_steps le fits r = record { steps = fits; items = r.items; objects = objects_step le r.objects; page = r.page; pages = r.pages; closures = r.closures; scopes = r.scopes; globals = r.globals; kept = r.kept }
+related_steps le fits r = record { steps = fits; items = r.items; objects = objects_step le r.objects; pages = r.pages; closures = r.closures; scopes = r.scopes; globals = r.globals; kept = r.kept }
 
 pub rel_steps : {H : Here} {T : Temps} {j k : ℕ} {w : World} {z : List Item} {n n' : ℕ} {g : Tags} {s : Store} {y : Kept} {m m' : ℕ} → m ≤ m' → m' + k ≤ 64 * n' → Rel H T j w z n g s y m → Rel H T k w z n' g s y m'
 rel_steps le fits r = record { all = related_steps le fits r.all; here = r.here }
@@ -109,7 +109,6 @@ related_between r = record {
   steps = omega (arith, r.steps);
   items = r.items;
   objects = r.objects;
-  page = r.page;
   pages = r.pages;
   closures = r.closures;
   scopes = record { same = r.scopes.same; once = r.scopes.once; known = r.scopes.known; count = r.scopes.count; temps = λ c x hidden. tt; runtime = r.scopes.runtime; are = r.scopes.are; unshared = r.scopes.unshared };

@@ -1,5 +1,5 @@
 -- Rows: what a row comes to on both sides, and how both then go on. One law is for all rows.
-use Rattle.std.proofs.Common.{◌≡◌, ℕ, zero, suc, ◌≤◌, ◌<◌, Bool, true, false, List, [], ◌∷◌, ◌++◌, Option, Some, None, Result, Ok, Err, cond, refl, sym, ◌∙◌, subst, arith}
+use Rattle.std.proofs.Common.{◌≡◌, ℕ, zero, suc, ◌≤◌, ◌<◌, Bool, true, false, List, [], ◌∷◌, ◌++◌, Option, Some, None, Result, Ok, Err, cond, refl, sym, ap, ◌∙◌, subst, arith}
 use Rattle.std.specs.Prelude.{ℤ, length, nat_lt, map, codes}
 use Rattle.std.proofs.lemmas.List.{append-nil, append_assoc}
 use Rattle.plans.specs.Plans.{Fault, depth_fault, bind}
@@ -21,15 +21,16 @@ use Rattle.cajita_meaning.specs.Direct.{Item, printed}
 use Rattle.heap_rows.specs.Doing as es3
 use Rattle.heap_rows.specs.Opening.{first, place_of}
 use Rattle.row_simulation.specs.Among.{IsAmongObjects}
-use Rattle.row_simulation.specs.RowLaw.{ReplyIs, CameIs}
+use Rattle.row_simulation.specs.RowLaw.{ReplyIs, PagesAre, CameIs}
 use Rattle.row_simulation.proofs.First.{first_is}
 use Rattle.row_simulation.proofs.Whole.{every_row}
 use Rattle.row_simulation.proofs.Leaves.{does_leaves}
-use Rattle.module_loader.specs.Page.{Kept}
-use Rattle.cajita_simulation.specs.Alike.{GuestFault}
+use Rattle.page_natives.specs.Natives.{Kept, page_of}
+use Rattle.cajita_simulation.specs.Alike.{GuestFault, shown}
+use Rattle.cajita_simulation.proofs.Told.{items_append}
 use Rattle.cajita_simulation.proofs.Doing as Source
 use Rattle.cajita_simulation.proofs.Relation.{EsValue, Val, Vals, Here, env_of, Tags, Temps, Rel, Stays}
-use Rattle.cajita_simulation.proofs.Changes.{Changes, stays_changed, rel_changed, printed_quiet, rel_told}
+use Rattle.cajita_simulation.proofs.Changes.{Changes, stays_changed, rel_settled, printed_quiet}
 use Rattle.cajita_simulation.proofs.Laws.{Cont, Cont', M, steps_hold}
 
 -- rows that change nothing of what a page keeps beside its objects
@@ -59,6 +60,22 @@ any_page fs by (r.as_same x z go) none es h g g' y = any_page fs by (go _) (none
 any_page fs by (r.looks x go) none es h g g' y = any_page fs by (go _) (none _) _ h g g' y
 any_page fs by (r.touches t x k next) none es h g g' y = any_page fs by next none es h g g' _
 
+-- and it stays
+
+page_same : {A : Type 0} (a : Result A Fault) (h : Objects) (g : es3.Page) (y : List es3.Told) (go : A → es3.Came) → ((x : A) → (go x).page ≡ g) → (es3.with_result a h g y go).page ≡ g
+page_same (Ok x) h g y go f = f x
+page_same (Err e) h g y go f = refl
+
+same_page : (fs : Native → ℕ) (by : ℕ) (q : Row) → NoSettling q → (es : List EsValue) (h : Objects) (g : es3.Page) (y : List es3.Told) → (es3.does fs by q es h g y).page ≡ g
+same_page fs by (r.ends e) none es h g y = refl
+same_page fs by (r.settles e) none es h g y = absurd none
+same_page fs by (r.as_text x go) none es h g y = page_same (text_of h (es3.value_in fs es x)) h g y _ (λ us. same_page fs by (go us) (none us) es h g y)
+same_page fs by (r.as_number x go) none es h g y = page_same (number_of h (es3.value_in fs es x)) h g y _ (λ n. same_page fs by (go n) (none n) es h g y)
+same_page fs by (r.as_joined x sep go) none es h g y = page_same (es3.joined_of h (es3.value_in fs es x) sep) h g y _ (λ us. same_page fs by (go us) (none us) es h g y)
+same_page fs by (r.as_same x z go) none es h g y = same_page fs by (go _) (none _) es h g y
+same_page fs by (r.looks x go) none es h g y = same_page fs by (go _) (none _) _ h g y
+same_page fs by (r.touches t x k next) none es h g y = same_page fs by next none es h g _
+
 -- the log prints nothing of what they tell
 
 both_quiet : (a b : List Item) → printed a ≡ [] → printed b ≡ [] → printed (a ++ b) ≡ []
@@ -69,7 +86,7 @@ quiet_along by [] o = refl
 quiet_along by (h ∷ []) o = refl
 quiet_along by (h ∷ k ∷ way) o = quiet_along by (k ∷ way) o
 
-quiet_from : (by : ℕ) (way : List Name) (v : Value) → printed (direct.got_from by way v) ≡ []
+pub quiet_from : (by : ℕ) (way : List Name) (v : Value) → printed (direct.got_from by way v) ≡ []
 quiet_from by way (object o) = quiet_along by way o
 quiet_from by way v = refl
 
@@ -137,19 +154,43 @@ left_tell H {d = d} {n = n} {m = m} (i ∷ is) q go next z {p = p} {y = y} f =
 pub record RowGoes (H : Here) (T : Temps) (d k : ℕ) (w : World) (n : ℕ) (g : Tags) (s : Store) (y : Kept) (m : ℕ) (e : direct.Outcome) (go : Going) (next : Cont) (next' : Cont') : Type 0 where
   pub on : (b : Reply) (w' : World) (z' : List Item) (s' : Store) → ReplyIs s'.heap e b → Rel H T k w' z' n g s' y (suc m) → Stays w g s m w' g s' (suc m) → M H d (bind (replied (outcome_reply H.around.calls H.by e w') go) next) z' n (bind (Target.reply_plan b (env_of H) s') next') y (suc m)
 
--- from a row that is asked, and the same row of a guard: a step was paid for the guard's call
+-- what natives keep after a row: what the row left of it, and the log prints what the row told
+pub record KeepsRow (y y' : Kept) (a : direct.Done) (came : es3.Came) : Type 0 where
+  pub runtime : y'.runtime ≡ y.runtime
+  pub imports : y'.imports ≡ y.imports
+  pub told : shown y' ≡ shown y ++ printed a.items
+  pub cells : (c : ℕ) → came.page.cells c ≡ (page_of y').cells c
+  pub queues : (m : ℕ) → came.page.queues m ≡ (page_of y').queues m
+
+pages_moved : {h : Objects} {w : World} {p q : es3.Page} → ((c : ℕ) → p.cells c ≡ q.cells c) → ((m : ℕ) → p.queues m ≡ q.queues m) → PagesAre h w p → PagesAre h w q
+pages_moved {h = h} {w = w} a b r = record { cells = λ c. subst (Val h (w.cells c)) (a c) (r.cells c); queues = λ m. subst (Vals h (w.queues m)) (b m) (r.queues m) }
+
+-- from a row that is asked, and the same row of a native: a step was paid for the native's call
+pub settled_on : {H : Here} {T : Temps} {d k : ℕ} → H.by < 64 → (q : Row) → IsAmongObjects q → (vs : List Value) (es : List EsValue) {w : World} {z : List Item} {n : ℕ} {g : Tags} {s : Store} {y : Kept} {m : ℕ} (y' : Kept) (go : Going) (next : Cont) (next' : Cont') → suc m ≤ 4294967295 → Vals s.heap vs es → Rel H T (suc k) w z n g s y m
+    → KeepsRow y y' (direct.does H.by q (direct.given vs) w []) (es3.does place_of H.by q es s.heap (page_of y) [])
+    → RowGoes H T d k w n g s y' m (direct.does H.by q (direct.given vs) w []).outcome go next next'
+    → M H d (bind (replied (done_reply H.around.calls H.by (direct.does H.by q (direct.given vs) w [])) go) next) z n (bind (Target.reply_plan (es3.does place_of H.by q es s.heap (page_of y) []).done.reply (env_of H) (with_heap s (es3.does place_of H.by q es s.heap (page_of y) []).done.heap)) next') y' (suc m)
+settled_on {H = H} {T = T} {d = d} {k = k} below q among vs es {w = w} {z = z} {n = n} {g = g} {s = s} {y = y} {m = m} y' go next next' few is r kept f =
+    let a = direct.does H.by q (direct.given vs) w [] in
+    let came = es3.does place_of H.by q es s.heap (page_of y) [] in
+    let c : CameIs first place_of s.heap m a came = every_row first place_of H.by below first_is q among (direct.given vs) es w s.heap (page_of y) [] [] m few is r.all.objects r.all.pages refl in
+    let l = does_leaves H.by q (direct.given vs) w [] in
+    let x : Changes (page_of y') w s a.world came.done.heap (suc m) =
+    record { objects = c.done.objects; pages = pages_moved kept.cells kept.queues c.page; keeps = c.done.keeps; scopes = l.scopes; older = l.older; closed = record { closures = l.closed } } in
+    let items : printed (z ++ a.items) ≡ shown y' = items_append z a.items ∙ ap (λ l. l ++ printed a.items) r.all.items ∙ sym kept.told in
+    let r1 : Rel H T k a.world (z ++ a.items) n g (with_heap s came.done.heap) y' (suc m) = rel_settled x (record { runtime = kept.runtime ∙ r.all.kept.runtime; imports = kept.imports ∙ r.all.kept.imports }) items (omega arith) (omega (arith, r.all.steps)) r in
+    left_tell H a.items (outcome_reply H.around.calls H.by a.outcome a.world) go next z (f.on _ a.world (z ++ a.items) _ c.done.reply r1 (stays_changed g x (omega arith)))
+
+-- the same for one that changes nothing beside objects, whatever is kept
 pub row_on : {H : Here} {T : Temps} {d k : ℕ} → H.by < 64 → (q : Row) → IsAmongObjects q → NoSettling q → (vs : List Value) (es : List EsValue) {w : World} {z : List Item} {n : ℕ} {g : Tags} {s : Store} {y : Kept} {m : ℕ} (page : es3.Page) (go : Going) (next : Cont) (next' : Cont') → suc m ≤ 4294967295 → Vals s.heap vs es → Rel H T (suc k) w z n g s y m
     → RowGoes H T d k w n g s y m (direct.does H.by q (direct.given vs) w []).outcome go next next'
     → M H d (bind (replied (done_reply H.around.calls H.by (direct.does H.by q (direct.given vs) w [])) go) next) z n (bind (Target.reply_plan (es3.does place_of H.by q es s.heap page []).done.reply (env_of H) (with_heap s (es3.does place_of H.by q es s.heap page []).done.heap)) next') y (suc m)
-row_on {H = H} {T = T} {d = d} {k = k} below q among none vs es {w = w} {z = z} {n = n} {g = g} {s = s} {y = y} {m = m} page go next next' few is r f =
+row_on {H = H} {d = d} below q among none vs es {w = w} {z = z} {n = n} {s = s} {y = y} {m = m} page go next next' few is r f =
     let a = direct.does H.by q (direct.given vs) w [] in
-    let c : CameIs first place_of s.heap m a (es3.does place_of H.by q es s.heap r.all.page []) = every_row first place_of H.by below first_is q among (direct.given vs) es w s.heap r.all.page [] [] m few is r.all.objects r.all.pages refl in
-    let l = does_leaves H.by q (direct.given vs) w [] in
-    let x : Changes w s a.world (es3.does place_of H.by q es s.heap r.all.page []).done.heap (suc m) =
-    record { objects = c.done.objects; page = (es3.does place_of H.by q es s.heap r.all.page []).page; pages = c.page; keeps = c.done.keeps; scopes = l.scopes; older = l.older; closed = record { closures = l.closed } } in
-    let r1 : Rel H T k a.world z n g (with_heap s (es3.does place_of H.by q es s.heap r.all.page []).done.heap) y (suc m) = rel_changed x (omega arith) (omega (arith, r.all.steps)) r in
-    subst (λ b. M H d (bind (replied (done_reply H.around.calls H.by a) go) next) z n (bind (Target.reply_plan b.reply (env_of H) (with_heap s b.heap)) next') y (suc m)) (any_page place_of H.by q none es s.heap r.all.page page [])
-    (left_tell H a.items (outcome_reply H.around.calls H.by a.outcome a.world) go next z (f.on _ a.world (z ++ a.items) _ c.done.reply (rel_told a.items (quiet_row H.by q none (direct.given vs) w [] refl) r1) (stays_changed g x (omega arith))))
+    let quiet = quiet_row H.by q none (direct.given vs) w [] refl in
+    let same = same_page place_of H.by q none es s.heap (page_of y) [] in
+    subst (λ b. M H d (bind (replied (done_reply H.around.calls H.by a) go) next) z n (bind (Target.reply_plan b.reply (env_of H) (with_heap s b.heap)) next') y (suc m)) (any_page place_of H.by q none es s.heap (page_of y) page [])
+    (settled_on below q among vs es y go next next' few is r (record { runtime = refl; imports = refl; told = sym (ap (λ l. shown y ++ l) quiet ∙ append-nil (shown y)); cells = λ c. ap (λ p. p.cells c) same; queues = λ m. ap (λ p. p.queues m) same }) f)
 
 -- rows that end by themselves: with a value, with a throw, or by a fault that a module may end by
 
@@ -297,7 +338,7 @@ abbrev pub GivesOnly : (Value → Type 0) → direct.Outcome → Type 0
 GivesOnly P (direct.gives v) = P v
 GivesOnly P e = Unit {0}
 
-reply_goes : {P : Value → Type 0} {H : Here} {T : Temps} {d k : ℕ} {w : World} {n : ℕ} {g : Tags} {s : Store} {y : Kept} {m : ℕ} {go : Going} {next : Cont} {next' : Cont'} (e : direct.Outcome) → ComesPlainly e → GivesOnly P e → RowNextOf P H T d k w n g s y m go next next' → (b : Reply) (w' : World) (z' : List Item) (s' : Store) → ReplyIs s'.heap e b → Rel H T k w' z' n g s' y (suc m) → Stays w g s m w' g s' (suc m) → M H d (bind (replied (outcome_reply H.around.calls H.by e w') go) next) z' n (bind (Target.reply_plan b (env_of H) s') next') y (suc m)
+pub reply_goes : {P : Value → Type 0} {H : Here} {T : Temps} {d k : ℕ} {w : World} {n : ℕ} {g : Tags} {s : Store} {y : Kept} {m : ℕ} {go : Going} {next : Cont} {next' : Cont'} (e : direct.Outcome) → ComesPlainly e → GivesOnly P e → RowNextOf P H T d k w n g s y m go next next' → (b : Reply) (w' : World) (z' : List Item) (s' : Store) → ReplyIs s'.heap e b → Rel H T k w' z' n g s' y (suc m) → Stays w g s m w' g s' (suc m) → M H d (bind (replied (outcome_reply H.around.calls H.by e w') go) next) z' n (bind (Target.reply_plan b (env_of H) s') next') y (suc m)
 reply_goes (direct.gives v) p known f (value_reply e) w' z' s' is r k = f.gives v e w' z' s' known is r k
 reply_goes (direct.throws v) p known f (throw_reply e) w' z' s' is r k = f.throws v e w' z' s' is r k
 reply_goes (direct.stops v) p known f (stop_reply e) w' z' s' is r k = both_stop (steps_hold r) (is, p, r.all.items)

@@ -23,8 +23,11 @@ use Rattle.cajita_simulation.proofs.Forms.Behind.{behind_body, behind_key_body}
 use Rattle.cajita_simulation.proofs.Forms.Function.{function_body}
 use Rattle.cajita_simulation.proofs.Forms.OwnName.{own_name_body}
 use Rattle.cajita_simulation.proofs.Forms.Read.{read_body}
-use Rattle.cajita_simulation.proofs.Calling.Laws.{ClosureLaw}
+use Rattle.cajita_simulation.proofs.Calling.Laws.{ClosureLaw, NativeLaw}
 use Rattle.cajita_simulation.proofs.Calling.Body.{closure_law}
+use Rattle.cajita_simulation.proofs.Calling.Native.{native_zero, native_law}
+use Rattle.cajita_simulation.proofs.Forms.Call.{call_body}
+use Rattle.cajita_simulation.proofs.Forms.Method.{method_body, new_body}
 use Rattle.cajita_simulation.proofs.Forms.Array.{array_body}
 use Rattle.cajita_simulation.proofs.Forms.Record.{record_body}
 use Rattle.cajita_simulation.proofs.Forms.Assign.{assign_body}
@@ -44,43 +47,46 @@ use Rattle.cajita_simulation.proofs.Forms.Try.{try_body}
 abbrev Types : Here → ℕ → Type 0
 Types H d = (b : ℕ) (e : c.Tree c.expr) → Guest H.vars H.free c.expr e → TypeLaw H d b (temps c.expr e) e (rewritten false c.expr b e)
 
-value_body : {H : Here} {d : ℕ} → H.by < 64 → Values H d → Types H d → (b : ℕ) (e : c.Tree c.expr) → Guest H.vars H.free c.expr e → ValueBody H d b (temps c.expr e) e (rewritten false c.expr b e)
+value_body : {H : Here} {d : ℕ} → H.by < 64 → ClosureLaw H d → NativeLaw H d → Values H d → Types H d → (b : ℕ) (e : c.Tree c.expr) → Guest H.vars H.free c.expr e → ValueBody H d b (temps c.expr e) e (rewritten false c.expr b e)
 unfolding rewritten
-value_body few law types b c.null g = null_body
-value_body few law types b (c.bool a) g = truth_body a
-value_body few law types b (c.num n) g = number_body n
-value_body few law types b (c.text us) g = text_body us
-value_body few law types b (c.name x) g = name_body x g.0 g.1
-value_body few law types b (c.array es) g = array_body few law es g
-value_body few law types b (c.record_of fs) g = record_body few law fs g
-value_body few law types b (c.function (c.fun None params false (c.a_body c.no_funcs names list))) g = function_body few params false (c.a_body c.no_funcs names list) g
-value_body few law types b (c.function (c.fun (Some x) params false (c.a_body c.no_funcs names list))) g = own_name_body few x params false (c.a_body c.no_funcs names list) g.0 g.1
-value_body few law types b (c.read e k) g = read_body few law (law b e g.0) k g.1
-value_body few law types b (c.delete e k) g = delete_body few law (law b e g.0) k g.1
-value_body few law types b (c.step up true (c.variable x)) g = step_before_body up x g.0 g.1 g.2
-value_body few law types b (c.step up false (c.variable x)) g = step_behind_body up x g.0 g.1 g.2
-value_body few law types b (c.step up true (c.member e (c.fixed k))) g = before_body up few k (law (b + 1) e g.0)
-value_body few law types b (c.step up true (c.member e (c.computed f))) g = before_key_body up few (law (b + 2) e g.0) (law (b + 2 + temps _ e) f g.1)
-value_body few law types b (c.step up false (c.member e (c.fixed k))) g = behind_body up few k (law (b + 2) e g.0)
-value_body few law types b (c.step up false (c.member e (c.computed f))) g = behind_key_body up few (law (b + 3) e g.0) (law (b + 3 + temps _ e) f g.1)
-value_body few law types b (c.assign None (c.variable x) e) g = assign_body x g.1.0 g.1.1 g.1.2 (law b e g.2)
-value_body few law types b (c.assign None (c.member e k) v) g = put_body few law (law b e g.0) k g.1 (law _ v g.2)
-value_body few law types b (c.assign (Some op) (c.variable x) e) g = compound_body op g.0 x g.1.0 g.1.1 g.1.2 (law b e g.2)
-value_body few law types b (c.assign (Some op) (c.member e (c.fixed k)) v) g = compound_member_body op g.0 few k (law (b + 1) e g.1) (law (b + 1 + temps _ e) v g.3)
-value_body few law types b (c.assign (Some op) (c.member e (c.computed f)) v) g = compound_key_body op g.0 few (law (b + 2) e g.1) (law (b + 2 + temps _ e) f g.2) (law (b + 2 + (temps _ e + temps _ f)) v g.3)
-value_body few law types b (c.unary un.Delete e) g = absurd g.0
-value_body few law types b (c.unary un.Typeof e) g = typeof_body (types b e g.1)
-value_body few law types b (c.unary op e) g = unary_body op tt (law b e g.1)
-value_body few law types b (c.binary bin.InObject x y) g = in_body few (law b x g.0) (law _ y g.1)
-value_body few law types b (c.binary bin.InstanceOf x y) g = instance_body few (law b x g.0) (law _ y g.1)
-value_body few law types b (c.binary op x y) g = binary_body op tt (law b x g.0) (law _ y g.1)
-value_body few law types b (c.and x y) g = and_body (law b x g.0) (law _ y g.1)
-value_body few law types b (c.or x y) g = or_body (law b x g.0) (law _ y g.1)
-value_body few law types b (c.choice x y z) g = choice_body (law b x g.0) (law _ y g.1) (law _ z g.2)
-value_body few law types b (c.comma x y) g = comma_body (law b x g.0) (law _ y g.1)
-value_body few law types b (c.function (c.fun (Some x) params true body)) g = absurd g.1
-value_body few law types b (c.function (c.fun (Some x) params false (c.a_body (c.more_funcs f fs) names list))) g = absurd g.1
-value_body few law types b _ g = absurd g
+value_body few closures natives law types b c.null g = null_body
+value_body few closures natives law types b (c.bool a) g = truth_body a
+value_body few closures natives law types b (c.num n) g = number_body n
+value_body few closures natives law types b (c.text us) g = text_body us
+value_body few closures natives law types b (c.name x) g = name_body x g.0 g.1
+value_body few closures natives law types b (c.array es) g = array_body few law es g
+value_body few closures natives law types b (c.record_of fs) g = record_body few law fs g
+value_body few closures natives law types b (c.function (c.fun None params false (c.a_body c.no_funcs names list))) g = function_body few params false (c.a_body c.no_funcs names list) g
+value_body few closures natives law types b (c.function (c.fun (Some x) params false (c.a_body c.no_funcs names list))) g = own_name_body few x params false (c.a_body c.no_funcs names list) g.0 g.1
+value_body few closures natives law types b (c.read e k) g = read_body few law (law b e g.0) k g.1
+value_body few closures natives law types b (c.call e es) g = call_body few closures natives law (law b e g.0) es g.1
+value_body few closures natives law types b (c.method e k es) g = method_body few closures natives law (law b e g.0) k g.1 es g.2
+value_body few closures natives law types b (c.new e es) g = new_body few closures natives law (law b e g.0) es g.1
+value_body few closures natives law types b (c.delete e k) g = delete_body few law (law b e g.0) k g.1
+value_body few closures natives law types b (c.step up true (c.variable x)) g = step_before_body up x g.0 g.1 g.2
+value_body few closures natives law types b (c.step up false (c.variable x)) g = step_behind_body up x g.0 g.1 g.2
+value_body few closures natives law types b (c.step up true (c.member e (c.fixed k))) g = before_body up few k (law (b + 1) e g.0)
+value_body few closures natives law types b (c.step up true (c.member e (c.computed f))) g = before_key_body up few (law (b + 2) e g.0) (law (b + 2 + temps _ e) f g.1)
+value_body few closures natives law types b (c.step up false (c.member e (c.fixed k))) g = behind_body up few k (law (b + 2) e g.0)
+value_body few closures natives law types b (c.step up false (c.member e (c.computed f))) g = behind_key_body up few (law (b + 3) e g.0) (law (b + 3 + temps _ e) f g.1)
+value_body few closures natives law types b (c.assign None (c.variable x) e) g = assign_body x g.1.0 g.1.1 g.1.2 (law b e g.2)
+value_body few closures natives law types b (c.assign None (c.member e k) v) g = put_body few law (law b e g.0) k g.1 (law _ v g.2)
+value_body few closures natives law types b (c.assign (Some op) (c.variable x) e) g = compound_body op g.0 x g.1.0 g.1.1 g.1.2 (law b e g.2)
+value_body few closures natives law types b (c.assign (Some op) (c.member e (c.fixed k)) v) g = compound_member_body op g.0 few k (law (b + 1) e g.1) (law (b + 1 + temps _ e) v g.3)
+value_body few closures natives law types b (c.assign (Some op) (c.member e (c.computed f)) v) g = compound_key_body op g.0 few (law (b + 2) e g.1) (law (b + 2 + temps _ e) f g.2) (law (b + 2 + (temps _ e + temps _ f)) v g.3)
+value_body few closures natives law types b (c.unary un.Delete e) g = absurd g.0
+value_body few closures natives law types b (c.unary un.Typeof e) g = typeof_body (types b e g.1)
+value_body few closures natives law types b (c.unary op e) g = unary_body op tt (law b e g.1)
+value_body few closures natives law types b (c.binary bin.InObject x y) g = in_body few (law b x g.0) (law _ y g.1)
+value_body few closures natives law types b (c.binary bin.InstanceOf x y) g = instance_body few (law b x g.0) (law _ y g.1)
+value_body few closures natives law types b (c.binary op x y) g = binary_body op tt (law b x g.0) (law _ y g.1)
+value_body few closures natives law types b (c.and x y) g = and_body (law b x g.0) (law _ y g.1)
+value_body few closures natives law types b (c.or x y) g = or_body (law b x g.0) (law _ y g.1)
+value_body few closures natives law types b (c.choice x y z) g = choice_body (law b x g.0) (law _ y g.1) (law _ z g.2)
+value_body few closures natives law types b (c.comma x y) g = comma_body (law b x g.0) (law _ y g.1)
+value_body few closures natives law types b (c.function (c.fun (Some x) params true body)) g = absurd g.1
+value_body few closures natives law types b (c.function (c.fun (Some x) params false (c.a_body (c.more_funcs f fs) names list))) g = absurd g.1
+value_body few closures natives law types b _ g = absurd g
 
 abbrev IsNoName : c.Tree c.expr → Type 0
 IsNoName (c.name x) = ⊥
@@ -93,6 +99,9 @@ target_is H b (c.name x) g other env s = absurd other
 target_is H b (c.binary bin.InObject x y) g other env s = refl
 target_is H b (c.binary bin.InstanceOf x y) g other env s = refl
 target_is H b (c.binary op x y) g other env s = refl
+target_is H b (c.call e es) g other env s = refl
+target_is H b (c.method e k es) g other env s = refl
+target_is H b (c.new e es) g other env s = refl
 target_is H b (c.delete e k) g other env s = refl
 target_is H b (c.assign None (c.member e k) v) g other env s = refl
 target_is H b (c.step up true (c.variable x)) g other env s = refl
@@ -143,10 +152,10 @@ unfolding rewritten
 maybe_law law b c.no_expr g = tt
 maybe_law law b (c.some_expr e) g = law b e g
 
-maybe_body : {H : Here} {d : ℕ} → H.by < 64 → Values H d → Types H d → (b : ℕ) (e : c.Tree c.maybe_expr) → Guest H.vars H.free c.maybe_expr e → MaybeBody H d b (temps c.maybe_expr e) e (rewritten false c.maybe_expr b e)
+maybe_body : {H : Here} {d : ℕ} → H.by < 64 → ClosureLaw H d → NativeLaw H d → Values H d → Types H d → (b : ℕ) (e : c.Tree c.maybe_expr) → Guest H.vars H.free c.maybe_expr e → MaybeBody H d b (temps c.maybe_expr e) e (rewritten false c.maybe_expr b e)
 unfolding rewritten
-maybe_body few law types b c.no_expr g = tt
-maybe_body few law types b (c.some_expr e) g = value_body few law types b e g
+maybe_body few closures natives law types b c.no_expr g = tt
+maybe_body few closures natives law types b (c.some_expr e) g = value_body few closures natives law types b e g
 
 -- the laws of later turns
 abbrev Later : Here → ℕ → Type 0
@@ -207,24 +216,29 @@ record Laws (d : ℕ) : Type 0 where
   types : (H : Here) → H.by < 64 → Types H d
   effects : (H : Here) → H.by < 64 → Effects H d
   later : (H : Here) → H.by < 64 → Later H d
+  natives : (H : Here) → H.by < 64 → NativeLaw H d
 
 laws : (d : ℕ) → Laws d
-laws zero = record { values = λ H few b e g. value_zero; types = λ H few b e g. type_zero; effects = λ H few b x g. effect_zero; later = λ H few b q bt bu bx e u x ge gu gx pt pu p. later_zero }
+laws zero = record { values = λ H few b e g. value_zero; types = λ H few b e g. type_zero; effects = λ H few b x g. effect_zero; later = λ H few b q bt bu bx e u x ge gu gx pt pu p. later_zero; natives = λ H few. native_zero }
 laws (suc d) =
     let l = laws d in
     record {
-      values = λ H few b e g. value_law (value_body few (l.values H few) (l.types H few) b e g);
-      types = λ H few b e g. type_body b e g (value_body few (l.values H few) (l.types H few) b e g);
+      values = λ H few b e g. value_law (value_body few (closure_law l.effects H) (l.natives H few) (l.values H few) (l.types H few) b e g);
+      types = λ H few b e g. type_body b e g (value_body few (closure_law l.effects H) (l.natives H few) (l.values H few) (l.types H few) b e g);
       effects = λ H few b x g. effect_law (effect_body few (l.values H few) l.effects (l.later H few) b x g);
       later = λ H few b q bt bu bx e u x ge gu gx pt pu p.
-          later_law pt pu p (maybe_body few (l.values H few) (l.types H few) bu u gu) (maybe_law (l.values H few) bt e ge) (maybe_body few (l.values H few) (l.types H few) bt e ge) (l.effects H few bx x gx)
+          later_law pt pu p (maybe_body few (closure_law l.effects H) (l.natives H few) (l.values H few) (l.types H few) bu u gu) (maybe_law (l.values H few) bt e ge) (maybe_body few (closure_law l.effects H) (l.natives H few) (l.values H few) (l.types H few) bt e ge) (l.effects H few bx x gx)
           (effect_body few (l.values H few) l.effects (l.later H few) bx x gx) (l.later H few b q bt bu bx e u x ge gu gx pt pu p);
+      natives = λ H few. native_law few (closure_law l.effects H) (l.natives H few);
     }
 
 pub owns : (H : Here) → H.by < 64 → (d : ℕ) → Owns H d
 owns H few zero b x g = own_zero
 owns H few (suc d) b x g = let l = laws d in own_law (own_body few (l.values H few) l.effects (l.later H few) b x g)
 
--- so do the calls of closures
+-- so do the calls of closures, and those of functions that no module made
 pub closures : (H : Here) (d : ℕ) → ClosureLaw H d
 closures H d = let l = laws d in closure_law l.effects H
+
+pub natives : (H : Here) → H.by < 64 → (d : ℕ) → NativeLaw H d
+natives H few d = let l = laws d in l.natives H few

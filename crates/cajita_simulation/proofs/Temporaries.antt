@@ -19,7 +19,7 @@ use Rattle.es3_language.specs.Meaning.{is_arguments}
 use Rattle.cajita_rewrite.specs.Rewrite.{runtime_name, temp_name, temp}
 use Rattle.cajita_meaning.specs.World.{Value, World}
 use Rattle.cajita_meaning.specs.Direct.{Item}
-use Rattle.module_loader.specs.Page.{Kept}
+use Rattle.page_natives.specs.Natives.{Kept}
 use Rattle.cajita_simulation.proofs.Doing as Source
 use Rattle.cajita_simulation.proofs.Relation.{EsValue, Val, Here, env_of, Tags, Temps, Slot, declared, holds, SlotIs, names_at, Rel, Stays, rel_pay}
 use Rattle.cajita_simulation.proofs.Slots.{slot_plan}

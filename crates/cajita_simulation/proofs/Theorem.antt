@@ -16,10 +16,12 @@ use Rattle.cajita_meaning.specs.Imports.{imported}
 use Rattle.es3_heap.specs.Objects.{Objects, props_of}
 use Rattle.es3_heap.specs.Properties.{find, own, value_of}
 use Rattle.heap_rows.specs.Opening.{imports_id}
+use Rattle.row_simulation.specs.RowLaw.{PagesAre}
 use Rattle.row_simulation.proofs.Relation.{vals_keep}
 use Rattle.cajita_meaning.specs.Direct as Source
 use Rattle.cajita_meaning.specs.Direct.{Item, printed, direct}
-use Rattle.module_loader.specs.Page.{Kept, page_table, first_store, module_run}
+use Rattle.page_natives.specs.Natives.{Kept, page_of, page_table}
+use Rattle.module_loader.specs.Page.{first_store, module_run}
 use Rattle.cajita_simulation.specs.Guest.{GuestModule, a_guest}
 use Rattle.cajita_simulation.specs.Alike.{shown, GuestFault, most_steps}
 use Rattle.cajita_simulation.specs.Sides.{Ends}
@@ -95,9 +97,9 @@ simulates by few m may guest = load_simulated no_rules by few m guest (imports_a
 
 -- like ends, as the sentences say it
 
-ends_alike : (e : Source.Completion) (w : World) (z : List Item) (n : ℕ) (e' : Target.Completion) (s : Store) (y : Kept) (m : ℕ) → Ends e w z n e' s y m → SameEnd e w e' s × (printed z ≡ shown y)
-ends_alike (Source.gave v) w z n (Target.normal (Some x)) s y m p = ((p.0, (m, p.1.1.objects)), p.1.1.items)
-ends_alike (Source.threw v) w z n (Target.threw x) s y m p = ((p.0, (m, p.1.1.objects)), p.1.1.items)
+ends_alike : (e : Source.Completion) (w : World) (z : List Item) (n : ℕ) (e' : Target.Completion) (s : Store) (y : Kept) (m : ℕ) → Ends e w z n e' s y m → SameEnd e w e' s × (printed z ≡ shown y) × PagesAre s.heap w (page_of y)
+ends_alike (Source.gave v) w z n (Target.normal (Some x)) s y m p = ((p.0, (m, p.1.1.objects)), p.1.1.items, p.1.1.pages)
+ends_alike (Source.threw v) w z n (Target.threw x) s y m p = ((p.0, (m, p.1.1.objects)), p.1.1.items, p.1.1.pages)
 ends_alike _ w z n _ s y m p = absurd p
 
 alike : (rules : Rules) (all all' : ℕ) (r : Source.Run) (t : Target.Run Kept) → Together (sides rules) Ends all all' r t → EndAlike r t

@@ -10,7 +10,7 @@ use Rattle.es3_language.specs.References.{slot, resolve}
 use Rattle.cajita_rewrite.specs.Rewrite.{runtime_name}
 use Rattle.cajita_meaning.specs.World.{Value, Pairs, World, value_at, with_value, with_list, scope_at}
 use Rattle.cajita_meaning.specs.Direct.{Item}
-use Rattle.module_loader.specs.Page.{Kept}
+use Rattle.page_natives.specs.Natives.{Kept}
 use Rattle.cajita_simulation.proofs.Doing.{assign}
 use Rattle.cajita_simulation.proofs.Heaps.Names.{name_value-with_name}
 use Rattle.cajita_simulation.proofs.Relation.{EsValue, Val, OptVal, ScopeTag, tag_of_scope, Tags, names_at, Temps, Slot, unknown, declared, holds, SlotIs, ScopesAre, Here, Rel, Shaped, Stays, keeps_refl, closed_refl}
@@ -125,7 +125,6 @@ rel_assigned {H = H} {T = T} {w = w} {g = g} {s = s} x c v e guest f is r =
         steps = r.all.steps;
         items = r.all.items;
         objects = r.all.objects;
-        page = r.all.page;
         pages = record { cells = r.all.pages.cells; queues = r.all.pages.queues };
         closures = closures_shaped w.objects refl shaped r.all.scopes.are are r.all.closures;
         scopes = subst (λ l. ScopesAre T g (with_list H.by l w.scopes) (with_slot c x e s)) (sym (f.assigns v)) scopes;
@@ -186,7 +185,6 @@ rel_held {w = w} {g = g} {s = s} c x v e u there hidden other is r =
         steps = r.all.steps;
         items = r.all.items;
         objects = r.all.objects;
-        page = r.all.page;
         pages = r.all.pages;
         closures = closures_shaped w.objects refl shaped r.all.scopes.are are r.all.closures;
         scopes = scopes_held c x v e u there hidden other is r.all.scopes;
@@ -211,7 +209,6 @@ rel_covers {s = s} f r =
         steps = r.all.steps;
         items = r.all.items;
         objects = r.all.objects;
-        page = r.all.page;
         pages = r.all.pages;
         closures = r.all.closures;
         scopes = record { same = v.same; once = v.once; known = v.known; count = v.count; temps = λ c x hidden. f.covers s c x hidden (v.temps c x hidden); runtime = v.runtime; are = v.are; unshared = v.unshared };

@@ -12,8 +12,10 @@ use Rattle.cajita_meaning.specs.Imports.{imported}
 use Rattle.cajita_meaning.specs.Direct as Source
 use Rattle.cajita_meaning.specs.Direct.{printed, load_run}
 use Rattle.heap_rows.specs.Opening.{first, place_of}
-use Rattle.module_loader.specs.Page.{Kept, module_run}
+use Rattle.page_natives.specs.Natives.{Kept, page_of}
+use Rattle.module_loader.specs.Page.{module_run}
 use Rattle.row_simulation.specs.Correspond.{Val, ObjectsAre}
+use Rattle.row_simulation.specs.RowLaw.{PagesAre}
 use Rattle.cajita_simulation.specs.Alike.{shown, IsPrefix, GuestFault, most_steps}
 
 -- what a module imports
@@ -36,9 +38,9 @@ SameEnd (Source.gave v) w (Target.normal (Some e)) s = Val s.heap v e × ((m : �
 SameEnd (Source.threw v) w (Target.threw e) s = Val s.heap v e × ((m : ℕ) × ObjectsAre first place_of w.objects s.heap m)
 SameEnd _ w _ s = ⊥
 
--- both came to such an end, or stopped by the same fault, which is no conversion; and what is printed is the same
+-- both came to such an end, where cells and queues correspond too, or stopped by the same fault, which is no conversion; and what is printed is the same
 abbrev pub EndAlike : Source.Run → Target.Run Kept → Type 0
-EndAlike (over e w z n) (over e' s y n') = SameEnd e w e' s × (printed z ≡ shown y)
+EndAlike (over e w z n) (over e' s y n') = SameEnd e w e' s × (printed z ≡ shown y) × PagesAre s.heap w (page_of y)
 EndAlike (stopped f w z n) (stopped g s y n') = (f ≡ g) × GuestFault f × (printed z ≡ shown y)
 EndAlike r t = ⊥
 

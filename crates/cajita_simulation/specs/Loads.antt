@@ -14,7 +14,7 @@ use Rattle.row_simulation.specs.Correspond.{Vals}
 use Rattle.cajita_meaning.specs.Direct as Source
 use Rattle.cajita_meaning.specs.Direct.{Item, printed, load_run}
 use Rattle.heap_rows.specs.Opening.{begun, globals_id, imports_id}
-use Rattle.module_loader.specs.Page.{Kept, page_table}
+use Rattle.page_natives.specs.Natives.{Kept, page_table}
 use Rattle.cajita_simulation.specs.Alike.{shown, IsPrefix, most_steps}
 use Rattle.cajita_simulation.specs.Sides.{Ends, Stops}
 

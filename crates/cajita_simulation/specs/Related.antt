@@ -15,9 +15,8 @@ use Rattle.cajita_rewrite.specs.Rewrite.{rewritten, runtime_name}
 use Rattle.cajita_meaning.specs.World.{made_name, Object, a_closure, World}
 use Rattle.cajita_meaning.specs.Direct.{Item, printed, Around}
 use Rattle.heap_rows.specs.Marks.{simple_mark}
-use Rattle.heap_rows.specs.Doing.{Page}
-use Rattle.heap_rows.specs.Opening.{first, place_of, globals_id}
-use Rattle.module_loader.specs.Page.{Kept, first_kept}
+use Rattle.heap_rows.specs.Opening.{first, place_of, globals_id, runtime_id, imports_id}
+use Rattle.page_natives.specs.Natives.{Kept, page_of}
 use Rattle.row_simulation.specs.Correspond.{Named, ObjectsAre}
 use Rattle.row_simulation.specs.RowLaw.{PagesAre}
 use Rattle.cajita_simulation.specs.Guest.{Names, Guest}
@@ -86,18 +85,22 @@ pub record CodeIs (by : ℕ) (g : Tags) (s : Store) (f : c.Tree c.func) (direct 
 abbrev pub ClosuresAre : (ℕ → List Object) → Tags → Store → Type 0
 ClosuresAre objects g s = (m n : ℕ) (f : c.Tree c.func) (chain : List ℕ) → slice_get (objects m) n ≡ Some (a_closure f chain) → (m < 64) × ((i : ℕ) → Named s.heap (made_name m n) i → CodeIs m g s f chain i)
 
+-- the natives of a page know where its runtime and what it may import are
+pub record KnowsPage (y : Kept) : Type 0 where
+  pub runtime : y.runtime ≡ runtime_id
+  pub imports : y.imports ≡ imports_id
+
 -- all of both sides but the place where a form stands: what the log prints is the same, objects, closures, scopes and what a page keeps beside them correspond; and
 -- of 64 steps of the interpreter for each of the direct meaning, k are in hand
 pub record Related (T : Temps) (k : ℕ) (w : World) (z : List Item) (n : ℕ) (g : Tags) (s : Store) (y : Kept) (m : ℕ) : Type 0 where
   pub steps : m + k ≤ 64 * n
   pub items : printed z ≡ shown y
   pub objects : ObjectsAre first place_of w.objects s.heap m
-  pub page : Page
-  pub pages : PagesAre s.heap w page
+  pub pages : PagesAre s.heap w (page_of y)
   pub closures : ClosuresAre w.objects g s
   pub scopes : ScopesAre T g w.scopes s
   pub globals : s.globals ≡ globals_id
-  pub kept : y ≡ first_kept
+  pub kept : KnowsPage y
 
 -- between two turns nothing is known of temporaries, and no step is in hand
 abbrev pub Between : World → List Item → ℕ → Tags → Store → Kept → ℕ → Type 0

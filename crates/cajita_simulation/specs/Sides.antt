@@ -6,7 +6,7 @@ use Rattle.es3_language.specs.Meaning as Target
 use Rattle.cajita_meaning.specs.World.{World}
 use Rattle.cajita_meaning.specs.Direct as Source
 use Rattle.cajita_meaning.specs.Direct.{Item, printed}
-use Rattle.module_loader.specs.Page.{Kept}
+use Rattle.page_natives.specs.Natives.{Kept}
 use Rattle.row_simulation.specs.Correspond.{Val}
 use Rattle.cajita_simulation.specs.Alike.{shown, IsPrefix, GuestFault}
 use Rattle.cajita_simulation.specs.Scopes.{Tags}

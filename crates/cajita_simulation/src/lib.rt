@@ -12,7 +12,7 @@ ghost use Rattle.rows.specs.Nodes.{Rules};
 ghost use Rattle.cajita_tree.specs.Tree as c;
 ghost use Rattle.cajita_meaning.specs.World.{Value, World, empty_world};
 ghost use Rattle.cajita_meaning.specs.Direct.{Item};
-ghost use Rattle.module_loader.specs.Page.{Kept, first_kept};
+ghost use Rattle.page_natives.specs.Natives.{Kept, first_kept};
 ghost use Rattle.cajita_simulation.specs.Guest.{GuestModule};
 ghost use Rattle.cajita_simulation.specs.Scopes.{Tags};
 ghost use Rattle.cajita_simulation.specs.Related.{Between};

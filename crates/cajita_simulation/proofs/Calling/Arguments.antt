@@ -9,7 +9,7 @@ use Rattle.cajita_rewrite.specs.Rewrite.{rewritten, temps}
 use Rattle.cajita_meaning.specs.World.{Value, World}
 use Rattle.cajita_meaning.specs.Direct as Direct
 use Rattle.cajita_meaning.specs.Direct.{Item}
-use Rattle.module_loader.specs.Page.{Kept}
+use Rattle.page_natives.specs.Natives.{Kept}
 use Rattle.cajita_simulation.specs.Guest.{Guest}
 use Rattle.cajita_simulation.proofs.Doing as Source
 use Rattle.row_simulation.proofs.Relation as row_relation

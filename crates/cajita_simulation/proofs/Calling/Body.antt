@@ -18,7 +18,7 @@ use Rattle.cajita_meaning.specs.World.{Value, World as State}
 use Rattle.cajita_meaning.specs.Asking as Asking
 use Rattle.cajita_meaning.specs.Asking.{passing, stepping_all, entry_reply, statements_reply, returned_reply, good_value}
 use Rattle.cajita_meaning.specs.Direct.{Item, passed}
-use Rattle.module_loader.specs.Page.{Kept}
+use Rattle.page_natives.specs.Natives.{Kept}
 use Rattle.cajita_simulation.specs.Guest.{Guest}
 use Rattle.cajita_simulation.specs.Jumps.{function_jumps}
 use Rattle.cajita_simulation.proofs.Doing as Source

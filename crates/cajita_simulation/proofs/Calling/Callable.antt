@@ -1,5 +1,5 @@
 -- What a plain call may call: asSimpleFunc answers nothing else, and it stays so.
-use Rattle.std.proofs.Common.{◌≡◌, ℕ, zero, suc, List, [], ◌∷◌, Option, Some, None, refl}
+use Rattle.std.proofs.Common.{◌≡◌, ℕ, zero, suc, true, List, [], ◌∷◌, Option, Some, None, refl}
 use Rattle.std.specs.Prelude.{slice_get}
 use Rattle.es3_language.specs.Store.{Store}
 use Rattle.rows.specs.Rows as r
@@ -27,6 +27,7 @@ IsCallable w v = ⊥
 
 abbrev pub IsFunctionSight : Sight → Type 0
 IsFunctionSight (r.a_function sort) = Unit {0}
+IsFunctionSight (r.a_stranger true) = Unit {0}
 IsFunctionSight s = ⊥
 
 closure_seen : (n : ℕ) (o : Option Object) → IsFunctionSight (direct.see_made n o).sight → (f : c.Tree c.func) × (chain : List ℕ) × (o ≡ Some (a_closure f chain))

@@ -1,6 +1,7 @@
 -- Rows that end in a call: what they call was seen to be a function, and both sides call it.
-use Rattle.std.proofs.Common.{◌≡◌, ℕ, zero, suc, ◌≤◌, ◌<◌, Bool, true, false, List, [], ◌∷◌, ◌++◌, Option, Some, None, Result, Ok, Err, cond, refl, sym, ap, ◌∙◌, subst, arith}
+use Rattle.std.proofs.Common.{◌≡◌, ℕ, zero, suc, ◌≤◌, ◌<◌, Bool, true, false, List, [], ◌∷◌, ◌++◌, Option, Some, None, Result, Ok, Err, cond, ◌⊎◌, inl, inr, refl, sym, ap, ◌∙◌, subst, arith}
 use Rattle.std.specs.Prelude.{ℤ, length, nat_lt, slice_get}
+use Rattle.std.proofs.lemmas.List.{append_assoc}
 use Rattle.plans.specs.Plans.{Fault, bind}
 use Rattle.acts.specs.Acts.{replied}
 use Rattle.matching.proofs.Rules.{both_stop}
@@ -18,7 +19,7 @@ use Rattle.heap_rows.specs.Doing as es3
 use Rattle.heap_rows.specs.Opening.{place_of}
 use Rattle.row_simulation.specs.Among.{IsAmongObjects}
 use Rattle.row_simulation.specs.RowLaw.{ReplyIs}
-use Rattle.module_loader.specs.Page.{Kept}
+use Rattle.page_natives.specs.Natives.{Kept}
 use Rattle.cajita_simulation.specs.Alike.{GuestFault}
 use Rattle.cajita_simulation.proofs.Doing as Source
 use Rattle.cajita_simulation.proofs.Relation.{EsValue, Vals, Here, env_of, Tags, Temps, Rel, rel_less, Stays}
@@ -27,14 +28,14 @@ use Rattle.cajita_simulation.proofs.Rows.{Going, NoSettling, row_on, EndsPlainly
 use Rattle.cajita_simulation.proofs.Calling.Callable.{IsCallable, IsFunctionSight, callable_seen, callable_stays}
 use Rattle.cajita_simulation.proofs.Calling.Laws.{ClosureLaw, NativeLaw, applied, call_match}
 
--- what was looked at last, and what was seen of it
+-- what was looked at, the last first, and what was seen of each
 abbrev pub Looked : Type 0
-Looked = Option (Handle × Sight)
+Looked = List (Handle × Sight)
 
 -- a call is of what was looked at, and seen to be a function
 abbrev pub CallsSeen : Looked → Handle → Type 0
-CallsSeen None f = ⊥
-CallsSeen (Some (x, s)) f = (f ≡ x) × IsFunctionSight s
+CallsSeen [] f = ⊥
+CallsSeen ((x, s) ∷ o) f = ((f ≡ x) × IsFunctionSight s) ⊎ CallsSeen o f
 
 abbrev pub EndsCalling : Looked → Ending → Type 0
 EndsCalling o (r.calls recorded f t xs) = CallsSeen o f
@@ -43,21 +44,21 @@ EndsCalling o e = EndsPlainly e
 abbrev pub IsCalling : Looked → Row → Type 0
 IsCalling o (r.ends e) = EndsCalling o e
 IsCalling o (r.settles e) = ⊥
-IsCalling o (r.as_text x go) = (us : List ℕ) → IsCalling None (go us)
-IsCalling o (r.as_number x go) = (n : ℤ) → IsCalling None (go n)
-IsCalling o (r.as_joined x sep go) = (us : List ℕ) → IsCalling None (go us)
-IsCalling o (r.as_same x y go) = (b : Bool) → IsCalling None (go b)
-IsCalling o (r.looks x go) = (s : Sight) → IsCalling (Some (x, s)) (go s)
+IsCalling o (r.as_text x go) = (us : List ℕ) → IsCalling o (go us)
+IsCalling o (r.as_number x go) = (n : ℤ) → IsCalling o (go n)
+IsCalling o (r.as_joined x sep go) = (us : List ℕ) → IsCalling o (go us)
+IsCalling o (r.as_same x y go) = (b : Bool) → IsCalling o (go b)
+IsCalling o (r.looks x go) = (s : Sight) → IsCalling ((x, s) ∷ o) (go s)
 IsCalling o (r.touches t x k next) = IsCalling o next
 
 pub calling_settling : (q : Row) (o : Looked) → IsCalling o q → NoSettling q
 calling_settling (r.ends e) o p = tt
 calling_settling (r.settles e) o p = absurd p
-calling_settling (r.as_text x go) o p = λ us. calling_settling (go us) None (p us)
-calling_settling (r.as_number x go) o p = λ n. calling_settling (go n) None (p n)
-calling_settling (r.as_joined x sep go) o p = λ us. calling_settling (go us) None (p us)
-calling_settling (r.as_same x y go) o p = λ b. calling_settling (go b) None (p b)
-calling_settling (r.looks x go) o p = λ s. calling_settling (go s) (Some (x, s)) (p s)
+calling_settling (r.as_text x go) o p = λ us. calling_settling (go us) o (p us)
+calling_settling (r.as_number x go) o p = λ n. calling_settling (go n) o (p n)
+calling_settling (r.as_joined x sep go) o p = λ us. calling_settling (go us) o (p us)
+calling_settling (r.as_same x y go) o p = λ b. calling_settling (go b) o (p b)
+calling_settling (r.looks x go) o p = λ s. calling_settling (go s) ((x, s) ∷ o) (p s)
 calling_settling (r.touches t x k next) o p = calling_settling next o p
 
 -- what such a row comes to in a world
@@ -105,17 +106,33 @@ callable_there w (World.number n) is e = absurd is
 callable_there w (World.text us) is e = absurd is
 
 -- what the row holds begins with what it held when it looked
+pub record Saw (w : State) (vs : List Value) (x : Handle) (s : Sight) : Type 0 where
+  pub held : List Value
+  pub more : List Value
+  pub begins : vs ≡ held ++ more
+  pub number : ℕ
+  pub is : s ≡ (direct.see w number (direct.value_of held x)).sight
+
 abbrev pub SeenIn : State → List Value → Looked → Type 0
-SeenIn w vs None = Unit {0}
-SeenIn w vs (Some (x, s)) = (us : List Value) × (more : List Value) × (vs ≡ us ++ more) × (n : ℕ) × (s ≡ (direct.see w n (direct.value_of us x)).sight)
+SeenIn w vs [] = Unit {0}
+SeenIn w vs ((x, s) ∷ o) = Saw w vs x s × SeenIn w vs o
+
+seen_more : (w : State) (vs more : List Value) (o : Looked) → SeenIn w vs o → SeenIn w (vs ++ more) o
+seen_more w vs more [] is = tt
+seen_more w vs more ((x, s) ∷ o) is =
+    let p = is.0 in
+    (record { held = p.held; more = p.more ++ more; begins = ap (λ l. l ++ more) p.begins ∙ append_assoc p.held p.more more; number = p.number; is = p.is }, seen_more w vs more o is.1)
+
+call_seen : (w : State) (vs : List Value) (x : Handle) (s : Sight) (f : Handle) → Saw w vs x s → f ≡ x → IsFunctionSight s → IsCallable w (direct.value_of vs f)
+call_seen w vs x s f p same is =
+    let here : IsCallable w (direct.value_of p.held x) = callable_seen w p.number (direct.value_of p.held x) (subst IsFunctionSight p.is is) in
+    let found : direct.value_of vs f ≡ direct.value_of p.held x = ap (direct.value_of vs) same ∙ ap (λ l. direct.value_of l x) p.begins ∙ value_more p.held p.more x (callable_there w (direct.value_of p.held x) here) in
+    subst (IsCallable w) (sym found) here
 
 calls_seen : (w : State) (vs : List Value) (o : Looked) (f : Handle) → CallsSeen o f → SeenIn w vs o → IsCallable w (direct.value_of vs f)
-calls_seen w vs None f p is = absurd p
-calls_seen w vs (Some (x, s)) f p is =
-    let us = is.0 in
-    let here : IsCallable w (direct.value_of us x) = callable_seen w is.3 (direct.value_of us x) (subst IsFunctionSight is.4 p.1) in
-    let same : direct.value_of vs f ≡ direct.value_of us x = ap (direct.value_of vs) p.0 ∙ ap (λ l. direct.value_of l x) is.2 ∙ value_more us is.1 x (callable_there w (direct.value_of us x) here) in
-    subst (IsCallable w) (sym same) here
+calls_seen w vs [] f p is = absurd p
+calls_seen w vs ((x, s) ∷ o) f (inl p) is = call_seen w vs x s f is.0 p.0 p.1
+calls_seen w vs ((x, s) ∷ o) f (inr p) is = calls_seen w vs o f p is.1
 
 calling_if : (w0 : State) (b : Bool) (d : direct.Done) (w : State) (z : List Item) → ComesCalling w0 d.outcome → ComesCalling w0 (cond b d (direct.too_long w z)).outcome
 calling_if w0 true d w z p = p
@@ -143,15 +160,15 @@ calling_result w0 (Err e) w z go p f = p
 pub calling_row : (by : ℕ) (q : Row) (o : Looked) → IsCalling o q → (s : direct.Held) (w : State) (z : List Item) → SeenIn w s.values o → ComesCalling w (direct.does by q s w z).outcome
 calling_row by (r.ends e) o p s w z is = calling_end by e o p s w z is
 calling_row by (r.settles e) o p s w z is = absurd p
-calling_row by (r.as_text x go) o p s w z is = calling_result w (direct.text_of w (direct.value_of s.values x)) w z _ (converts_text 32 w (direct.value_of s.values x)) (λ us. calling_row by (go us) None (p us) s w z tt)
-calling_row by (r.as_number x go) o p s w z is = calling_result w (direct.number_of w (direct.value_of s.values x)) w z _ (converts_number w (direct.value_of s.values x)) (λ n. calling_row by (go n) None (p n) s w z tt)
+calling_row by (r.as_text x go) o p s w z is = calling_result w (direct.text_of w (direct.value_of s.values x)) w z _ (converts_text 32 w (direct.value_of s.values x)) (λ us. calling_row by (go us) o (p us) s w z is)
+calling_row by (r.as_number x go) o p s w z is = calling_result w (direct.number_of w (direct.value_of s.values x)) w z _ (converts_number w (direct.value_of s.values x)) (λ n. calling_row by (go n) o (p n) s w z is)
 calling_row by (r.as_joined x sep go) o p s w z is =
     let v = direct.value_of s.values x in
-    calling_result w (direct.joined_of w v sep) w z _ (converts_if _ (converts_joined (direct.text_within 31 w) (converts_text 31 w) sep (direct.see w 0 v).values) (direct.see w 0 v).sight) (λ us. calling_row by (go us) None (p us) s w z tt)
-calling_row by (r.as_same x y go) o p s w z is = calling_row by (go _) None (p _) s w z tt
+    calling_result w (direct.joined_of w v sep) w z _ (converts_if _ (converts_joined (direct.text_within 31 w) (converts_text 31 w) sep (direct.see w 0 v).values) (direct.see w 0 v).sight) (λ us. calling_row by (go us) o (p us) s w z is)
+calling_row by (r.as_same x y go) o p s w z is = calling_row by (go _) o (p _) s w z is
 calling_row by (r.looks x go) o p s w z is =
     let seen = direct.see w (length s.values) (direct.value_of s.values x) in
-    calling_row by (go seen.sight) (Some (x, seen.sight)) (p seen.sight) _ w z (s.values, seen.values, refl, length s.values, refl)
+    calling_row by (go seen.sight) ((x, seen.sight) ∷ o) (p seen.sight) _ w z (record { held = s.values; more = seen.values; begins = refl; number = length s.values; is = refl }, seen_more w s.values seen.values o is)
 calling_row by (r.touches t x k next) o p s w z is = calling_row by next o p s w _ is
 
 -- both go on alike by what the row came to: with a value, a throw, or with the call
@@ -167,7 +184,7 @@ reply_calls closures natives a lt go next next' (direct.lists ks) p x b w' z' s'
 reply_calls closures natives a lt go next next' e p x b w' z' s' is r1 keep = absurd is
 
 -- a row that may end in a call, and the guard with the same row
-pub calling_match : {H : Here} {T : Temps} {d k : ℕ} → H.by < 64 → (closures : ClosureLaw H d) (natives : NativeLaw H d) (a : ℕ) → a < d → (q : Row) → IsAmongObjects q → IsCalling None q → (vs : List Value) (es : List EsValue) {w : State} {z : List Item} {n : ℕ} {g : Tags} {s : Store} {y : Kept} {m : ℕ} (page : es3.Page) (go : Going) (next : Cont) (next' : Cont') → suc m ≤ 4294967295 → Vals s.heap vs es → Rel H T (suc (suc k)) w z n g s y m → NextValue H T a k w g s m (Source.called_next go next) next'
+pub calling_match : {H : Here} {T : Temps} {d k : ℕ} → H.by < 64 → (closures : ClosureLaw H d) (natives : NativeLaw H d) (a : ℕ) → a < d → (q : Row) → IsAmongObjects q → IsCalling [] q → (vs : List Value) (es : List EsValue) {w : State} {z : List Item} {n : ℕ} {g : Tags} {s : Store} {y : Kept} {m : ℕ} (page : es3.Page) (go : Going) (next : Cont) (next' : Cont') → suc m ≤ 4294967295 → Vals s.heap vs es → Rel H T (suc (suc k)) w z n g s y m → NextValue H T a k w g s m (Source.called_next go next) next'
     → M H a (bind (replied (done_reply H.around.calls H.by (direct.does H.by q (direct.given vs) w [])) go) next) z n (bind (Target.reply_plan (es3.does place_of H.by q es s.heap page []).done.reply (env_of H) (with_heap s (es3.does place_of H.by q es s.heap page []).done.heap)) next') y (suc m)
 calling_match {H = H} below closures natives a lt q among calling vs es {w = w} page go next next' few is r1 x =
-    row_on below q among (calling_settling q None calling) vs es page go next next' few is r1 (record { on = λ b w' z' s' p r2 k2. reply_calls closures natives a lt go next next' (direct.does H.by q (direct.given vs) w []).outcome (calling_row H.by q None calling (direct.given vs) w [] tt) x b w' z' s' p r2 k2 })
+    row_on below q among (calling_settling q [] calling) vs es page go next next' few is r1 (record { on = λ b w' z' s' p r2 k2. reply_calls closures natives a lt go next next' (direct.does H.by q (direct.given vs) w []).outcome (calling_row H.by q [] calling (direct.given vs) w [] tt) x b w' z' s' p r2 k2 })

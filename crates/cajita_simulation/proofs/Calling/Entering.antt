@@ -13,7 +13,7 @@ use Rattle.cajita_rewrite.specs.Rewrite.{runtime_name, temp_name}
 use Rattle.cajita_meaning.specs.World as World
 use Rattle.cajita_meaning.specs.World.{Value, Pairs, World as State, next_scope}
 use Rattle.cajita_meaning.specs.Direct.{Item}
-use Rattle.module_loader.specs.Page.{Kept}
+use Rattle.page_natives.specs.Natives.{Kept}
 use Rattle.cajita_simulation.specs.Guest as Guest
 use Rattle.cajita_simulation.specs.Guest.{is_among, inner}
 use Rattle.cajita_simulation.proofs.Heaps.Lists.{slice_get-push}

@@ -15,7 +15,7 @@ use Rattle.cajita_tree.specs.Tree as c
 use Rattle.cajita_meaning.specs.World.{Name, made_name, cell_name, own_name, built_name, tools_name, facet_name, forward_name, Value, object, a_closure, World as State}
 use Rattle.cajita_meaning.specs.Asking.{native_at, entry_reply, closure_call, native_call, call_reply}
 use Rattle.cajita_meaning.specs.Direct.{Item, touched}
-use Rattle.module_loader.specs.Page.{Kept}
+use Rattle.page_natives.specs.Natives.{Kept}
 use Rattle.cajita_simulation.proofs.Doing as Source
 use Rattle.cajita_simulation.proofs.Relation.{EsValue, Val, Vals, Named, Here, env_of, Tags, Temps, CodeIs, Rel}
 use Rattle.cajita_simulation.proofs.Changes.{rel_told}

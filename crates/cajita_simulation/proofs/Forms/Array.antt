@@ -28,7 +28,7 @@ use Rattle.row_outcomes.proofs.Numbers.{first_values}
 use Rattle.guard_runtime.specs.Guards.{initialize_array, initialize_array_of}
 use Rattle.row_simulation.proofs.Row.{vals_length}
 use Rattle.row_simulation.proofs.Tables.{tables}
-use Rattle.module_loader.specs.Page.{Kept, page_table}
+use Rattle.page_natives.specs.Natives.{Kept, page_table}
 use Rattle.cajita_simulation.specs.Guest.{Guest}
 use Rattle.cajita_simulation.proofs.Doing as Source
 use Rattle.cajita_simulation.proofs.Heaps.Guards.{initialize_array-guard}

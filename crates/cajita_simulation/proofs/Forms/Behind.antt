@@ -21,7 +21,7 @@ use Rattle.cajita_meaning.specs.World.{Value, number, World, text}
 use Rattle.cajita_meaning.specs.Direct as Direct
 use Rattle.cajita_meaning.specs.Direct.{Item}
 use Rattle.row_simulation.proofs.Tables.{tables}
-use Rattle.module_loader.specs.Page.{Kept}
+use Rattle.page_natives.specs.Natives.{Kept}
 use Rattle.cajita_simulation.proofs.Doing as Source
 use Rattle.cajita_simulation.proofs.Heaps.Guards.{set_pub-guard}
 use Rattle.cajita_simulation.proofs.Relation.{EsValue, Val, Here, env_of, Tags, Temps, declared, Rel, rel_pay, rel_less, stays_step, stays_trans}

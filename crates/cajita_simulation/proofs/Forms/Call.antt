@@ -21,7 +21,7 @@ use Rattle.cajita_meaning.specs.Asking.{outcome_reply}
 use Rattle.cajita_meaning.specs.Direct as Direct
 use Rattle.cajita_meaning.specs.Direct.{Item}
 use Rattle.row_simulation.proofs.Tables.{tables}
-use Rattle.module_loader.specs.Page.{Kept}
+use Rattle.page_natives.specs.Natives.{Kept}
 use Rattle.cajita_simulation.specs.Guest.{Guest}
 use Rattle.cajita_simulation.proofs.Doing as Source
 use Rattle.cajita_simulation.proofs.Heaps.Guards.{as_simple_func-guard}

@@ -5,7 +5,7 @@ use Rattle.es3_language.specs.Store.{Store}
 use Rattle.es3_language.specs.Meaning as Target
 use Rattle.cajita_meaning.specs.World.{World}
 use Rattle.cajita_meaning.specs.Direct.{Item}
-use Rattle.module_loader.specs.Page.{Kept}
+use Rattle.page_natives.specs.Natives.{Kept}
 use Rattle.cajita_simulation.proofs.Doing as Source
 use Rattle.cajita_simulation.proofs.Relation.{Val, val_keep, Here, Tags, Temps, Rel, Keeps, Stays}
 use Rattle.cajita_simulation.proofs.Laws.{Jumps, bare, NextEffect, Cont, Cont', M}

@@ -31,7 +31,7 @@ function_body {H = H} below params args body guest = record {
       let code = code_of (rewritten false c.func 0 f) H.chain in
       let p0 = bind (Source.expr_plan (c.function f) H w) next in
       callee_match (codes "func") (single (t.function (rewritten false c.func 0 f))) next' r (λ r1.
-      right_enter (guard_at H func-guard (es.Obj (length s.heap.list) ∷ []) (with_code code H.by s) next' (opened_kept-function (length s.codes) (length code.params) H.by s.heap (opened_of r.all.objects)) (steps_hold (rel_pay r1)) (λ small.
+      right_enter (guard_at H func-guard (es.Obj (length s.heap.list) ∷ []) (with_code code H.by s) next' (opened_kept-function (length s.codes) (length code.params) H.by s.heap (opened_of r.all.objects)) (steps_hold (rel_pay r1)) r1.all.items (λ small.
       subst (λ q. M H a p0 z n (bind q next') y (suc (suc (suc (suc m))))) (sym (func_plan code (env_of H) s y))
       (let r2 = rel_pay r1 in
       let r3 : Rel H T (suc k) (World.with_object H.by (a_closure f H.around.chain) w) z n g (closed_store code H.by s) y (suc (suc (suc (suc m)))) = record {

@@ -11,7 +11,7 @@ use Rattle.cajita_rewrite.specs.Rewrite.{rewritten, temps}
 use Rattle.cajita_meaning.specs.World.{Value, World, text}
 use Rattle.cajita_meaning.specs.Direct as Direct
 use Rattle.cajita_meaning.specs.Direct.{Item}
-use Rattle.module_loader.specs.Page.{Kept}
+use Rattle.page_natives.specs.Natives.{Kept}
 use Rattle.cajita_simulation.specs.Guest.{Guest}
 use Rattle.cajita_simulation.proofs.Doing as Source
 use Rattle.cajita_simulation.proofs.Relation.{EsValue, Val, Here, env_of, Tags, Temps, Rel, Stays, rel_pay, rel_less, stays_step}

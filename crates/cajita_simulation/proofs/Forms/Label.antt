@@ -10,7 +10,7 @@ use Rattle.cajita_tree.specs.Tree as c
 use Rattle.cajita_meaning.specs.World.{Value, World}
 use Rattle.cajita_meaning.specs.Direct as Direct
 use Rattle.cajita_meaning.specs.Direct.{Item}
-use Rattle.module_loader.specs.Page.{Kept}
+use Rattle.page_natives.specs.Natives.{Kept}
 use Rattle.cajita_simulation.proofs.Doing as Source
 use Rattle.cajita_simulation.proofs.Relation.{EsValue, Here, stays_before, rel_less}
 use Rattle.cajita_simulation.proofs.Laws.{in_label, EffectLaw, BareBody, still, Cont, Cont', M}

@@ -25,7 +25,7 @@ use Rattle.heap_rows.specs.Marks.{simple_mark}
 use Rattle.heap_rows.specs.Doing as es3
 use Rattle.heap_rows.specs.Doing.{sort_seen}
 use Rattle.row_simulation.proofs.Sights.{seen_alike}
-use Rattle.module_loader.specs.Page.{Kept}
+use Rattle.page_natives.specs.Natives.{Kept}
 use Rattle.cajita_simulation.proofs.Doing as Source
 use Rattle.cajita_simulation.proofs.Relation.{EsValue, Val, Here, env_of, Tags, Temps, Rel, stays_step}
 use Rattle.cajita_simulation.proofs.Laws.{ValueLaw, ValueBody, NextValue, value_from, value_since, Room, room_part, with_part, give, Cont, Cont', M}

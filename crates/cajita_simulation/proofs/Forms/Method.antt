@@ -1,5 +1,5 @@
 -- Method calls and `new`: `o.k(a)` is `___.callPub(o,"k",[a])`, and `new f(a)` is `___.construct(f,[a])`.
-use Rattle.std.proofs.Common.{◌≡◌, ℕ, suc, ◌+◌, ◌-◌, ◌≤◌, ◌<◌, false, List, [], ◌∷◌, ◌++◌, length, Option, Some, None, refl, sym, ap, ◌∙◌, subst, arith}
+use Rattle.std.proofs.Common.{◌≡◌, ℕ, suc, ◌+◌, ◌-◌, ◌≤◌, ◌<◌, false, List, [], ◌∷◌, ◌++◌, length, inl, Option, Some, refl, sym, ap, ◌∙◌, subst, arith}
 use Rattle.std.specs.Prelude.{codes}
 use Rattle.plans.specs.Plans.{bind}
 use Rattle.matching.proofs.Rules.{right_enter}
@@ -29,7 +29,7 @@ use Rattle.row_simulation.specs.Among.{IsAmongObjects}
 use Rattle.row_simulation.proofs.Row.{vals_length, vals_append}
 use Rattle.row_simulation.proofs.Relation as row_relation
 use Rattle.row_simulation.proofs.Tables.{tables}
-use Rattle.module_loader.specs.Page.{Kept, page_table}
+use Rattle.page_natives.specs.Natives.{Kept, page_table}
 use Rattle.cajita_simulation.specs.Guest.{Guest}
 use Rattle.cajita_simulation.proofs.Doing as Source
 use Rattle.cajita_simulation.proofs.Heaps.Arrays.{array_items_new}
@@ -43,27 +43,27 @@ use Rattle.cajita_simulation.proofs.Forms.Items.{items_match}
 use Rattle.cajita_simulation.proofs.Forms.Key.{key_match}
 use Rattle.cajita_simulation.proofs.Forms.Call.{tail_next}
 use Rattle.cajita_simulation.proofs.Calling.Laws.{ClosureLaw, NativeLaw}
-use Rattle.cajita_simulation.proofs.Calling.Calls.{EndsCalling, IsCalling, calling_match}
+use Rattle.cajita_simulation.proofs.Calling.Calls.{Looked, EndsCalling, IsCalling, calling_match}
 
 -- the rows: what they call was looked at just before
 
-method_ends : (f o : Handle) (xs : List Handle) (s : Sight) → EndsCalling (Some (f, s)) (guards.call_end f o xs s)
-method_ends f o xs (r.a_function sort) = (refl, tt)
-method_ends f o xs s = tt
+method_ends : (f o : Handle) (xs : List Handle) (s : Sight) (l : Looked) → EndsCalling ((f, s) ∷ l) (guards.call_end f o xs s)
+method_ends f o xs (r.a_function sort) l = inl (refl, tt)
+method_ends f o xs s l = tt
 
-pub call_calling : (n : ℕ) → IsCalling None (guards.call_pub n)
+pub call_calling : (n : ℕ) → IsCalling [] (guards.call_pub n)
 call_calling n = λ s. by_sight s
   where
-    by_sight : (s : Sight) → IsCalling (Some (value 0 n, s)) (guards.on_object r.to_get (value 0 n) (value 1 n) (λ s k. r.looks (pub_get (value 0 n) s k) (λ f. r.ends (guards.call_end (pub_get (value 0 n) s k) (value 0 n) (values_from 2 (n - 2)) f))) s)
+    by_sight : (s : Sight) → IsCalling ((value 0 n, s) ∷ []) (guards.on_object r.to_get (value 0 n) (value 1 n) (λ s k. r.looks (pub_get (value 0 n) s k) (λ f. r.ends (guards.call_end (pub_get (value 0 n) s k) (value 0 n) (values_from 2 (n - 2)) f))) s)
     by_sight r.nothing = tt
     by_sight r.a_null = tt
-    by_sight s = λ us f. method_ends _ _ _ f
+    by_sight s = λ us f. method_ends (pub_get (value 0 n) s us) (value 0 n) (values_from 2 (n - 2)) f ((value 0 n, s) ∷ [])
 
-pub construct_calling : (n : ℕ) → IsCalling None (guards.construct n)
+pub construct_calling : (n : ℕ) → IsCalling [] (guards.construct n)
 construct_calling n = λ s. by_sight s
   where
-    by_sight : (s : Sight) → IsCalling (Some (r.held 0, s)) (guards.new_row (values_from 1 (n - 1)) s)
-    by_sight (r.a_function (r.constructor maker)) = (refl, tt)
+    by_sight : (s : Sight) → IsCalling ((r.held 0, s) ∷ []) (guards.new_row (values_from 1 (n - 1)) s)
+    by_sight (r.a_function (r.constructor maker)) = inl (refl, tt)
     by_sight (r.a_function sort) = tt
     by_sight s = tt
 
@@ -96,7 +96,7 @@ construct_row H f = record {
 }
 
 -- from the array on
-array_row_match : {H : Here} {T : Temps} {d k : ℕ} {guard : List ℕ} {number : ℕ} → H.by < 64 → (closures : ClosureLaw H d) (natives : NativeLaw H d) (a : ℕ) → a < d → IsGuard guard number → (q : ℕ → Row) → ((n : ℕ) → IsAmongObjects (q n)) → ((n : ℕ) → IsCalling None (q n)) → (front vs : List Value) (efront us : List EsValue) {w : World} {z : List Item} {n : ℕ} {g : Tags} {s : Store} {y : Kept} {m : ℕ} (next : Cont) (next' : Cont') → IsArrayRow H number q efront → Vals s.heap front efront → Vals s.heap vs us → length us ≤ m → Rel H T (suc (suc k)) w z n g s y m → NextValue H T a k w g s m next next'
+array_row_match : {H : Here} {T : Temps} {d k : ℕ} {guard : List ℕ} {number : ℕ} → H.by < 64 → (closures : ClosureLaw H d) (natives : NativeLaw H d) (a : ℕ) → a < d → IsGuard guard number → (q : ℕ → Row) → ((n : ℕ) → IsAmongObjects (q n)) → ((n : ℕ) → IsCalling [] (q n)) → (front vs : List Value) (efront us : List EsValue) {w : World} {z : List Item} {n : ℕ} {g : Tags} {s : Store} {y : Kept} {m : ℕ} (next : Cont) (next' : Cont') → IsArrayRow H number q efront → Vals s.heap front efront → Vals s.heap vs us → length us ≤ m → Rel H T (suc (suc k)) w z n g s y m → NextValue H T a k w g s m next next'
     → M H a (bind (Source.act_plan H 1 (Source.kept (front ++ vs)) (Direct.rows q H.around (0 ∷ []) Direct.give) w) next) z n (bind (Target.do_call (Target.called (member (es.Obj runtime_id) guard)) (efront ++ es.Obj (length s.heap.list) ∷ []) (env_of H) (with_heap s (with_object s.heap (array_object us)))) next') y m
 array_row_match {H = H} {T = T} {k = k} {number = number} below closures natives a lt is q among calling front vs efront us {w = w} {z = z} {n = n} {g = g} {s = s} {y = y} {m = m} next next' row fronts are many r0 x =
     let go = Source.answered H 1 (Source.kept (front ++ vs)) (Direct.or_throw Direct.give) in

@@ -20,7 +20,7 @@ use Rattle.cajita_meaning.specs.World as World
 use Rattle.cajita_meaning.specs.World.{Pairs, a_closure, World as State, next_name, next_scope}
 use Rattle.cajita_meaning.specs.Direct.{Item, made}
 use Rattle.heap_rows.specs.Marks.{simple_mark}
-use Rattle.module_loader.specs.Page.{Kept}
+use Rattle.page_natives.specs.Natives.{Kept}
 use Rattle.row_simulation.proofs.Relation as row_relation
 use Rattle.row_simulation.proofs.Changes.{room, last_kept}
 use Rattle.cajita_simulation.specs.Guest.{Names, GuestName, inner, without, Guest}
@@ -178,8 +178,7 @@ module _ {g : Tags} {s : Store} {T : Temps} {j : ℕ} {w : State} {z : List Item
         steps = fits;
         items = r.items;
         objects = objects;
-        page = r.page;
-        pages = record { cells = λ a. row_relation.val_keep keeps (w.cells a) (r.page.cells a) (r.pages.cells a); queues = λ a. row_relation.vals_keep keeps (w.queues a) (r.page.queues a) (r.pages.queues a) };
+        pages = record { cells = λ a. row_relation.val_keep keeps (w.cells a) _ (r.pages.cells a); queues = λ a. row_relation.vals_keep keeps (w.queues a) _ (r.pages.queues a) };
         closures = closures_last w.objects by f outer (length s.heap.list) below objects named (new_code captured is) old;
         scopes = scopes_more by new (scopes_keep keeps r1.scopes);
         globals = r.globals;
@@ -202,7 +201,7 @@ own_name_body {H = H} below x params args body name guest = record {
       let sc = with_scope own_name (own_names x (length s.heap.list)) s in
       let p0 = bind (Source.expr_plan (c.function f) H w) next in
       callee_match (codes "func") (single (t.function (rewritten false c.func 0 f))) next' r (λ r1.
-      right_enter (guard_at H func-guard (es.Obj (length s.heap.list) ∷ []) (with_code code H.by sc) next' (opened_kept-function (length s.codes) (length code.params) H.by s.heap (opened_of r.all.objects)) (steps_hold (rel_pay r1)) (λ small.
+      right_enter (guard_at H func-guard (es.Obj (length s.heap.list) ∷ []) (with_code code H.by sc) next' (opened_kept-function (length s.codes) (length code.params) H.by s.heap (opened_of r.all.objects)) (steps_hold (rel_pay r1)) r1.all.items (λ small.
       subst (λ q. M H a p0 z n (bind q next') y (suc (suc (suc (suc m))))) (sym (func_plan code (env_of H) sc y))
       (let r2 = rel_pay r1 in
       let all = related_own H.by x f H.around.chain H.chain name below small r2.all {k = suc k} (omega (arith, r2.all.steps)) r.here.captured guest in

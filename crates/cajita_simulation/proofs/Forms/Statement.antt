@@ -13,7 +13,7 @@ use Rattle.cajita_tree.specs.Tree as c
 use Rattle.cajita_rewrite.specs.Rewrite.{result_name}
 use Rattle.cajita_meaning.specs.World.{undefined, World}
 use Rattle.cajita_meaning.specs.Direct.{Item}
-use Rattle.module_loader.specs.Page.{Kept}
+use Rattle.page_natives.specs.Natives.{Kept}
 use Rattle.cajita_simulation.proofs.Doing as Source
 use Rattle.cajita_simulation.proofs.Relation.{EsValue, Here, env_of, names_at, Tags, Temps, SlotIs, Rel, stays_refl, stays_step, stays_trans, stays_before, rel_pay, rel_less}
 use Rattle.cajita_simulation.proofs.Written.{slot_written}

@@ -14,7 +14,7 @@ use Rattle.cajita_meaning.specs.Doing.{strictly_equal}
 use Rattle.cajita_meaning.specs.Direct as Direct
 use Rattle.cajita_meaning.specs.Direct.{Item}
 use Rattle.row_simulation.proofs.Row.{same_is}
-use Rattle.module_loader.specs.Page.{Kept}
+use Rattle.page_natives.specs.Natives.{Kept}
 use Rattle.cajita_simulation.specs.Guest.{Guest}
 use Rattle.cajita_simulation.proofs.Doing as Source
 use Rattle.cajita_simulation.proofs.Relation.{EsValue, Val, val_keep, Here, env_of, Tags, Temps, Rel, Stays, stays_refl, stays_before, rel_less}

@@ -13,7 +13,7 @@ use Rattle.cajita_tree.specs.Tree as c
 use Rattle.cajita_meaning.specs.World.{Value, World}
 use Rattle.cajita_meaning.specs.Direct as Direct
 use Rattle.cajita_meaning.specs.Direct.{Item}
-use Rattle.module_loader.specs.Page.{Kept}
+use Rattle.page_natives.specs.Natives.{Kept}
 use Rattle.row_simulation.specs.OperatorLaw.{IsOfValues, next_of}
 use Rattle.row_simulation.proofs.Operators.Steps.{before_law, behind_law}
 use Rattle.cajita_simulation.specs.Guest.{GuestName}

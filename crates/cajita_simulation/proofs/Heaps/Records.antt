@@ -12,7 +12,7 @@ use Rattle.es3_language.specs.Store.{Store, with_heap}
 use Rattle.es3_language.specs.Meaning.{Env, gave, native_call, reply_plan, task_plan}
 use Rattle.heap_rows.specs.Doing.{Done, gives}
 use Rattle.guard_runtime.specs.Guards.{initialize_map}
-use Rattle.module_loader.specs.Page.{Kept, page_table}
+use Rattle.page_natives.specs.Natives.{Kept, page_table}
 use Rattle.cajita_simulation.proofs.Heaps.Made.{with_properties, named_new, with_named}
 use Rattle.cajita_simulation.proofs.Heaps.Arrays.{array_items_new}
 use Rattle.cajita_simulation.proofs.Heaps.Pairs.{pairs_defined, with_pairs_new, in_turn, keyed_texts}

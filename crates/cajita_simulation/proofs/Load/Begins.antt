@@ -5,7 +5,8 @@ use Rattle.cajita_meaning.specs.World.{empty_world}
 use Rattle.cajita_meaning.specs.Imports.{imported}
 use Rattle.es3_heap.specs.Objects.{Objects}
 use Rattle.heap_rows.specs.Opening.{first, place_of, begun, opened_for_one, globals_id, empty_page}
-use Rattle.module_loader.specs.Page.{first_kept, first_store}
+use Rattle.page_natives.specs.Natives.{first_kept}
+use Rattle.module_loader.specs.Page.{first_store}
 use Rattle.row_simulation.specs.Correspond.{ObjectsAre}
 use Rattle.row_simulation.specs.RowLaw.{PagesAre}
 use Rattle.row_simulation.proofs.Begun.{begun_corresponds, page_corresponds}
@@ -20,7 +21,6 @@ begins_with h objects page = record {
   steps = omega arith;
   items = refl;
   objects = objects;
-  page = empty_page;
   pages = page;
   closures = λ m n f chain known. absurd (none-some _ known);
   scopes = record {
@@ -34,7 +34,7 @@ begins_with h objects page = record {
     unshared = refl;
   };
   globals = refl;
-  kept = refl;
+  kept = record { runtime = refl; imports = refl };
 }
 
 pub begins : (modules cells : ℕ) → Between empty_world [] 0 [] (page_store modules cells) first_kept 0

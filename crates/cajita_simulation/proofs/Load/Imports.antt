@@ -19,7 +19,7 @@ use Rattle.rows.specs.Nodes.{Rules}
 use Rattle.cajita_rewrite.specs.Rewrite.{runtime_name, imports_name, pair, import_stmts}
 use Rattle.cajita_meaning.specs.Direct.{Item}
 use Rattle.heap_rows.specs.Opening.{runtime_id, imports_id}
-use Rattle.module_loader.specs.Page.{page_table, first_kept}
+use Rattle.page_natives.specs.Natives.{Kept, page_table}
 use Rattle.cajita_simulation.specs.Guest.{is_among, GuestName}
 use Rattle.cajita_simulation.proofs.Doing as Source
 use Rattle.cajita_simulation.proofs.Heaps.Lists.{slice_get-push}
@@ -54,9 +54,9 @@ read_is : (h : Objects) (x : List ℕ) → text_of h (es.Text x) ≡ Rattle.std.
 unfolding text_within
 read_is h x = refl
 
-read_plan : (by calls this : ℕ) (x : List ℕ) (chain : List ℕ) (s : Store) → let env : Target.Env = record { chain = chain; calls = calls; by = by; this = this } in Target.task_plan page_table (Target.native_call 65 (es.Obj runtime_id) (es.Obj imports_id ∷ es.Text x ∷ []) env) s first_kept ≡ Target.give (value_of (own s.heap imports_id x)) s
+read_plan : (by calls this : ℕ) (x : List ℕ) (chain : List ℕ) (s : Store) (y : Kept) → let env : Target.Env = record { chain = chain; calls = calls; by = by; this = this } in Target.task_plan page_table (Target.native_call 65 (es.Obj runtime_id) (es.Obj imports_id ∷ es.Text x ∷ []) env) s y ≡ Target.give (value_of (own s.heap imports_id x)) s
 unfolding text_within
-read_plan by calls this x chain s = refl
+read_plan by calls this x chain s y = refl
 
 module _ (rules : Rules) (by calls this : ℕ) (owner : store.Owner) (s : Store) where
   abbrev env : Target.Env
@@ -69,30 +69,30 @@ module _ (rules : Rules) (by calls this : ℕ) (owner : store.Owner) (s : Store)
   parameter_plan : (names : store.Names) (x : List ℕ) (v : EsValue) → Target.is_arguments x ≡ false → name_value x names ≡ Some v → Target.name_value_plan x env (store.with_scope owner names s) ≡ Target.give v (store.with_scope owner names s)
   parameter_plan names x v own there = slot_plan x env (store.with_scope owner names s) (length s.scopes) v own (found names x v there) (ap (name_value x) (names_new owner names s) ∙ there)
 
-  read_one : {d : ℕ} (names : store.Names) (x : List ℕ) (u : EsValue) (rest : t.Tree t.stmts) {p : Source.Plan} {z : List Item} {n m : ℕ} (end' : Cont') (next' : Cont') → Reads owner names s → GuestName x → name_value x names ≡ Some u
-      → Match (sides rules) d p z n (bind (Target.list true rest None env (store.with_scope owner (with_name x (value_of (own s.heap imports_id x)) names) s) end') next') first_kept (suc (suc (suc (suc (suc (suc (suc m)))))))
-      → Match (sides rules) d p z n (bind (Target.list true (import_stmts (x ∷ []) rest) None env (store.with_scope owner names s) end') next') first_kept m
-  read_one {d = d} names x u rest {p = p} {z = z} {n = n} {m = m} end' next' r guest there f =
+  read_one : {d : ℕ} (names : store.Names) (x : List ℕ) (u : EsValue) (rest : t.Tree t.stmts) {p : Source.Plan} {z : List Item} {n : ℕ} {y : Kept} {m : ℕ} (end' : Cont') (next' : Cont') → Reads owner names s → GuestName x → name_value x names ≡ Some u
+      → Match (sides rules) d p z n (bind (Target.list true rest None env (store.with_scope owner (with_name x (value_of (own s.heap imports_id x)) names) s) end') next') y (suc (suc (suc (suc (suc (suc (suc m)))))))
+      → Match (sides rules) d p z n (bind (Target.list true (import_stmts (x ∷ []) rest) None env (store.with_scope owner names s) end') next') y m
+  read_one {d = d} names x u rest {p = p} {z = z} {n = n} {y = y} {m = m} end' next' r guest there f =
       let S = store.with_scope owner names s in
       let v = value_of (own s.heap imports_id x) in
       let args = pair (t.name imports_name) (t.text x) in
       let after : Cont' = λ e s1. bind (Target.list_rest true rest None env end' e s1) next' in
       let wrote : Cont' = λ e s1. bind (Target.on_value_of (λ q s2. Target.var_items t.no_items env (write (reference env.chain S x) q s2)) e s1) after in
       right_enter (right_enter (right_enter (right_enter
-      (subst (λ o. Match (sides rules) d p z n (bind o (λ e s1. bind (Target.on_value_of (Target.dot_target (codes "readImport")) e s1) (λ e1 s2. bind (Target.on_target_of (Target.after_callee args env) e1 s2) wrote))) first_kept (suc (suc (suc (suc m))))) (sym (parameter_plan names runtime_name (es.Obj runtime_id) refl r.runtime))
+      (subst (λ o. Match (sides rules) d p z n (bind o (λ e s1. bind (Target.on_value_of (Target.dot_target (codes "readImport")) e s1) (λ e1 s2. bind (Target.on_target_of (Target.after_callee args env) e1 s2) wrote))) y (suc (suc (suc (suc m))))) (sym (parameter_plan names runtime_name (es.Obj runtime_id) refl r.runtime))
       (right_enter
-      (subst (λ o. Match (sides rules) d p z n (bind o (λ e s1. bind (Target.on_value_of (Target.after_argument (Target.called (member (es.Obj runtime_id) (codes "readImport"))) [] (t.more_exprs (t.text x) t.no_exprs) env) e s1) wrote)) first_kept (suc (suc (suc (suc (suc m)))))) (sym (parameter_plan names imports_name (es.Obj imports_id) refl r.imports))
+      (subst (λ o. Match (sides rules) d p z n (bind o (λ e s1. bind (Target.on_value_of (Target.after_argument (Target.called (member (es.Obj runtime_id) (codes "readImport"))) [] (t.more_exprs (t.text x) t.no_exprs) env) e s1) wrote)) y (suc (suc (suc (suc (suc m)))))) (sym (parameter_plan names imports_name (es.Obj imports_id) refl r.imports))
       (right_enter
-      (subst (λ o. Match (sides rules) d p z n (bind o wrote) first_kept (suc (suc (suc (suc (suc (suc m))))))) (sym (guard_call (codes "readImport") 65 read_import-guard (es.Obj imports_id ∷ es.Text x ∷ []) env S r.is))
+      (subst (λ o. Match (sides rules) d p z n (bind o wrote) y (suc (suc (suc (suc (suc (suc m))))))) (sym (guard_call (codes "readImport") 65 read_import-guard (es.Obj imports_id ∷ es.Text x ∷ []) env S r.is))
       (right_enter
-      (subst (λ o. Match (sides rules) d p z n (bind o wrote) first_kept (suc (suc (suc (suc (suc (suc (suc m)))))))) (sym (read_plan by calls this x env.chain S))
-      (subst (λ o. Match (sides rules) d p z n (bind (Target.list true rest None env o end') next') first_kept (suc (suc (suc (suc (suc (suc (suc m)))))))) (sym (name_written env.chain S S x (length s.scopes) v guest (found names x u there) (ap is_fixed (slice_get-push s.scopes (record { owner = owner; names = names })) ∙ r.free) r.unshared ∙ scope_written owner names s x v))
+      (subst (λ o. Match (sides rules) d p z n (bind o wrote) y (suc (suc (suc (suc (suc (suc (suc m)))))))) (sym (read_plan by calls this x env.chain S y))
+      (subst (λ o. Match (sides rules) d p z n (bind (Target.list true rest None env o end') next') y (suc (suc (suc (suc (suc (suc (suc m)))))))) (sym (name_written env.chain S S x (length s.scopes) v guest (found names x u there) (ap is_fixed (slice_get-push s.scopes (record { owner = owner; names = names })) ∙ r.free) r.unshared ∙ scope_written owner names s x v))
       f)))))))))))
 
   -- the statements one after another
-  pub read_all : {d : ℕ} (xs : List (List ℕ)) (names : store.Names) (rest : t.Tree t.stmts) {p : Source.Plan} {z : List Item} {n m : ℕ} (end' : Cont') (next' : Cont') → Reads owner names s → ((x : List ℕ) → is_among xs x ≡ true → GuestName x) → ((x : List ℕ) → is_among xs x ≡ true → is_some (name_value x names) ≡ true)
-      → ((m' : ℕ) → m' ≡ m + 7 * length xs → Match (sides rules) d p z n (bind (Target.list true rest None env (store.with_scope owner (imported xs (map (λ k. value_of (own s.heap imports_id k)) xs) names) s) end') next') first_kept m')
-      → Match (sides rules) d p z n (bind (Target.list true (import_stmts xs rest) None env (store.with_scope owner names s) end') next') first_kept m
+  pub read_all : {d : ℕ} (xs : List (List ℕ)) (names : store.Names) (rest : t.Tree t.stmts) {p : Source.Plan} {z : List Item} {n : ℕ} {y : Kept} {m : ℕ} (end' : Cont') (next' : Cont') → Reads owner names s → ((x : List ℕ) → is_among xs x ≡ true → GuestName x) → ((x : List ℕ) → is_among xs x ≡ true → is_some (name_value x names) ≡ true)
+      → ((m' : ℕ) → m' ≡ m + 7 * length xs → Match (sides rules) d p z n (bind (Target.list true rest None env (store.with_scope owner (imported xs (map (λ k. value_of (own s.heap imports_id k)) xs) names) s) end') next') y m')
+      → Match (sides rules) d p z n (bind (Target.list true (import_stmts xs rest) None env (store.with_scope owner names s) end') next') y m
   read_all [] names rest end' next' r guests bound f = f _ (omega arith)
   read_all (x ∷ xs) names rest {m = m} end' next' r guests bound f =
       let v = value_of (own s.heap imports_id x) in

@@ -17,7 +17,7 @@ use Rattle.cajita_rewrite.specs.Rewrite.{runtime_name, result_name, temps}
 use Rattle.cajita_meaning.specs.World.{Value, World, undefined, with_scope, with_vars, with_params, next_scope}
 use Rattle.cajita_meaning.specs.Direct.{Item}
 use Rattle.heap_rows.specs.Opening.{globals_id, runtime_id}
-use Rattle.module_loader.specs.Page.{Kept}
+use Rattle.page_natives.specs.Natives.{Kept}
 use Rattle.cajita_simulation.specs.Guest.{is_among}
 use Rattle.cajita_simulation.proofs.Heaps.Lists.{slice_get-push}
 use Rattle.cajita_simulation.proofs.Relation.{EsValue, tag_of_scope, Tags, ScopeIs, names_at, declared, unknown, holds, Temps, no_temps, SlotIs, Here, In, Related, Between, Rel, related_steps}

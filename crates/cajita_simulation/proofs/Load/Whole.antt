@@ -20,7 +20,7 @@ use Rattle.heap_rows.specs.Opening.{globals_id, imports_id}
 use Rattle.es3_heap.specs.Properties.{own, value_of}
 use Rattle.cajita_simulation.proofs.Heaps.Opened.{IsOpened}
 use Rattle.cajita_simulation.proofs.Heaps.Functions.{opened_kept-function}
-use Rattle.module_loader.specs.Page.{Kept, first_kept}
+use Rattle.page_natives.specs.Natives.{Kept}
 use Rattle.cajita_simulation.specs.Guest.{is_among, Guest}
 use Rattle.cajita_simulation.proofs.Doing as Source
 use Rattle.cajita_simulation.proofs.Relation.{EsValue, Vals, Here, env_of, Tags, Temps, declared, holds, SlotIs, Between, In, names_at, related_steps, related_between}
@@ -100,28 +100,28 @@ inner_is rules by q w s is = ap (λ o. let env : Target.Env = record { chain = l
 
 -- the statements that read imports, from the store where the function was entered to that where its imports are there
 pub record ImportsRead (rules : Rules) (by : ℕ) (q : Module) (us : List EsValue) (s : Store) : Type 0 where
-  pub on : {d : ℕ} {p : Source.Plan} {z : List Item} {n m : ℕ} (next' : Cont') → ((m' : ℕ) → m' ≡ m + 7 * length q.imports → Match (sides rules) d p z n (bind (Target.list true (joined (rewritten true c.stmts 0 q.list) result_stmts) None (inner by s) (begun_store by q us s) Target.body_end) next') first_kept m')
-      → Match (sides rules) d p z n (bind (Target.list true (statements q) None (inner by s) (module_store by q s) Target.body_end) next') first_kept m
+  pub on : {d : ℕ} {p : Source.Plan} {z : List Item} {n : ℕ} {y : Kept} {m : ℕ} (next' : Cont') → ((m' : ℕ) → m' ≡ m + 7 * length q.imports → Match (sides rules) d p z n (bind (Target.list true (joined (rewritten true c.stmts 0 q.list) result_stmts) None (inner by s) (begun_store by q us s) Target.body_end) next') y m')
+      → Match (sides rules) d p z n (bind (Target.list true (statements q) None (inner by s) (module_store by q s) Target.body_end) next') y m
 
-loaded : (rules : Rules) (by : ℕ) → by < 64 → (q : Module) → IsGuest q → (vs : List Value) (us : List EsValue) → Laws → (d : ℕ) {w : World} {z : List Item} {n : ℕ} {g : Tags} {s : Store} {m : ℕ} → ImportsRead rules by q us s → Vals (made_store by q s).heap vs us → length vs ≡ length q.imports → Between w z n g s first_kept m → Match (sides rules) d (enter (Source.load_of (module_of q) by vs) w ends) z n (Target.program_plan (t.script (t.more_stmts (load_stmt (module_body q)) t.no_stmts)) by s) first_kept m
+loaded : (rules : Rules) (by : ℕ) → by < 64 → (q : Module) → IsGuest q → (vs : List Value) (us : List EsValue) → Laws → (d : ℕ) {w : World} {z : List Item} {n : ℕ} {g : Tags} {s : Store} {y : Kept} {m : ℕ} → ImportsRead rules by q us s → Vals (made_store by q s).heap vs us → length vs ≡ length q.imports → Between w z n g s y m → Match (sides rules) d (enter (Source.load_of (module_of q) by vs) w ends) z n (Target.program_plan (t.script (t.more_stmts (load_stmt (module_body q)) t.no_stmts)) by s) y m
 loaded rules by few q guest vs us laws zero reads are long r = both_cut (omega (arith, r.steps)) r.items
-loaded rules by few q guest vs us laws (suc d) {w = w} {z = z} {n = n} {g = g} {s = s} {m = m} reads are long r =
+loaded rules by few q guest vs us laws (suc d) {w = w} {z = z} {n = n} {g = g} {s = s} {y = y} {m = m} reads are long r =
     let H = here rules by q w s in
     let begins = undefined_first q s in
     let has : HasResult H (first_temps q s) = record { value = undefined; is = begins } in
     let begun = opens (known q) (is_among q.vars) q us guest.list guest.same guest.names in
     let imports = bound_alike (known q) (is_among q.vars) (made_store by q s).heap q vs us guest.list guest.same guest.names are long in
-    both_enter (enters rules (known q) (is_among q.vars) q s (waiting by s) guest.list (opened_of r.objects) r.globals
+    both_enter (enters rules (known q) (is_among q.vars) q s (waiting by s) guest.list r.kept (opened_of r.objects) r.globals
     (ticked rules by (length q.imports + (length q.vars + count_of c.no_funcs)) _ (given_at vs) w ends (suc n) (λ n' same.
     reads.on (after_load (waiting by s)) (λ m' at.
-    subst (λ env. Match (sides rules) d (bind (Source.own_list q.list H [] (bound_world by q vs w)) ends) z n' (bind (Target.list true (joined (rewritten true c.stmts 0 q.list) result_stmts) None env (begun_store by q us s) Target.body_end) (after_load (waiting by s))) first_kept m') (inner_is rules by q w s r.globals)
+    subst (λ env. Match (sides rules) d (bind (Source.own_list q.list H [] (bound_world by q vs w)) ends) z n' (bind (Target.list true (joined (rewritten true c.stmts 0 q.list) result_stmts) None env (begun_store by q us s) Target.body_end) (after_load (waiting by s))) y m') (inner_is rules by q w s r.globals)
     (own_match (laws H few (suc d)) q.list guest.list guest.targets None None result_stmts d 0 40 Target.body_end ends (after_load (waiting by s)) (omega arith) has (room_first q rules by w s guest.few) (opening rules by q vs us n' m' begun imports (omega (arith, at)) (omega (arith, at, same, r.steps)) (omega (arith, same)) r) (module_ends H (first_temps q s) by s begins))))))
 
 -- the law of the load of a module
 pub whole : (rules : Rules) (by : ℕ) → by < 64 → (q : Module) → IsGuest q → (vs : List Value) (us : List EsValue) → Laws → (d : ℕ) {w : World} {z : List Item} {n : ℕ} {g : Tags} {s : Store} {y : Kept} {m : ℕ} → ImportsRead rules by q us s → Vals (made_store by q s).heap vs us → length vs ≡ length q.imports → Between w z n g s y m → Match (sides rules) d (enter (Source.load_of (module_of q) by vs) w ends) z n (Target.program_plan (program_of (module_of q)) by s) y m
 whole rules by few q guest vs us laws d {w = w} {z = z} {n = n} {g = g} {s = s} {y = y} {m = m} reads are long r =
     subst (λ p. Match (sides rules) d (enter (Source.load_of (module_of q) by vs) w ends) z n (Target.program_plan p by s) y m) (sym (program_is q))
-    (subst (λ o. Between w z n g s o m → Match (sides rules) d (enter (Source.load_of (module_of q) by vs) w ends) z n (Target.program_plan (t.script (t.more_stmts (load_stmt (module_body q)) t.no_stmts)) by s) o m) (sym r.kept) (loaded rules by few q guest vs us laws d reads are long) r)
+    (loaded rules by few q guest vs us laws d reads are long r)
 
 -- each import is read in turn
 pub imports_read : (rules : Rules) (by : ℕ) (q : Module) (s : Store) → IsGuest q → IsOpened s.heap → s.shared ≡ [] → ImportsRead rules by q (map (λ k. value_of (own (made_store by q s).heap imports_id k)) q.imports) s

@@ -1,5 +1,8 @@
-use Rattle.cajita_simulation.proofs.Load.Begins.{imports_begin}
+use Rattle.cajita_simulation.proofs.Load.Begins.{begins, imports_begin}
 use Rattle.cajita_simulation.proofs.a_page_begins_related.Goals as goal
+
+pub returns-clause-pages : goal.returns-clause-pages
+returns-clause-pages c = begins
 
 pub returns-clause-imports : goal.returns-clause-imports
 returns-clause-imports c = imports_begin

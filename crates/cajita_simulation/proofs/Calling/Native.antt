@@ -1,0 +1,175 @@
+-- The law of a call of a function that no module made, by its name.
+use Rattle.std.proofs.Common.{◌≡◌, ℕ, zero, suc, ◌≤◌, ◌<◌, Bool, true, false, List, [], ◌∷◌, ◌++◌, length, Option, Some, None, cond, inl, inr, refl, sym, ap, ◌∙◌, subst, arith}
+use Rattle.plans.specs.Plans.{bind, ends, enter}
+use Rattle.acts.specs.Acts.{replied}
+use Rattle.es3_heap.specs.declared.value.Value.TheVariants as es
+use Rattle.es3_heap.specs.declared.value.FuncKind.{FuncKind}
+use Rattle.es3_heap.specs.declared.value.FuncKind.TheVariants as kind
+use Rattle.es3_heap.specs.Objects as heap
+use Rattle.es3_heap.specs.Objects.{Objects}
+use Rattle.es3_language.specs.Store.{Store}
+use Rattle.es3_language.specs.Meaning as Target
+use Rattle.rows.specs.Rows as r
+use Rattle.rows.specs.Rows.{Native, Row}
+use Rattle.rows.specs.Names.{sort_of, is_exophoric}
+use Rattle.rows.specs.Nodes.{no_rules}
+use Rattle.rows.specs.Table.{row_of}
+use Rattle.cajita_meaning.specs.World.{Name, made_name, cell_name, own_name, built_name, tools_name, facet_name, forward_name, Value, object, World as State}
+use Rattle.cajita_meaning.specs.Doing as direct
+use Rattle.cajita_meaning.specs.Asking.{native_at, native_call}
+use Rattle.cajita_meaning.specs.Direct.{Item}
+use Rattle.heap_rows.specs.Natives.{number_of, kind_of, own_number, cell_number, is_common}
+use Rattle.heap_rows.specs.Doing as es3
+use Rattle.heap_rows.specs.Opening.{first, place_of, empty_page}
+use Rattle.row_simulation.specs.Among.{IsSightAmong, AreAnswersAmong}
+use Rattle.row_simulation.specs.Correspond.{IsNative}
+use Rattle.row_simulation.proofs.Row.{vals_length}
+use Rattle.row_simulation.proofs.Sights.{seen_alike, seen_among}
+use Rattle.row_simulation.proofs.Tables.{tables}
+use Rattle.page_natives.specs.declared.natives.Callee.TheVariants as callee
+use Rattle.page_natives.specs.Answered.{turn_of}
+use Rattle.page_natives.specs.Natives.{Kept, page_table}
+use Rattle.page_natives.proofs.Numbers.{built_ins_are_their_rows, say_has_its_number, later_has_its_number, get_has_its_number, set_has_its_number}
+use Rattle.page_natives.proofs.OwnFunctions.{say_does_its_row, later_does_its_row, get_does_its_row, set_does_its_row}
+use Rattle.cajita_simulation.proofs.Doing as Source
+use Rattle.cajita_simulation.proofs.Relation.{EsValue, Val, Vals, Named, Here, env_of, Tags, Temps, ObjectsAre, Rel, stays_refl}
+use Rattle.cajita_simulation.proofs.Laws.{NextValue, value_from, Cont, Cont', M}
+use Rattle.cajita_simulation.proofs.Rows.{Going}
+use Rattle.cajita_simulation.proofs.Calling.Laws.{ClosureLaw, NativeLaw, applied}
+use Rattle.cajita_simulation.proofs.Calling.Receiver.{first_free, no_receiver}
+use Rattle.cajita_simulation.proofs.Calling.BuiltIns.{refusal, Refuses, built_in_row}
+use Rattle.cajita_simulation.proofs.Calling.Natives.{kind_entered, applied_native, self_of, Entered, native_enters, called_row}
+use Rattle.cajita_simulation.proofs.Calling.Own.{say_settled, later_settled, get_settled, set_settled, own_row}
+
+-- the rows of the tables are among objects, under the rules of a page without a document
+
+no_answers : AreAnswersAmong no_rules
+no_answers = λ k xs p. tt
+
+-- the value in the place of the receiver: one that is given, or the function itself
+
+abbrev self_in : Native → ℕ → EsValue → EsValue
+self_in f i this = cond (is_exophoric (sort_of f)) this (es.Obj i)
+
+self_val : (h : Objects) (b : Bool) (receiver own : Value) (this self : EsValue) → Val h receiver this → Val h own self → Val h (cond b receiver own) (cond b this self)
+self_val h true receiver own this self p q = p
+self_val h false receiver own this self p q = q
+
+-- a function that wants no receiver comes to the same with itself in its place
+self_same : (f : Native) → is_common f ≡ true → (by n i : ℕ) (this : EsValue) (qs : List EsValue) (h : Objects) → es3.does place_of by (row_of no_rules f n) (this ∷ qs) h empty_page [] ≡ es3.does place_of by (row_of no_rules f n) (self_in f i this ∷ qs) h empty_page []
+self_same f common by n i this qs h =
+    elim (is_exophoric (sort_of f)) as (λ b. is_exophoric (sort_of f) ≡ b → es3.does place_of by (row_of no_rules f n) (this ∷ qs) h empty_page [] ≡ es3.does place_of by (row_of no_rules f n) (cond b this (es.Obj i) ∷ qs) h empty_page []) [
+      | true ↦ λ e. refl
+      | false ↦ λ e. first_free place_of by this (es.Obj i) (row_of no_rules f n) (no_receiver no_rules f common e n) qs h empty_page []
+    ] refl
+
+-- a row that refuses what is no node
+
+refused_here : (by : ℕ) (q : Row) → Refuses q → (v : Value) (us : List Value) (w : State) → ((n : ℕ) → IsSightAmong (direct.see w n v).sight) → direct.does by q (direct.given (v ∷ us)) w [] ≡ direct.does by refusal (direct.given []) w []
+refused_here by (r.looks (r.held zero) go) p v us w among =
+    ap (λ q. direct.does by q (direct.and_seen (direct.given (v ∷ us)) (direct.way_into (direct.given (v ∷ us)) (r.held 0)) (direct.see w (length (v ∷ us)) v).values) w []) (p (direct.see w (length (v ∷ us)) v).sight (among (length (v ∷ us))))
+refused_here by q p v us w among = absurd p
+
+refused_there : (by : ℕ) (q : Row) → Refuses q → (e : EsValue) (qs : List EsValue) (h : Objects) → ((n : ℕ) → IsSightAmong (es3.see h n e).sight) → es3.does place_of by q (e ∷ qs) h empty_page [] ≡ es3.does place_of by refusal [] h empty_page []
+refused_there by (r.looks (r.held zero) go) p e qs h among =
+    ap (λ q. es3.does place_of by q ((e ∷ qs) ++ (es3.see h (length (e ∷ qs)) e).values) h empty_page []) (p (es3.see h (length (e ∷ qs)) e).sight (among (length (e ∷ qs))))
+refused_there by q p e qs h among = absurd p
+
+seen_there : {m : ℕ} {h : Objects} (w : State) → ObjectsAre first place_of w.objects h m → (v : Value) (e : EsValue) → Val h v e → (n : ℕ) → IsSightAmong (es3.see h n e).sight
+seen_there w o v e is n = subst IsSightAmong (seen_alike w o n v e is).sight (seen_among w o n v e is)
+
+-- what is called by its number comes to its row
+turn_is : (f : Native) → is_common f ≡ true → (by : ℕ) (this : EsValue) (qs : List EsValue) (h : Objects) (y : Kept) (came : es3.Came) → es3.does place_of by (row_of no_rules f (suc (length qs))) (this ∷ qs) h empty_page [] ≡ came
+    → page_table.answer (number_of f) by this qs h y ≡ turn_of came.done y
+turn_is f common by this qs h y came same = built_ins_are_their_rows f common by this qs h y ∙ ap (λ (c : es3.Came). turn_of c.done y) same
+
+-- a built-in function, once both sides have entered it
+built_in_called : {H : Here} {T : Temps} {d k : ℕ} → H.by < 64 → ClosureLaw H d → NativeLaw H d → (b : ℕ) → b < d → (f : Native) → is_common f ≡ true → (i : ℕ) (receiver : Value) (this : EsValue) (us : List Value) (qs : List EsValue) {w : State} {z : List Item} {n : ℕ} {g : Tags} {s : Store} {y : Kept} {m : ℕ} (go : Going) (next : Cont) (next' : Cont') → suc m ≤ 4294967295
+    → Named s.heap (built_name f) i → Val s.heap receiver this → Vals s.heap us qs → Rel H T (suc (suc k)) w z n g s y m → NextValue H T b k w g s m (Source.called_next go next) next'
+    → Entered H b f (self_of f (built_name f) receiver ∷ us) (number_of f) this qs w z n s y m go next next'
+built_in_called {H = H} {k = k} below closures natives b lt f common i receiver this us qs {w = w} {s = s} {y = y} go next next' few named at args r x =
+    let self = self_of f (built_name f) receiver in
+    let vs : List Value = self ∷ us in
+    let self' = self_in f i this in
+    let is : Val s.heap self self' = self_val s.heap (is_exophoric (sort_of f)) receiver (object (built_name f)) this (es.Obj i) at named in
+    let long : length us ≡ length qs = vals_length s.heap us qs args in
+    elim (built_in_row f common) [
+      | inl p ↦
+          let q = row_of no_rules f (suc (length us)) in
+          called_row {k = k} below closures natives b lt f vs (number_of f) this qs q (tables.built_ins no_rules no_answers f (suc (length us))) (p.calling (suc (length us))) vs (self' ∷ qs) go next next' few
+          (ap (λ c. direct.does H.by c (direct.given vs) w []) (p.any H.rules (suc (length us))))
+          (turn_is f common H.by this qs s.heap y (es3.does place_of H.by q (self' ∷ qs) s.heap empty_page []) (self_same f common H.by (suc (length qs)) i this qs s.heap ∙ ap (λ l. es3.does place_of H.by (row_of no_rules f (suc l)) (self' ∷ qs) s.heap empty_page []) (sym long)))
+          (is, args) r x
+      | inr p ↦
+          called_row {k = k} below closures natives b lt f vs (number_of f) this qs refusal tt tt [] [] go next next' few
+          (refused_here H.by (row_of H.rules f (suc (length us))) (p H.rules (suc (length us))) self us w (λ n. seen_among w r.all.objects n self self' is))
+          (turn_is f common H.by this qs s.heap y (es3.does place_of H.by refusal [] s.heap empty_page []) (refused_there H.by (row_of no_rules f (suc (length qs))) (p no_rules (suc (length qs))) this qs s.heap (seen_there w r.all.objects receiver this at)))
+          tt r x
+    ]
+
+-- where the function stands, and by what kind it is called
+callable_there : (h : Objects) (i : ℕ) {stored : heap.Object} {sort : r.Sort} {k : FuncKind} → heap.object_at h i ≡ Some stored → IsNative sort k stored → heap.callable_of (heap.object_at h i) ≡ Some (record { kind = k; maker = 0 })
+callable_there h i there is = ap heap.callable_of there ∙ is.callable
+
+module _ {H : Here} {T : Temps} {d k : ℕ} (below : H.by < 64) (closures : ClosureLaw H d) (natives : NativeLaw H d) (a : ℕ) (lt : a < suc d) (recorded : Bool) (i : ℕ) (receiver : Value) (this : EsValue) (us : List Value) (qs : List EsValue) {w : State} {z : List Item} {n : ℕ} {g : Tags} {s : Store} {y : Kept} {m : ℕ} (go : Going) (next : Cont) (next' : Cont') (at : Val s.heap receiver this) (args : Vals s.heap us qs) (all : Rel H T (suc k) w z n g s y m) (x : NextValue H T a k w g s m (Source.called_next go next) next') where
+  abbrev Called : Name → Native → Type 0
+  Called o f = M H a (bind (replied (native_call H.around.calls recorded (Some f) o receiver us H.by w) go) next) z n (bind (applied H recorded (es.Obj i) this qs s) next') y m
+
+  simple_called : (o : Name) (f : Native) (number : ℕ) → heap.callable_of (heap.object_at s.heap i) ≡ Some (record { kind = kind.Simple number; maker = 0 }) → Target.apply (es.Obj i) this qs (env_of H) s ≡ enter (Target.native_call number this qs (env_of H)) s ends
+  simple_called o f number callable = applied_native i (kind.Simple number) number this qs (env_of H) s callable refl
+
+  say_called : (o : ℕ) → Named s.heap (own_name o 0) i → Called (own_name o 0) r.say
+  say_called o named =
+      let there = all.all.objects.each (own_name o 0) i named in
+      native_enters a k recorded (own_name o 0) r.say i (own_number o 0) receiver this us qs go next next' all (simple_called (own_name o 0) r.say (own_number o 0) (callable_there s.heap i there.there there.is.1)) (λ b z1 less few r1.
+      own_row {k = k} below b (callee.Say o) r.say (own_number o 0) (own_name o 0) i this us qs (say_does_its_row o) (say_has_its_number o) (tables.built_ins no_rules no_answers r.say (suc (length us))) go next next' few (say_settled H.by (suc (length us)) o us w) named args r1 (value_from {j = k} {k = k} (omega (arith, less)) (omega arith) stays_refl x))
+
+  later_called : (o : ℕ) → Named s.heap (own_name o 1) i → Called (own_name o 1) r.later
+  later_called o named =
+      let there = all.all.objects.each (own_name o 1) i named in
+      native_enters a k recorded (own_name o 1) r.later i (own_number o 1) receiver this us qs go next next' all (simple_called (own_name o 1) r.later (own_number o 1) (callable_there s.heap i there.there there.is.1)) (λ b z1 less few r1.
+      own_row {k = k} below b (callee.Later o) r.later (own_number o 1) (own_name o 1) i this us qs (later_does_its_row o) (later_has_its_number o) (tables.built_ins no_rules no_answers r.later (suc (length us))) go next next' few (later_settled H.by (suc (length us)) o us w) named args r1 (value_from {j = k} {k = k} (omega (arith, less)) (omega arith) stays_refl x))
+
+  get_called : (c : ℕ) → Named s.heap (cell_name c 1) i → Called (cell_name c 1) r.get
+  get_called c named =
+      let there = all.all.objects.each (cell_name c 1) i named in
+      native_enters a k recorded (cell_name c 1) r.get i (cell_number c 1) receiver this us qs go next next' all (simple_called (cell_name c 1) r.get (cell_number c 1) (callable_there s.heap i there.there there.is.1)) (λ b z1 less few r1.
+      own_row {k = k} below b (callee.Get c) r.get (cell_number c 1) (cell_name c 1) i this us qs (get_does_its_row c) (get_has_its_number c) (tables.built_ins no_rules no_answers r.get (suc (length us))) go next next' few (get_settled H.by c us w) named args r1 (value_from {j = k} {k = k} (omega (arith, less)) (omega arith) stays_refl x))
+
+  set_called : (c : ℕ) → Named s.heap (cell_name c 2) i → Called (cell_name c 2) r.set
+  set_called c named =
+      let there = all.all.objects.each (cell_name c 2) i named in
+      native_enters a k recorded (cell_name c 2) r.set i (cell_number c 2) receiver this us qs go next next' all (simple_called (cell_name c 2) r.set (cell_number c 2) (callable_there s.heap i there.there there.is.1)) (λ b z1 less few r1.
+      own_row {k = k} below b (callee.Set c) r.set (cell_number c 2) (cell_name c 2) i this us qs (set_does_its_row c) (set_has_its_number c) (tables.built_ins no_rules no_answers r.set (suc (length us))) go next next' few (set_settled H.by (suc (length us)) c us w) named args r1 (value_from {j = k} {k = k} (omega (arith, less)) (omega arith) stays_refl x))
+
+  built_called : (f : Native) → Named s.heap (built_name f) i → Called (built_name f) f
+  built_called f named =
+      let there = all.all.objects.each (built_name f) i named in
+      native_enters a k recorded (built_name f) f i (number_of f) receiver this us qs go next next' all (applied_native i (kind_of f) (number_of f) this qs (env_of H) s (callable_there s.heap i there.there there.is.1) (kind_entered (number_of f) (sort_of f) (es.Obj i) this qs (env_of H) s)) (λ b z1 less few r1.
+      built_in_called {k = k} below closures natives b (omega (arith, less, lt)) f there.is.0 i receiver this us qs go next next' few named at args r1 (value_from {j = k} {k = k} (omega (arith, less)) (omega arith) stays_refl x))
+
+  same_native : (f q : Native) → (let u : Option Native = Some f in u) ≡ Some q → f ≡ q
+  same_native f q e = cc
+
+  none : (q : Native) → (let u : Option Native = None in u) ≡ Some q → ⊥
+  none q e = cc
+
+  by_name : (o : Name) (f : Native) → native_at o ≡ Some f → Named s.heap o i → Called o f
+  by_name (built_name f) q e named = subst (Called (built_name f)) (same_native f q e) (built_called f named)
+  by_name (own_name o zero) q e named = subst (Called (own_name o 0)) (same_native r.say q e) (say_called o named)
+  by_name (own_name o (suc zero)) q e named = subst (Called (own_name o 1)) (same_native r.later q e) (later_called o named)
+  by_name (own_name o (suc (suc j))) q e named = let few = (all.all.objects.each (own_name o (suc (suc j))) i named).is.0 in absurd (omega (arith, few))
+  by_name (cell_name c zero) q e named = absurd (none q e)
+  by_name (cell_name c (suc zero)) q e named = subst (Called (cell_name c 1)) (same_native r.get q e) (get_called c named)
+  by_name (cell_name c (suc (suc zero))) q e named = subst (Called (cell_name c 2)) (same_native r.set q e) (set_called c named)
+  by_name (cell_name c (suc (suc (suc j)))) q e named = let few = (all.all.objects.each (cell_name c (suc (suc (suc j)))) i named).is.0 in absurd (omega (arith, few))
+  by_name (made_name o j) q e named = absurd (none q e)
+  by_name (tools_name t) q e named = absurd (none q e)
+  by_name (facet_name root j) q e named = absurd (none q e)
+  by_name (forward_name o p c j) q e named = absurd (all.all.objects.each (forward_name o p c j) i named).is
+
+pub native_zero : {H : Here} → NativeLaw H 0
+native_zero = record { on = λ recorded o f i receiver this us qs go next next' lt known named at args r x. absurd (omega (arith, lt)) }
+
+pub native_law : {H : Here} {d : ℕ} → H.by < 64 → ClosureLaw H d → NativeLaw H d → NativeLaw H (suc d)
+native_law below closures natives = record { on = λ recorded o f i receiver this us qs go next next' lt known named at args r x. by_name below closures natives _ lt recorded i receiver this us qs go next next' at args r x o f known named }
