@@ -1,6 +1,6 @@
 //! A module's own functions, and what it may import.
 
-ghost use Rattle.std.specs.Prelude.{◌≡◌, ◌≤◌, ◌+◌, IfOk, OnOk, length};
+ghost use Rattle.std.specs.Prelude.{◌≡◌, ◌<◌, ◌≤◌, ◌+◌, IfOk, OnOk, length};
 ghost use Rattle.es3_heap.specs.Objects.{with_object};
 ghost use Rattle.heap_rows.specs.Opening.{named_function, with_module, with_imports};
 

@@ -48,4 +48,3 @@ pub(crate) fn can_wait(alloc: Global, h: &Heap, value: &Value) -> Result<bool, M
         _ => Ok(false),
     }
 }
-
