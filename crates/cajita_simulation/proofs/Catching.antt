@@ -1,5 +1,5 @@
 -- A `catch` has a new scope with one name on both sides; the activation stays.
-use Rattle.std.proofs.Common.{◌≡◌, ℕ, ◌+◌, ◌<◌, Bool, true, false, List, [], ◌∷◌, ◌++◌, length, Option, Some, None, cond, refl, sym, ap, ◌∙◌, subst, arith}
+use Rattle.std.proofs.Common.{◌≡◌, ℕ, ◌<◌, Bool, true, false, List, [], ◌∷◌, ◌++◌, length, Option, Some, None, cond, refl, sym, ap, ◌∙◌, subst, arith}
 use Rattle.std.specs.Prelude.{slice_get, is_some, ◌||◌}
 use Rattle.std.proofs.lemmas.List.{length-append}
 use Rattle.caja_units.specs.Units.{same_units, is_hidden}

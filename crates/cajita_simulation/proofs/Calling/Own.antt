@@ -1,5 +1,5 @@
 -- The functions of a module and of a cell: their rows change what a page keeps, and natives keep the same.
-use Rattle.std.proofs.Common.{◌≡◌, ℕ, suc, ◌+◌, ◌≤◌, ◌<◌, List, [], ◌∷◌, ◌++◌, length, Result, Ok, Err, refl, sym, ap, ◌∙◌, subst, arith}
+use Rattle.std.proofs.Common.{◌≡◌, ℕ, suc, ◌≤◌, ◌<◌, List, [], ◌∷◌, ◌++◌, length, Result, Ok, Err, refl, sym, ap, ◌∙◌, subst, arith}
 use Rattle.plans.specs.Plans.{Fault, bind}
 use Rattle.acts.specs.Acts.{replied}
 use Rattle.es3_heap.specs.declared.value.Value.TheVariants as es

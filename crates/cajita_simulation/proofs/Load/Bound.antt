@@ -6,7 +6,7 @@ use Rattle.caja_units.specs.Units.{same_units, is_hidden}
 use Rattle.es3_heap.proofs.Keys.{same_key-refl}
 use Rattle.es3_heap.specs.declared.value.Value.TheVariants as es
 use Rattle.es3_heap.specs.Objects.{Objects}
-use Rattle.es3_language.specs.Store.{Names, name_value, with_name, with_vars, first_names}
+use Rattle.es3_language.specs.Store.{Names, name_value, with_name, first_names}
 use Rattle.es3_language.specs.Arguments.{is_arguments}
 use Rattle.cajita_tree.specs.Tree as c
 use Rattle.cajita_rewrite.specs.Rewrite.{runtime_name, result_name, temp_name, temps}
