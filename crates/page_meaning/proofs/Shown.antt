@@ -1,8 +1,8 @@
 -- Values that correspond are shown alike, and so are the ends of two runs that came to an end together.
-use Rattle.std.proofs.Common.{◌≡◌, ◌≢◌, ℕ, zero, suc, List, [], ◌++◌, Option, Some, None, refl, sym, ap, ◌∙◌}
+use Rattle.std.proofs.Common.{◌≡◌, ◌≢◌, ℕ, zero, suc, List, [], ◌∷◌, ◌++◌, Option, Some, None, refl, sym, ap, ◌∙◌}
 use Rattle.std.specs.Prelude.{codes}
 use Rattle.std.proofs.lemmas.List.{append-nil}
-use Rattle.plans.specs.Plans.{Fault, number_fault, depth_fault, convert_fault, over, stopped, out}
+use Rattle.plans.specs.Plans.{Fault, number_fault, depth_fault, convert_fault, over, stopped, out, kept_of}
 use Rattle.caja_units.specs.Literal.{literal}
 use Rattle.caja_units.specs.Utf8.{utf8_of}
 use Rattle.es3_heap.specs.declared.value.Value.TheVariants as es
@@ -24,13 +24,16 @@ use Rattle.heap_rows.specs.Natives.{tag_of_native, tag_of_tools}
 use Rattle.cajita_meaning.specs.World as World
 use Rattle.cajita_meaning.specs.World.{Name, made_name, cell_name, own_name, built_name, tools_name, facet_name, forward_name, Value, Object, a_record, an_array, an_error, a_closure, World as State}
 use Rattle.cajita_meaning.specs.Direct as Source
-use Rattle.module_loader.specs.Page.{Kept}
+use Rattle.cajita_meaning.specs.Direct.{printed}
+use Rattle.heap_rows.specs.Doing as rows
+use Rattle.heap_rows.specs.Doing.{Told}
+use Rattle.page_natives.specs.Natives.{Kept}
 use Rattle.row_simulation.specs.Correspond.{EsValue, Val, Named, Is, IsNamed, IsError, value_is, Stands, ObjectsAre, tag_of_name}
 use Rattle.page_runner.specs.declared.End.TheVariants.{Convert}
-use Rattle.page_runner.specs.Log.{main_name, line_end, text_units, error_text, class_text, object_name, path_shown, after_name, value_text, load_line, completion_line, end_of, completion_log, run_end}
-use Rattle.cajita_simulation.specs.Alike.{GuestFault}
+use Rattle.page_runner.specs.Log.{main_name, line_end, text_units, error_text, class_text, object_name, path_shown, after_name, value_text, load_line, completion_line, end_of, say_line, told_lines, state_after, completion_log, run_log, run_end}
+use Rattle.cajita_simulation.specs.Alike.{GuestFault, printed_told, shown}
 use Rattle.cajita_simulation.specs.Correct.{SameEnd, EndAlike, ConvertsNothing}
-use Rattle.page_meaning.specs.DirectLog.{name_shown, error_shown, made_shown, object_shown, value_shown, line_shown, end_shown, load_log, load_end}
+use Rattle.page_meaning.specs.DirectLog.{name_shown, error_shown, made_shown, object_shown, value_shown, line_shown, end_shown, item_lines, load_shown, load_log, load_end}
 
 -- an error's name and its message
 
@@ -183,10 +186,27 @@ line_same (Source.gave v) w (Target.normal (Some e)) s p = line_alike w s.heap p
 line_same (Source.threw v) w (Target.threw e) s p = line_alike w s.heap p.1.0 p.1.1 (codes "throw") v e p.0
 line_same _ w _ s p = absurd p
 
-pub log_same : (r : Source.Run) (t : Target.Run Kept) → EndAlike r t → completion_log t ≡ load_log r
-log_same (over e w z n) (over e' s y n') p = line_same e w e' s p.0
-log_same (stopped f w z n) (stopped g s y n') p = refl
-log_same _ _ p = absurd p
+completion_same : (r : Source.Run) (t : Target.Run Kept) → EndAlike r t → completion_log t ≡ load_shown r
+completion_same (over e w z n) (over e' s y n') p = line_same e w e' s p.0
+completion_same (stopped f w z n) (stopped g s y n') p = refl
+completion_same _ _ p = absurd p
+
+-- what was said
+
+pub lines_alike : (l : List Told) → told_lines l ≡ item_lines (printed_told l)
+lines_alike [] = refl
+lines_alike (rows.said m us ∷ l) = ap (λ r. say_line us ++ r) (lines_alike l)
+lines_alike (rows.touched m t g k ∷ l) = lines_alike l
+
+printed_alike : (r : Source.Run) (t : Target.Run Kept) → EndAlike r t → shown (state_after t) ≡ printed (kept_of r)
+printed_alike (over e w z n) (over e' s y n') p = sym p.1
+printed_alike (stopped f w z n) (stopped g s y n') p = sym p.2
+printed_alike _ _ p = absurd p
+
+pub log_same : (r : Source.Run) (t : Target.Run Kept) → EndAlike r t → run_log t ≡ load_log r
+log_same r t p =
+    ap (λ l. l ++ completion_log t) (lines_alike (state_after t).told ∙ ap item_lines (printed_alike r t p))
+    ∙ ap (λ l. item_lines (printed (kept_of r)) ++ l) (completion_same r t p)
 
 pub end_same : (r : Source.Run) (t : Target.Run Kept) → EndAlike r t → run_end t ≡ load_end r
 end_same (over e w z n) (over e' s y n') p = refl

@@ -1,7 +1,7 @@
--- The log of the direct meaning: how values of the world are shown, a line for the load of a module, and how the load ended.
+-- The log of the direct meaning: how values of the world are shown, a line for each text that a module said, one for its load, and how the load ended.
 -- Nothing here knows of the interpreter's heap or of guards.
-use Rattle.std.specs.Prelude.{ℕ, zero, List, [], ◌++◌, Option, Some, None, get_or, codes, if◌then◌else◌}
-use Rattle.plans.specs.Plans.{over, stopped, out}
+use Rattle.std.specs.Prelude.{ℕ, zero, List, [], ◌∷◌, ◌++◌, Option, Some, None, get_or, codes, if◌then◌else◌}
+use Rattle.plans.specs.Plans.{over, stopped, out, kept_of}
 use Rattle.caja_units.specs.Index.{number_units}
 use Rattle.caja_units.specs.Number.{number_text}
 use Rattle.caja_units.specs.Literal.{literal}
@@ -11,11 +11,11 @@ use Rattle.rows.specs.Guards.{maker_name}
 use Rattle.rows.specs.Paths.{tools_path, path_of}
 use Rattle.cajita_tree.specs.Tree as c
 use Rattle.cajita_meaning.specs.World.{Name, made_name, cell_name, own_name, built_name, tools_name, facet_name, forward_name, Value, undefined, null, truth, number, text, object, Object, a_record, an_array, an_error, a_closure, World, object_at}
-use Rattle.cajita_meaning.specs.Direct.{Completion, gave, threw, Run}
+use Rattle.cajita_meaning.specs.Direct.{Completion, gave, threw, Item, said, printed, Run}
 use Rattle.cajita_simulation.specs.Correct.{direct_run}
 use Rattle.page_runner.specs.declared.End.{End}
 use Rattle.page_runner.specs.declared.End.TheVariants.{Done, Steps}
-use Rattle.page_runner.specs.Log.{main_name, path_shown, own_names, line_end, end_of}
+use Rattle.page_runner.specs.Log.{main_name, path_shown, own_names, line_end, say_line, end_of}
 
 -- a name: the number among the objects that its module made, the path of a built-in, or that of a module's own function; `?` for what the host, a cell or a grant has of its own
 abbrev pub name_shown : Name → List ℕ
@@ -68,11 +68,24 @@ end_shown w (gave v) = line_shown (codes "return") w v
 end_shown w (threw v) = line_shown (codes "throw") w v
 end_shown w e = []
 
--- the log of a load, and how it ended: a load that a fault or the want of a step cut off has no line
+-- the lines of what is printed in a page of one module: `say main "T"` for each text
+abbrev pub item_line : Item → List ℕ
+item_line (said m us) = say_line us
+item_line i = []
+
+abbrev pub item_lines : List Item → List ℕ
+item_lines [] = []
+item_lines (i ∷ is) = item_line i ++ item_lines is
+
+-- the line of a load: one that a fault or the want of a step cut off has none
+abbrev pub load_shown : Run → List ℕ
+load_shown (over e w z n) = end_shown w e
+load_shown (stopped f w z n) = []
+load_shown (out w z n) = []
+
+-- the log of a load, and how it ended: what was said, wherever it was cut off, and then its line
 abbrev pub load_log : Run → List ℕ
-load_log (over e w z n) = end_shown w e
-load_log (stopped f w z n) = []
-load_log (out w z n) = []
+load_log r = item_lines (printed (kept_of r)) ++ load_shown r
 
 abbrev pub load_end : Run → End
 load_end (over e w z n) = Done
