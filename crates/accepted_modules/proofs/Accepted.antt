@@ -1,8 +1,6 @@
--- A module that is of the first language and breaks no rule is a guest.
-use Rattle.std.proofs.Common.{◌≡◌, ℕ, ◌<◌, Bool, true, false, List, [], ◌∷◌, ◌++◌, map, Option, Some, None, cond, refl, sym, ap, ◌∙◌, subst}
-use Rattle.std.specs.Prelude.{◌||◌, IfSome}
-use Rattle.std.proofs.lemmas.List.Folds.{list_any-append}
-use Rattle.caja_units.specs.Units.{same_units}
+-- A module that breaks no rule is a guest.
+use Rattle.std.proofs.Common.{◌≡◌, ℕ, ◌+◌, ◌<◌, true, false, List, [], ◌∷◌, ◌++◌, map, Option, Some, None, cond, refl, sym, ◌∙◌, subst, arith}
+use Rattle.std.specs.Prelude.{not, IfSome}
 use Rattle.es3_tree.specs.Tree as t
 use Rattle.es3_tree.specs.Placed as p
 use Rattle.es3_tree.specs.Placed.{Placed}
@@ -10,28 +8,102 @@ use Rattle.es3_labels.specs.Around.{in_program}
 use Rattle.es3_labels.specs.Misplaced.{Misplaced, misplaced}
 use Rattle.es3_grammar.specs.Spots.{Spot}
 use Rattle.es3_grammar.specs.Grammar as grammar
-use Rattle.es3_grammar.specs.Grammar.{Spells, s_script}
+use Rattle.es3_grammar.specs.Grammar.{Spells}
 use Rattle.cajita_tree.specs.Tree as c
+use Rattle.cajita_names.specs.Rules.{fixed_names}
 use Rattle.cajita_names.specs.Declarations.{Declaration, declarations}
-use Rattle.cajita_names.specs.Scope.{declares}
-use Rattle.cajita_names.specs.Once.{names_of, is_variable, once_after, vars_of}
+use Rattle.cajita_names.specs.Scope.{declares, is_function}
+use Rattle.cajita_names.specs.Once.{names_of, vars_of}
 use Rattle.cajita_rules.specs.Faults.{Fault, redeclared, faults_in, bad_label, module_scope, all_faults, ordered, inserted, faults, first, is_before}
 use Rattle.cajita_forms.specs.Options.{one, both}
-use Rattle.cajita_rewrite.specs.Rewrite as rewriting
 use Rattle.cajita_rewrite.specs.Rewrite.{temps}
-use Rattle.source_sizes.specs.Sizes.{temps_of}
+use Rattle.source_sizes.specs.Sizes.{inner_temps, temps_everywhere}
 use Rattle.scope_rules.specs.Free.{free}
 use Rattle.scope_rules.specs.Resolve.{resolved, declared_functions, imports_of, module_of}
-use Rattle.scope_rules.specs.Language.{is_first}
-use Rattle.cajita_simulation.specs.Guest.{is_among, inner, GuestName, Guest, GuestModule, a_guest}
+use Rattle.cajita_simulation.specs.Guest.{is_among, Names, is_declared, within, GuestModule, a_guest}
 use Rattle.cajita_simulation.specs.Jumps.{no_jumps, Targets}
-use Rattle.accepted_modules.proofs.Declared.{never, no_front, no_back, either, right_there, fixed_guest, guest_same, Variables, named_variables, no_loop_variables, known_variables, once_same}
-use Rattle.accepted_modules.proofs.Places.{in_the_module}
-use Rattle.accepted_modules.proofs.Statements.{Meant, own_list}
-use Rattle.accepted_modules.proofs.Flat.{FlatBody, flat_body}
-use Rattle.accepted_modules.proofs.Jumps.{own_jumps}
+use Rattle.accepted_modules.proofs.Declared.{never, not_true, both_true, no_front, no_back, fixed_guest, once_same}
+use Rattle.accepted_modules.proofs.Formed.{FormedBody, formed_script}
+use Rattle.accepted_modules.proofs.Names.{not_there}
+use Rattle.accepted_modules.proofs.Words.{list_words}
+use Rattle.accepted_modules.proofs.Jumps.{module_jumps}
+use Rattle.accepted_modules.proofs.Places.{Place, within_own, in_the_module, outside}
+use Rattle.accepted_modules.proofs.Parts.{about, Few, fewer, Clear, HoldsBody, body_there, Means}
+use Rattle.accepted_modules.proofs.Expressions.{this_form, null_form, bool_form, num_form, text_form, name_form, array_form, object_form, dot_form, index_form, call_form, new_form, unary_form, step_form, binary_form, and_form, or_form, choice_form, assign_form, comma_form, no_exprs_form, more_exprs_form, no_fields_form, more_fields_form, no_expr_form, some_expr_form}
+use Rattle.accepted_modules.proofs.Statements.{block_form, var_form, empty_form, expression_form, branch_form, while_form, do_form, for_form, for_in_form, continue_form, break_form, return_form, with_form, switch_form, label_form, throw_form, try_form, declare_form, no_items_form, more_items_form, no_stmt_form, some_stmt_form, no_block_form, some_block_form, no_first_form, first_var_form, first_expr_form, loop_var_form, loop_expr_form, no_cases_form, more_cases_form, no_handler_form, some_handler_form, no_stmts_form, more_stmts_form, declaration_form, no_declaration_form}
+use Rattle.accepted_modules.proofs.Functions.{new_functions, named_functions, each_kind, distinct_functions, no_variables_name, variable_declared, function_declared, declared_variable, func_form, function_form}
 
--- no first fault, no fault
+-- ---- every part of a source
+
+part : (imports : List (List ℕ)) (outer : Names) {s : t.Sort} (x : Placed s) → Means imports outer s x
+part i o (p.this at) = this_form i o at
+part i o p.null = null_form i o
+part i o (p.bool b) = bool_form i o b
+part i o (p.num n) = num_form i o n
+part i o (p.text us) = text_form i o us
+part i o (p.name x) = name_form i o x
+part i o (p.array xs) = array_form i o xs (part i o xs)
+part i o (p.object fs) = object_form i o fs (part i o fs)
+part i o (p.function f) = function_form i o f (part i o f)
+part i o (p.dot x k) = dot_form i o x k (part i o x)
+part i o (p.index x y) = index_form i o x y (part i o x) (part i o y)
+part i o (p.call x xs) = call_form i o x xs (part i o x) (part i o xs)
+part i o (p.new x xs) = new_form i o x xs (part i o x) (part i o xs)
+part i o (p.unary op x at) = unary_form i o op x at (part i o x)
+part i o (p.step up before x) = step_form i o up before x (part i o x)
+part i o (p.binary op x y) = binary_form i o op x y (part i o x) (part i o y)
+part i o (p.and x y) = and_form i o x y (part i o x) (part i o y)
+part i o (p.or x y) = or_form i o x y (part i o x) (part i o y)
+part i o (p.choice x y z) = choice_form i o x y z (part i o x) (part i o y) (part i o z)
+part i o (p.assign op x y) = assign_form i o op x y (part i o x) (part i o y)
+part i o (p.comma x y) = comma_form i o x y (part i o x) (part i o y)
+part i o p.no_exprs = no_exprs_form i o
+part i o (p.more_exprs x xs) = more_exprs_form i o x xs (part i o x) (part i o xs)
+part i o p.no_fields = no_fields_form i o
+part i o (p.more_fields k x fs) = more_fields_form i o k x fs (part i o x) (part i o fs)
+part i o p.no_expr = no_expr_form i o
+part i o (p.some_expr x) = some_expr_form i o x (part i o x)
+part i o (p.block ss) = block_form i o ss (part i o ss)
+part i o (p.var is) = var_form i o is (part i o is)
+part i o p.empty = empty_form i o
+part i o (p.expression x) = expression_form i o x (part i o x)
+part i o (p.branch e x m) = branch_form i o e x m (part i o e) (part i o x) (part i o m)
+part i o (p.while_loop e x) = while_form i o e x (part i o e) (part i o x)
+part i o (p.do_loop x e) = do_form i o x e (part i o x) (part i o e)
+part i o (p.for_loop r e m x) = for_form i o r e m x (part i o r) (part i o e) (part i o m) (part i o x)
+part i o (p.for_in r e x) = for_in_form i o r e x (part i o r) (part i o e) (part i o x)
+part i o (p.continue n at) = continue_form i o n at
+part i o (p.break n at) = break_form i o n at
+part i o (p.return m at) = return_form i o m at (part i o m)
+part i o (p.with_object e x at) = with_form i o e x at
+part i o (p.switch e cs) = switch_form i o e cs (part i o e) (part i o cs)
+part i o (p.label l x) = label_form i o l x (part i o x)
+part i o (p.throw e) = throw_form i o e (part i o e)
+part i o (p.try ss d m) = try_form i o ss d m (part i o ss) (part i o d) (part i o m)
+part i o (p.declare f) = declare_form i o f
+part i o p.no_stmts = no_stmts_form i o
+part i o (p.more_stmts (p.declare (p.fun None ps body at)) ss) = no_declaration_form i o ps body at ss
+part i o (p.more_stmts (p.declare (p.fun (Some x) ps body at)) ss) = declaration_form i o x ps body at ss (func_form i o (Some x) ps body at (part i o body)) (part i o ss)
+part i o (p.more_stmts x ss) = more_stmts_form i o x ss refl (part i o x) (part i o ss)
+part i o p.no_items = no_items_form i o
+part i o (p.more_items x m is) = more_items_form i o x m is (part i o m) (part i o is)
+part i o p.no_stmt = no_stmt_form i o
+part i o (p.some_stmt x) = some_stmt_form i o x (part i o x)
+part i o p.no_block = no_block_form i o
+part i o (p.some_block ss) = some_block_form i o ss (part i o ss)
+part i o p.no_first = no_first_form i o
+part i o (p.first_var is) = first_var_form i o is (part i o is)
+part i o (p.first_expr x) = first_expr_form i o x (part i o x)
+part i o (p.loop_var x) = loop_var_form i o x
+part i o (p.loop_expr x) = loop_expr_form i o x (part i o x)
+part i o p.no_cases = no_cases_form i o
+part i o (p.more_cases m ss cs) = more_cases_form i o m ss cs (part i o m) (part i o ss) (part i o cs)
+part i o p.no_handler = no_handler_form i o
+part i o (p.some_handler x ss) = some_handler_form i o x ss (part i o ss)
+part i o (p.fun name ps body at) = func_form i o name ps body at (part i o body)
+part i o (p.script ss) = tt
+
+-- ---- no first fault, no fault
 
 inserted_some : (f : Fault) (fs : List Fault) → inserted f fs ≡ [] → ⊥
 inserted_some f [] e = absurd cc
@@ -49,98 +121,13 @@ pub first_none : (fs : List Fault) → first fs ≡ None → fs ≡ []
 first_none [] e = refl
 first_none (f ∷ fs) e = absurd cc
 
-clean_all : (body : Placed t.stmts) → first (faults [] body) ≡ None → all_faults [] body ≡ []
-clean_all body e = ordered_none (all_faults [] body) (first_none (faults [] body) e)
-
-clean_body : (body : Placed t.stmts) → first (faults [] body) ≡ None → faults_in (module_scope [] body) t.stmts body ≡ []
-clean_body body e = no_back (redeclared [] (declarations t.stmts body)) _ (no_front _ (map bad_label (misplaced in_program t.stmts body)) (clean_all body e))
-
 none_mapped : (ms : List Misplaced) → map bad_label ms ≡ [] → ms ≡ []
 none_mapped [] e = refl
 none_mapped (m ∷ ms) e = absurd cc
 
-clean_jumps : (body : Placed t.stmts) → first (faults [] body) ≡ None → misplaced in_program t.stmts body ≡ []
-clean_jumps body e = none_mapped _ (no_back (redeclared [] (declarations t.stmts body) ++ faults_in (module_scope [] body) t.stmts body) _ (clean_all body e))
-
--- the names that a guest's statements declare are a module's
-
-in_either : {A : Type 0} (xs ys : List (List ℕ)) (k : List ℕ) → is_among (xs ++ ys) k ≡ true → (is_among xs k ≡ true → A) → (is_among ys k ≡ true → A) → A
-in_either xs ys k there f g = either (is_among xs k) (is_among ys k) (sym (list_any-append (same_units k) xs ys) ∙ there) f g
-
-mutual
-  declared_names : (F V : List ℕ → Bool) (xs : c.Tree c.stmts) → Guest V F c.stmts xs → (k : List ℕ) → is_among (rewriting.declared c.stmts xs) k ≡ true → GuestName k
-  declared_names F V c.no_stmts g k there = never there
-  declared_names F V (c.more_stmts x xs) g k there = in_either (rewriting.declared c.stmt x) (rewriting.declared c.stmts xs) k there (declared_name F V x g.0 k) (declared_names F V xs g.1 k)
-
-  declared_name : (F V : List ℕ → Bool) (x : c.Tree c.stmt) → Guest V F c.stmt x → (k : List ℕ) → is_among (rewriting.declared c.stmt x) k ≡ true → GuestName k
-  declared_name F V (c.block xs) g k there = declared_names F V xs g k there
-  declared_name F V (c.var is) g k there = item_names F V is g k there
-  declared_name F V (c.branch e x y) g k there = in_either (rewriting.declared c.stmt x) (rewriting.declared c.maybe_stmt y) k there (declared_name F V x g.1 k) (side_names F V y g.2 k)
-  declared_name F V (c.while_loop e x) g k there = declared_name F V x g.1 k there
-  declared_name F V (c.do_loop x e) g k there = declared_name F V x g.0 k there
-  declared_name F V (c.for_loop i e u x) g k there = in_either (rewriting.declared c.first i) (rewriting.declared c.stmt x) k there (head_names F V i g.0 k) (declared_name F V x g.3 k)
-  declared_name F V (c.switch e cs) g k there = clause_names F V cs g.1 k there
-  declared_name F V (c.label l x) g k there = declared_name F V x g k there
-  declared_name F V (c.try xs h f) g k there = in_either (rewriting.declared c.stmts xs) (rewriting.declared c.handler h ++ rewriting.declared c.maybe_block f) k there (declared_names F V xs g.0 k) (λ more. in_either (rewriting.declared c.handler h) (rewriting.declared c.maybe_block f) k more (catch_names F V h g.1 k) (end_names F V f g.2 k))
-  declared_name F V (c.for_in x e b) g k there = absurd g
-  declared_name F V _ g k there = never there
-
-  side_names : (F V : List ℕ → Bool) (x : c.Tree c.maybe_stmt) → Guest V F c.maybe_stmt x → (k : List ℕ) → is_among (rewriting.declared c.maybe_stmt x) k ≡ true → GuestName k
-  side_names F V c.no_stmt g k there = never there
-  side_names F V (c.some_stmt x) g k there = declared_name F V x g k there
-
-  end_names : (F V : List ℕ → Bool) (x : c.Tree c.maybe_block) → Guest V F c.maybe_block x → (k : List ℕ) → is_among (rewriting.declared c.maybe_block x) k ≡ true → GuestName k
-  end_names F V c.no_block g k there = never there
-  end_names F V (c.some_block xs) g k there = declared_names F V xs g k there
-
-  head_names : (F V : List ℕ → Bool) (x : c.Tree c.first) → Guest V F c.first x → (k : List ℕ) → is_among (rewriting.declared c.first x) k ≡ true → GuestName k
-  head_names F V c.no_first g k there = never there
-  head_names F V (c.first_var is) g k there = item_names F V is g k there
-  head_names F V (c.first_expr e) g k there = never there
-
-  clause_names : (F V : List ℕ → Bool) (x : c.Tree c.cases) → Guest V F c.cases x → (k : List ℕ) → is_among (rewriting.declared c.cases x) k ≡ true → GuestName k
-  clause_names F V c.no_cases g k there = never there
-  clause_names F V (c.more_cases e xs cs) g k there = in_either (rewriting.declared c.stmts xs) (rewriting.declared c.cases cs) k there (declared_names F V xs g.1 k) (clause_names F V cs g.2 k)
-
-  catch_names : (F V : List ℕ → Bool) (x : c.Tree c.handler) → Guest V F c.handler x → (k : List ℕ) → is_among (rewriting.declared c.handler x) k ≡ true → GuestName k
-  catch_names F V c.no_handler g k there = never there
-  catch_names F V (c.some_handler x xs) g k there = declared_names (inner [] (x ∷ []) F) (inner [] (x ∷ []) V) xs g.1 k there
-
-  item_names : (F V : List ℕ → Bool) (is : c.Tree c.items) → Guest V F c.items is → (k : List ℕ) → is_among (rewriting.declared c.items is) k ≡ true → GuestName k
-  item_names F V c.no_items g k there = never there
-  item_names F V (c.more_items x e is) g k there = either (same_units k x) (is_among (rewriting.declared c.items is) k) there (λ same. guest_same k x same g.2) (item_names F V is g.4 k)
-
 -- ---- modules
 
-record FirstModule (body : Placed t.stmts) (m : c.Tree c.program) : Type 0 where
-  list : c.Tree c.stmts
-  is : m ≡ c.a_module (imports_of [] body) (c.a_body c.no_funcs (vars_of body) list)
-  first : is_first c.stmts list ≡ true
-  without : declared_functions body ≡ Some c.no_funcs
-  resolves : resolved t.stmts body ≡ Some list
-
-of_body : (body : Placed t.stmts) (fs : Option (c.Tree c.funcs)) (list : Option (c.Tree c.stmts)) → declared_functions body ≡ fs → resolved t.stmts body ≡ list
-    → IfSome (one (c.a_module (imports_of [] body)) (both (λ fs ss. c.a_body fs (vars_of body) ss) fs list)) (λ m. is_first c.program m ≡ true → FirstModule body m)
-unfolding is_first
-of_body body None list a b = tt
-of_body body (Some fs) None a b = tt
-of_body body (Some (c.more_funcs f fs)) (Some list) a b = never
-of_body body (Some c.no_funcs) (Some list) a b = λ e. record { list = list; is = refl; first = e; without = a; resolves = b }
-
-first_module : (body : Placed t.stmts) (m : c.Tree c.program) → module_of [] body ≡ Some m → is_first c.program m ≡ true → FirstModule body m
-first_module body m is = subst (λ o. IfSome o (λ x. is_first c.program x ≡ true → FirstModule body x)) is (of_body body (declared_functions body) (resolved t.stmts body) refl refl)
-
--- the words that are declared
-abbrev words_of : List Declaration → List (List ℕ)
-words_of [] = []
-words_of (d ∷ ds) = d.word.text ∷ words_of ds
-
-words_known : (ds : List Declaration) (k : List ℕ) → declares ds k ≡ is_among (words_of ds) k
-words_known [] k = refl
-words_known (d ∷ ds) k = ap (λ b. same_units k d.word.text || b) (words_known ds k)
-
--- the statements of such a body, over the names that it imports and those that may be written to
-module _ (body : Placed t.stmts) (list : c.Tree c.stmts) (one : is_first c.stmts list ≡ true) (flat : FlatBody body) (without : declared_functions body ≡ Some c.no_funcs) (resolves : resolved t.stmts body ≡ Some list) where
+module _ (body : Placed t.stmts) (h : FormedBody body) (fs : c.Tree c.funcs) (is : declared_functions body ≡ Some fs) (list : c.Tree c.stmts) (lists : resolved t.stmts body ≡ Some list) (clean : all_faults [] body ≡ []) where
   abbrev ds : List Declaration
   ds = declarations t.stmts body
 
@@ -150,42 +137,61 @@ module _ (body : Placed t.stmts) (list : c.Tree c.stmts) (one : is_first c.stmts
   abbrev vars : List (List ℕ)
   vars = vars_of body
 
-  abbrev wanted : List (List ℕ)
-  wanted = rewriting.declared c.stmts list
+  abbrev foreign : Names
+  foreign = outside ds given vars fs (each_kind [] body h fs is)
 
-  meant_over : (names : List (List ℕ)) (usable : (k : List ℕ) → declares ds k ≡ true → is_among names k ≡ true) → Meant (in_the_module ds given names usable) t.stmts body list
-  meant_over names usable = subst (λ o. IfSome o (Meant (in_the_module ds given names usable) t.stmts body)) resolves (own_list (in_the_module ds given names usable) body flat without)
+  abbrev P : Place given foreign
+  P = in_the_module ds given vars fs (each_kind [] body h fs is)
 
-  targets : misplaced in_program t.stmts body ≡ [] → Targets no_jumps [] c.stmts list
-  targets clean = subst (λ o. IfSome o (Targets no_jumps [] c.stmts)) resolves (own_jumps body flat without clean)
+  once : redeclared [] ds ≡ []
+  once = no_front (redeclared [] ds) _ (no_front _ (map bad_label (misplaced in_program t.stmts body)) clean)
 
-  variables_of : Variables ds wanted
-  variables_of = (meant_over (words_of ds) (λ k there. sym (words_known ds k) ∙ there)).variables one
+  without_faults : faults_in (module_scope [] body) t.stmts body ≡ []
+  without_faults = no_back (redeclared [] ds) _ (no_front _ (map bad_label (misplaced in_program t.stmts body)) clean)
 
-  vars_same : (k : List ℕ) → is_among vars k ≡ is_among wanted k
-  vars_same k =
-      let each : vars ≡ once_after [] wanted = ap (λ l. once_after (once_after [] (names_of is_variable ds)) l) (no_loop_variables ds wanted variables_of) ∙ ap (once_after []) (named_variables ds wanted variables_of) in
-      ap (λ l. is_among l k) each ∙ once_same [] wanted k
-
-  usable : (k : List ℕ) → declares ds k ≡ true → is_among vars k ≡ true
-  usable k there = vars_same k ∙ sym (known_variables ds wanted variables_of k) ∙ there
+  placed : misplaced in_program t.stmts body ≡ []
+  placed = none_mapped _ (no_back (redeclared [] ds ++ faults_in (module_scope [] body) t.stmts body) _ clean)
 
   given_same : (k : List ℕ) → is_among given k ≡ is_among (free (module_scope [] body) t.stmts body) k
   given_same k = once_same [] (free (module_scope [] body) t.stmts body) k
 
-  guest_module : faults_in (module_scope [] body) t.stmts body ≡ [] → misplaced in_program t.stmts body ≡ [] → temps c.stmts list < 18446744073709551616 → GuestModule (c.a_module given (c.a_body c.no_funcs vars list))
-  guest_module clean placed few =
-      let fine = (meant_over vars usable).accepted (λ k there. let own = vars_same k ∙ there in (right_there (is_among given k) _ own, own)) one clean (λ k there. given_same k ∙ there) in
-      a_guest given vars list vars_same
-      (λ k there. fixed_guest k (fine.fixed k (sym (given_same k) ∙ there)))
-      (λ k there. declared_names (is_among vars) (λ x. is_among given x || is_among vars x) list fine.guest k (sym (vars_same k) ∙ there))
-      few fine.guest (targets placed)
+  clear : Clear P (about (module_scope [] body) in_program t.stmts body)
+  clear = record {
+    usable = λ k e. let here = each_kind [] body h fs is k e in (within_own [] vars fs false (is_among given) k here, within_own [] vars fs false (λ x. false) k here);
+    granted = λ k e. given_same k ∙ e;
+    copied = λ e w. never w;
+    clean = without_faults;
+    placed = placed;
+  }
 
-flat_of : {body : Placed t.stmts} {u : List Spot} → Spells t.program grammar.free 0 (p.script body) u → FlatBody body
-flat_of (s_script ss u h) = flat_body h
+  held : HoldsBody P (about (module_scope [] body) in_program t.stmts body) (Some fs) (Some list)
+  held =
+      let both_held = (part given foreign body).in_body h P in_program in
+      subst (λ o. HoldsBody P (about (module_scope [] body) in_program t.stmts body) (Some fs) o) lists (subst (λ o. HoldsBody P (about (module_scope [] body) in_program t.stmts body) o (resolved t.stmts body)) is both_held)
 
--- the module of a tree that tokens spell and that breaks no rule is a guest, where it is of the first language and takes few temporaries
-pub guest_of : (body : Placed t.stmts) (u : List Spot) (m : c.Tree c.program) → Spells t.program grammar.free 0 (p.script body) u → first (faults [] body) ≡ None → module_of [] body ≡ Some m → is_first c.program m ≡ true → temps_of m < 18446744073709551616 → GuestModule m
-guest_of body u m spelled clean is one few =
-    let f = first_module body m is one in
-    subst GuestModule (sym f.is) (guest_module body f.list f.first (flat_of spelled) f.without f.resolves (clean_body body clean) (clean_jumps body clean) (subst (λ x. temps_of x < 18446744073709551616) f.is few))
+  words : (k : List ℕ) → declares ds k ≡ true → Rattle.cajita_simulation.specs.Guest.GuestName k
+  words = list_words (module_scope [] body) body without_faults
+
+  guest_module : Few (temps c.stmts list + (inner_temps c.funcs fs + inner_temps c.stmts list)) → GuestModule (c.a_module given (c.a_body fs vars list))
+  guest_module few =
+      let own_few : Few (temps c.stmts list) = fewer _ (temps c.stmts list + (inner_temps c.funcs fs + inner_temps c.stmts list)) (omega arith) few in
+      let inner_few : Few (inner_temps c.funcs fs + inner_temps c.stmts list) = fewer _ (temps c.stmts list + (inner_temps c.funcs fs + inner_temps c.stmts list)) (omega arith) few in
+      let fine = body_there P held inner_few clear in
+      let from_outside : (k : List ℕ) → is_among given k ≡ true → (not (declares ds k) ≡ true) × (is_among fixed_names k ≡ true) = λ k e. both_true (not (declares ds k)) (is_among fixed_names k) (fine.fixed k (sym (given_same k) ∙ e)) in
+      let targets : Targets no_jumps [] c.stmts list = subst (λ o. IfSome o (Targets no_jumps [] c.stmts)) lists (module_jumps body h placed) in
+      a_guest given vars fs list (declared_variable body list lists) (λ k e. fixed_guest k (from_outside k e).1) (λ k e. words k (variable_declared body k e)) own_few targets
+      (new_functions given vars fs (names_of is_function ds) (named_functions [] body h fs is) (distinct_functions [] body h fs is once)
+      (λ k e. (words k (function_declared body k e), not_there (is_among given k) (λ g. sym (not_true (declares ds k) (from_outside k g).0) ∙ function_declared body k e), no_variables_name [] body h fs is once k e)))
+      fine.functions fine.statements
+
+of_body : (body : Placed t.stmts) → FormedBody body → all_faults [] body ≡ [] → (fs : Option (c.Tree c.funcs)) (list : Option (c.Tree c.stmts)) → declared_functions body ≡ fs → resolved t.stmts body ≡ list
+    → IfSome (one (c.a_module (imports_of [] body)) (both (λ fs ss. c.a_body fs (vars_of body) ss) fs list)) (λ m. Few (temps_everywhere m) → GuestModule m)
+unfolding inner_temps
+of_body body h clean None list a b = tt
+of_body body h clean (Some fs) None a b = tt
+of_body body h clean (Some fs) (Some list) a b = λ few. guest_module body h fs a list b clean few
+
+-- the module of a tree that tokens spell and that breaks no rule is a guest, where it and its functions take few temporaries
+pub guest_of : (body : Placed t.stmts) (u : List Spot) (m : c.Tree c.program) → Spells t.program grammar.free 0 (p.script body) u → first (faults [] body) ≡ None → module_of [] body ≡ Some m → temps_everywhere m < 18446744073709551616 → GuestModule m
+guest_of body u m spelled clean is few =
+    subst (λ o. IfSome o (λ m. Few (temps_everywhere m) → GuestModule m)) is (of_body body (formed_script spelled) (ordered_none (all_faults [] body) (first_none (faults [] body) clean)) (declared_functions body) (resolved t.stmts body) refl refl) few

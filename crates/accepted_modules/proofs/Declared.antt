@@ -1,4 +1,4 @@
--- Names among others, what no fault says of a word, and the variables that a body declares.
+-- Names among others, and what no fault says of a word.
 use Rattle.std.proofs.Common.{◌≡◌, ℕ, Bool, true, false, List, [], ◌∷◌, ◌++◌, cond, refl, sym, ap, ◌∙◌, subst}
 use Rattle.std.specs.Prelude.{codes, ◌||◌, ◌&&◌, not}
 use Rattle.std.specs.Cmp.Lexicographic.{same_text}
@@ -7,11 +7,9 @@ use Rattle.caja_units.specs.Units.{same_units, is_hidden}
 use Rattle.es3_heap.proofs.Keys.{same_key-refl}
 use Rattle.es3_tree.specs.Placed.{Word}
 use Rattle.cajita_names.specs.Rules.{fixed_names}
-use Rattle.cajita_names.specs.Declarations.{Declaration, variable, declared_as}
-use Rattle.cajita_names.specs.Scope.{declares}
-use Rattle.cajita_names.specs.Once.{names_of, is_variable, is_loop_variable, once_after}
+use Rattle.cajita_names.specs.Once.{once_after}
 use Rattle.cajita_rules.specs.Faults.{Fault, hidden, reserved, declared}
-use Rattle.cajita_simulation.specs.Guest.{is_among, GuestName, GuestKey}
+use Rattle.cajita_simulation.specs.Guest.{is_among, Names, GuestName, GuestKey}
 
 -- tests
 
@@ -52,22 +50,22 @@ pub no_back : {A : Type 0} (fs gs : List A) → fs ++ gs ≡ [] → gs ≡ []
 no_back [] gs e = e
 no_back (f ∷ fs) gs e = absurd cc
 
--- the names of one list are all names of another
-abbrev pub AllAmong : List (List ℕ) → List (List ℕ) → Type 0
-AllAmong xs ys = (k : List ℕ) → is_among xs k ≡ true → is_among ys k ≡ true
+-- the names of a list are all of these
+abbrev pub AllIn : List (List ℕ) → Names → Type 0
+AllIn xs names = (k : List ℕ) → is_among xs k ≡ true → names k ≡ true
 
-pub all_front : (xs ys zs : List (List ℕ)) → AllAmong (xs ++ ys) zs → AllAmong xs zs
-all_front xs ys zs f k there = f k (list_any-append (same_units k) xs ys ∙ left_there _ _ there)
+pub all_front : (xs ys : List (List ℕ)) (names : Names) → AllIn (xs ++ ys) names → AllIn xs names
+all_front xs ys names f k there = f k (list_any-append (same_units k) xs ys ∙ left_there _ _ there)
 
-pub all_back : (xs ys zs : List (List ℕ)) → AllAmong (xs ++ ys) zs → AllAmong ys zs
-all_back xs ys zs f k there = f k (list_any-append (same_units k) xs ys ∙ right_there _ _ there)
+pub all_back : (xs ys : List (List ℕ)) (names : Names) → AllIn (xs ++ ys) names → AllIn ys names
+all_back xs ys names f k there = f k (list_any-append (same_units k) xs ys ∙ right_there _ _ there)
 
 pub either : {A : Type 0} (a b : Bool) → (a || b) ≡ true → (a ≡ true → A) → (b ≡ true → A) → A
 either true b e f g = f refl
 either false b e f g = g e
 
-pub all_both : (xs ys zs : List (List ℕ)) → AllAmong xs zs → AllAmong ys zs → AllAmong (xs ++ ys) zs
-all_both xs ys zs f g k there = either (is_among xs k) (is_among ys k) (sym (list_any-append (same_units k) xs ys) ∙ there) (f k) (g k)
+pub all_both : (xs ys : List (List ℕ)) (names : Names) → AllIn xs names → AllIn ys names → AllIn (xs ++ ys) names
+all_both xs ys names f g k there = either (is_among xs k) (is_among ys k) (sym (list_any-append (same_units k) xs ys) ∙ there) (f k) (g k)
 
 -- what no fault says of a word
 
@@ -118,28 +116,6 @@ fixed_guest k there = each_guest fixed_names (b refl refl, (b refl refl, (b refl
   where
     b : {x : List ℕ} → is_hidden x ≡ false → same_units x (codes "arguments") ≡ false → GuestName x
     b p q = record { open_name = p; own_name = q }
-
--- the declarations of a body are its variables
-
-pub data Variables : List Declaration → List (List ℕ) → Type 0 where
-  none : Variables [] []
-  more : (x : Word) (ds : List Declaration) (names : List (List ℕ)) → Variables ds names → Variables (declared_as variable x ∷ ds) (x.text ∷ names)
-
-pub together : (ds es : List Declaration) (xs ys : List (List ℕ)) → Variables ds xs → Variables es ys → Variables (ds ++ es) (xs ++ ys)
-together _ es _ ys none w = w
-together _ es _ ys (more x ds xs v) w = more x (ds ++ es) (xs ++ ys) (together ds es xs ys v w)
-
-pub named_variables : (ds : List Declaration) (xs : List (List ℕ)) → Variables ds xs → names_of is_variable ds ≡ xs
-named_variables _ _ none = refl
-named_variables _ _ (more x ds xs v) = ap (λ l. x.text ∷ l) (named_variables ds xs v)
-
-pub no_loop_variables : (ds : List Declaration) (xs : List (List ℕ)) → Variables ds xs → names_of is_loop_variable ds ≡ []
-no_loop_variables _ _ none = refl
-no_loop_variables _ _ (more x ds xs v) = no_loop_variables ds xs v
-
-pub known_variables : (ds : List Declaration) (xs : List (List ℕ)) → Variables ds xs → (k : List ℕ) → declares ds k ≡ is_among xs k
-known_variables _ _ none k = refl
-known_variables _ _ (more x ds xs v) k = ap (λ b. same_units k x.text || b) (known_variables ds xs v k)
 
 -- each name once is the same names
 

@@ -1,251 +1,237 @@
--- The expressions of a module that is of the first language and breaks no rule are a guest's.
-use Rattle.std.proofs.Common.{◌≡◌, ℕ, Bool, true, false, List, [], ◌∷◌, ◌++◌, Option, Some, None, cond, refl, sym, ◌∙◌}
-use Rattle.std.specs.Prelude.{◌&&◌}
+-- Each form of an expression of an accepted module is a guest's where its parts are.
+use Rattle.std.proofs.Common.{◌≡◌, ℕ, ◌+◌, ◌≤◌, Bool, true, false, List, [], ◌∷◌, ◌++◌, Option, Some, None, cond, refl, arith}
+use Rattle.std.specs.Prelude.{ℤ, not}
 use Rattle.es3_tree.specs.Tree as t
 use Rattle.es3_tree.specs.Placed as p
 use Rattle.es3_tree.specs.Placed.{Placed, Word}
 use Rattle.es3_tree.specs.declared.UnOp.{UnOp}
 use Rattle.es3_tree.specs.declared.UnOp.TheVariants as un
 use Rattle.es3_tree.specs.declared.BinOp.{BinOp}
-use Rattle.es3_tree.specs.declared.BinOp.TheVariants as bin
+use Rattle.es3_labels.specs.Around.{Around}
+use Rattle.es3_labels.specs.Misplaced.{misplaced}
 use Rattle.cajita_tree.specs.Tree as c
 use Rattle.cajita_tree.specs.Parts.{called, target_of}
-use Rattle.cajita_names.specs.Rules.{fixed_names}
-use Rattle.cajita_names.specs.Scope.{is_arguments}
-use Rattle.cajita_rules.specs.Faults.{Fault, hidden, reserved, repeated, used, written, deleted, target, no_target, faults_in}
-use Rattle.cajita_forms.specs.Options.{one, both, three, from}
+use Rattle.cajita_names.specs.Scope.{is_arguments, is_within, lacks}
+use Rattle.cajita_rules.specs.Faults.{hidden, an_eval, reserved, repeated, used, written, deleted, target, no_target, faults_in}
+use Rattle.cajita_forms.specs.Options.{one, both, from}
 use Rattle.cajita_forms.specs.Forms.{name_or_arguments, unary_of}
-use Rattle.scope_rules.specs.Free.{import_at, free}
-use Rattle.scope_rules.specs.Resolve.{of_sort, resolved}
-use Rattle.scope_rules.specs.Language.{is_first}
-use Rattle.cajita_simulation.specs.Guest.{Guest}
-use Rattle.accepted_modules.proofs.Declared.{both_true, never, no_front, no_back, AllAmong, all_front, all_back, all_both, none_there, guest_key, guest_used}
+use Rattle.cajita_forms.specs.Arguments.{names_arguments}
+use Rattle.source_sizes.specs.Sizes.{inner_temps}
+use Rattle.scope_rules.specs.Free.{free}
+use Rattle.scope_rules.specs.Resolve.{resolved}
+use Rattle.cajita_simulation.specs.Guest.{Names, Assigns}
+use Rattle.accepted_modules.proofs.Declared.{no_front, no_back, none_there, guest_key, guest_used, all_both}
 use Rattle.accepted_modules.proofs.Places.{Place, import_fixed}
+use Rattle.accepted_modules.proofs.Parts.{About, about, beside, before_faults, behind_faults, fewer, IsGuest, Fine, Accepts, Holds, lacking, held, clear_front, clear_back, clear_behind, more_behind, more_front, no_part, one_form, pair_form, three_form, Part, Means}
 
-pub three_true : (a b d : Bool) → ((a && b) && d) ≡ true → (a ≡ true) × (b ≡ true) × (d ≡ true)
-three_true a b d e = let h = both_true (a && b) d e in let g = both_true a b h.0 in (g.0, g.1, h.1)
+-- ---- names, operators, members
 
-module _ (imports : List (List ℕ)) (P : Place imports) where
-  -- a guest's part, over the names around it
-  abbrev pub IsGuest : (s : c.Sort) → c.Tree s → Type 0
-  IsGuest s y = Guest P.vars P.free s y
-
-  -- it is a guest's, and what it imports are fixed names
-  pub record Fine (is : List (List ℕ)) (s : c.Sort) (y : c.Tree s) : Type 0 where
-    pub guest : IsGuest s y
-    pub fixed : AllAmong is fixed_names
-
-  abbrev pub Accepts : List (List ℕ) → List Fault → (s : c.Sort) → c.Tree s → Type 0
-  Accepts is broken s y = is_first s y ≡ true → broken ≡ [] → AllAmong is imports → Fine is s y
-
-  -- no part is there, or one that is accepted
-  pub data Holds (is : List (List ℕ)) (broken : List Fault) (s : c.Sort) : Option (c.Tree s) → Type 0 where
-    lacking : Holds is broken s None
-    held : (y : c.Tree s) → Accepts is broken s y → Holds is broken s (Some y)
-
-  -- ---- forms by their parts
-
-  pub fine_both : {s u v : c.Sort} {f g : List (List ℕ)} {x : c.Tree s} {y : c.Tree u} {z : c.Tree v} → (IsGuest s x → IsGuest u y → IsGuest v z) → Fine f s x → Fine g u y → Fine (f ++ g) v z
-  fine_both {f = f} {g = g} guest a b = record { guest = guest a.guest b.guest; fixed = all_both f g fixed_names a.fixed b.fixed }
-
-  one_form : {s v : c.Sort} {is : List (List ℕ)} {fs : List Fault} {o : Option (c.Tree s)} (f : c.Tree s → c.Tree v) → ((y : c.Tree s) → is_first v (f y) ≡ true → is_first s y ≡ true) → ((y : c.Tree s) → IsGuest s y → IsGuest v (f y)) → Holds is fs s o → Holds is fs v (one f o)
-  one_form f part guest lacking = lacking
-  one_form f part guest (held y a) = held (f y) (λ e clean all. let h = a (part y e) clean all in record { guest = guest y h.guest; fixed = h.fixed })
-
-  pair_form : {s u v : c.Sort} {is js : List (List ℕ)} {fs gs : List Fault} {o : Option (c.Tree s)} {r : Option (c.Tree u)} (f : c.Tree s → c.Tree u → c.Tree v) → ((x : c.Tree s) (y : c.Tree u) → is_first v (f x y) ≡ true → (is_first s x ≡ true) × (is_first u y ≡ true)) → ((x : c.Tree s) (y : c.Tree u) → is_first v (f x y) ≡ true → IsGuest s x → IsGuest u y → IsGuest v (f x y)) → Holds is fs s o → Holds js gs u r → Holds (is ++ js) (fs ++ gs) v (both f o r)
-  pair_form f parts guest lacking b = lacking
-  pair_form f parts guest (held x a) lacking = lacking
-  pair_form {is = is} {js = js} {fs = fs} {gs = gs} f parts guest (held x a) (held y b) = held (f x y) (λ e clean all.
-      let h = parts x y e in
-      fine_both (guest x y e) (a h.0 (no_front fs gs clean) (all_front is js imports all)) (b h.1 (no_back fs gs clean) (all_back is js imports all)))
-
-  any_form : {s v : c.Sort} {is : List (List ℕ)} {fs : List Fault} (f : c.Tree s → c.Tree v) (o : Option (c.Tree s)) → ((y : c.Tree s) → is_first v (f y) ≡ false) → Holds is fs v (one f o)
-  any_form f None other = lacking
-  any_form f (Some y) other = held (f y) (λ e. never (sym (other y) ∙ e))
-
-  any_pair : {s u v : c.Sort} {is : List (List ℕ)} {fs : List Fault} (f : c.Tree s → c.Tree u → c.Tree v) (o : Option (c.Tree s)) (r : Option (c.Tree u)) → ((x : c.Tree s) (y : c.Tree u) → is_first v (f x y) ≡ false) → Holds is fs v (both f o r)
-  any_pair f None r other = lacking
-  any_pair f (Some x) None other = lacking
-  any_pair f (Some x) (Some y) other = held (f x y) (λ e. never (sym (other x y) ∙ e))
-
-  -- faults more, that aren't there
-
-  more_behind : {s : c.Sort} {is : List (List ℕ)} {fs : List Fault} {o : Option (c.Tree s)} (gs : List Fault) → Holds is fs s o → Holds is (fs ++ gs) s o
-  more_behind gs lacking = lacking
-  more_behind {fs = fs} gs (held y a) = held y (λ e clean all. a e (no_front fs gs clean) all)
-
-  -- ---- names
-
-  a_name : (x : Word) → is_arguments x.text ≡ false → Accepts (import_at P.around x) (used P.around x) c.expr (c.name x.text)
-  a_name x bare e clean all = record {
-    guest = (P.known x bare (none_there _ _ (no_back (hidden x ++ _) _ clean)) all, guest_used x bare (no_front (hidden x) _ (no_front (hidden x ++ _) _ clean)));
-    fixed = import_fixed P x;
-  }
-
-  name_part : (x : Word) → Holds (import_at P.around x) (used P.around x) c.expr (Some (name_or_arguments x.text))
-  unfolding is_first
+module _ {imports : List (List ℕ)} {outer : Names} (P : Place imports outer) (a : Around) where
+  name_part : (x : Word) → Holds P (about P.around a t.expr (p.name x)) c.expr (Some (name_or_arguments x.text))
+  unfolding faults_in free names_arguments
   name_part x =
-      let cases = elim (is_arguments x.text) as (λ b. is_arguments x.text ≡ b → Accepts (import_at P.around x) (used P.around x) c.expr (cond b c.args (c.name x.text))) [
-        | true ↦ λ is e. never e
-        | false ↦ λ is. a_name x is
-      ] in held (name_or_arguments x.text) (cases refl)
+      let cases = elim (is_arguments x.text) as (λ b. is_arguments x.text ≡ b → Holds P (about P.around a t.expr (p.name x)) c.expr (Some (cond b c.args (c.name x.text)))) [
+        | true ↦ λ is. held c.args (λ few clear. record { guest = clear.copied is (within_lacks is (none_there _ _ (no_back (hidden x ++ an_eval x) _ clear.clean))); fixed = import_fixed P x })
+        | false ↦ λ bare. held (c.name x.text) (λ few clear. record {
+          guest = (P.known x bare (none_there _ _ (no_back (hidden x ++ an_eval x) _ clear.clean)) clear.granted, guest_used x bare (no_front (hidden x) _ (no_front (hidden x ++ an_eval x) _ clear.clean)));
+          fixed = import_fixed P x;
+        })
+      ] in cases refl
+    where
+      within_lacks : is_arguments x.text ≡ true → lacks P.around x.text ≡ false → is_within P.around ≡ true
+      within_lacks is e = by (is_within P.around) (rw is at e)
+        where
+          by : (w : Bool) → not w ≡ false → w ≡ true
+          by true e = refl
+          by false e = absurd cc
 
-  -- a name that is written to
-  a_variable : (x : Word) → is_arguments x.text ≡ false → Accepts (import_at P.around x) (used P.around x ++ written P.around x) c.target (c.variable x.text)
-  a_variable x bare e clean all =
-      let as_used = no_front (used P.around x) (written P.around x) clean in
-      let lacked = none_there _ _ (no_back (hidden x ++ _) _ as_used) in
-      record {
-        guest = (P.known x bare lacked all, P.writable x bare lacked (none_there _ _ (no_front _ _ (no_back (used P.around x) (written P.around x) clean))), guest_used x bare (no_front (hidden x) _ (no_front (hidden x ++ _) _ as_used)));
-        fixed = import_fixed P x;
-      }
+  -- what is written to: a name, a member, nothing else
+  name_target : (x : Word) → Holds P (before_faults (written P.around x) (about P.around a t.expr (p.name x))) c.target (target_of (name_or_arguments x.text))
+  unfolding faults_in free names_arguments
+  name_target x =
+      let cases = elim (is_arguments x.text) as (λ b. is_arguments x.text ≡ b → Holds P (before_faults (written P.around x) (about P.around a t.expr (p.name x))) c.target (target_of (cond b c.args (c.name x.text)))) [
+        | true ↦ λ is. lacking
+        | false ↦ λ bare. held (c.variable x.text) (λ few clear.
+            let as_used = no_front (used P.around x) (written P.around x) clear.clean in
+            let lacked = none_there _ _ (no_back (hidden x ++ an_eval x) _ as_used) in
+            record {
+              guest = (P.known x bare lacked clear.granted, P.writable x bare lacked (none_there _ _ (no_front _ _ (no_back (used P.around x) (written P.around x) clear.clean))), guest_used x bare (no_front (hidden x) _ (no_front (hidden x ++ an_eval x) _ as_used)));
+              fixed = import_fixed P x;
+            })
+      ] in cases refl
 
-  -- ---- expressions
+  member_target : {A : About} (k : c.Tree c.expr → c.Tree c.expr) (m : c.Tree c.expr → c.Tree c.target) → ((y : c.Tree c.expr) → target_of (k y) ≡ Some (m y)) → ((y : c.Tree c.expr) → inner_temps c.expr (k y) ≤ inner_temps c.target (m y)) → ((y : c.Tree c.expr) → IsGuest P c.expr (k y) → IsGuest P c.target (m y))
+      → (o : Option (c.Tree c.expr)) → Holds P A c.expr (one k o) → Holds P A c.target (from target_of (one k o))
+  member_target k m is less guest None h = lacking
+  member_target {A = A} k m is less guest (Some y) (held _ f) = rw (is y) (held (m y) (λ few clear. let h = f (fewer _ _ (less y) few) clear in record { guest = guest y h.guest; fixed = h.fixed }))
 
-  -- an operator before its operand: what is deleted is a member
-  operator_part : {is : List (List ℕ)} {fs : List Fault} (op : UnOp) (gs : List Fault) (y : c.Tree c.expr) → Accepts is fs c.expr y → Holds is (gs ++ fs) c.expr (unary_of op y)
-  unfolding is_first
-  operator_part {fs = fs} un.Delete gs (c.read x k) a = held (c.delete x k) (λ e clean all. let h = a e (no_back gs fs clean) all in record { guest = h.guest; fixed = h.fixed })
-  operator_part un.Delete gs y a = lacking
-  operator_part {fs = fs} op gs y a = held (c.unary op y) (λ e clean all. let h = a e (no_back gs fs clean) all in record { guest = (tt, h.guest); fixed = h.fixed })
+  index_target : {A : About} (o r : Option (c.Tree c.expr)) → Holds P A c.expr (both (λ x y. c.read x (c.computed y)) o r) → Holds P A c.target (from target_of (both (λ x y. c.read x (c.computed y)) o r))
+  unfolding inner_temps
+  index_target None r h = lacking
+  index_target (Some x) None h = lacking
+  index_target (Some x) (Some y) (held _ f) = held (c.member x (c.computed y)) (λ few clear. let h = f few clear in record { guest = h.guest; fixed = h.fixed })
 
-  operated : {is : List (List ℕ)} {fs : List Fault} {o : Option (c.Tree c.expr)} (op : UnOp) (gs : List Fault) → Holds is fs c.expr o → Holds is (gs ++ fs) c.expr (from (unary_of op) o)
-  operated op gs lacking = lacking
-  operated op gs (held y a) = operator_part op gs y a
-
-  -- members
-
-  dot_part : {is : List (List ℕ)} {fs : List Fault} {o : Option (c.Tree c.expr)} (k : List ℕ) → Holds is fs c.expr o → Holds is fs c.expr (one (λ y. c.read y (c.fixed k)) o)
-  unfolding is_first
-  dot_part k a = one_form (λ y. c.read y (c.fixed k)) (λ y e. (both_true _ _ e).0) (λ y g. (g, tt)) a
-
-  index_part : {is js : List (List ℕ)} {fs gs : List Fault} {o r : Option (c.Tree c.expr)} → Holds is fs c.expr o → Holds js gs c.expr r → Holds (is ++ js) (fs ++ gs) c.expr (both (λ x y. c.read x (c.computed y)) o r)
-  unfolding is_first
-  index_part a b = pair_form (λ x y. c.read x (c.computed y)) (λ x y e. both_true _ _ e) (λ x y e g h. (g, h)) a b
-
-  -- as what is written to
-  dot_place : {is : List (List ℕ)} {fs : List Fault} {o : Option (c.Tree c.expr)} (k : List ℕ) → Holds is fs c.expr o → Holds is fs c.target (from target_of (one (λ y. c.read y (c.fixed k)) o))
-  unfolding is_first
-  dot_place k lacking = lacking
-  dot_place k (held y a) = held (c.member y (c.fixed k)) (λ e clean all. let h = a (both_true _ _ e).0 clean all in record { guest = (h.guest, tt); fixed = h.fixed })
-
-  index_place : {is js : List (List ℕ)} {fs gs : List Fault} {o r : Option (c.Tree c.expr)} → Holds is fs c.expr o → Holds js gs c.expr r → Holds (is ++ js) (fs ++ gs) c.target (from target_of (both (λ x y. c.read x (c.computed y)) o r))
-  unfolding is_first
-  index_place lacking b = lacking
-  index_place (held x a) lacking = lacking
-  index_place {is = is} {js = js} {fs = fs} {gs = gs} (held x a) (held y b) = held (c.member x (c.computed y)) (λ e clean all.
-      let h = both_true _ _ e in
-      fine_both (λ g q. (g, q)) (a h.0 (no_front fs gs clean) (all_front is js imports all)) (b h.1 (no_back fs gs clean) (all_back is js imports all)))
-
-  -- nothing else is written to
-  no_place : {is : List (List ℕ)} (fs : List Fault) (o : Option (c.Tree c.target)) → Holds is (fs ++ no_target ∷ []) c.target o
-  no_place fs None = lacking
-  no_place fs (Some y) = held y (λ e clean all. absurd (full (no_back fs (no_target ∷ []) clean)))
+  no_place : (A : About) (o : Option (c.Tree c.target)) → Holds P (before_faults (no_target ∷ []) A) c.target o
+  no_place A None = lacking
+  no_place A (Some y) = held y (λ few clear. absurd (full (no_back A.faults (no_target ∷ []) clear.clean)))
     where
       full : no_target ∷ [] ≡ [] → ⊥
       full e = absurd cc
 
-  -- an assignment by an operator that isn't `in` or `instanceof`
-  assign_first : (op : Option BinOp) (x : c.Tree c.target) (y : c.Tree c.expr) → is_first c.expr (c.assign op x y) ≡ true → (is_first c.target x ≡ true) × (is_first c.expr y ≡ true)
-  unfolding is_first
-  assign_first (Some bin.InObject) x y e = never e
-  assign_first (Some bin.InstanceOf) x y e = never e
-  assign_first op x y e = both_true _ _ e
+  pub target_part : (x : Placed t.expr) → Part P a t.expr x → Holds P (before_faults (target P.around x) (about P.around a t.expr x)) c.target (from target_of (resolved t.expr x))
+  unfolding resolved faults_in free names_arguments misplaced inner_temps
+  target_part (p.name x) h = name_target x
+  target_part (p.dot x k) h = more_behind P [] (member_target (λ y. c.read y (c.fixed k.text)) (λ y. c.member y (c.fixed k.text)) (λ y. refl) (λ y. omega arith) (λ y g. g) (resolved t.expr x) h)
+  target_part (p.index x y) h = more_behind P [] (index_target (resolved t.expr x) (resolved t.expr y) h)
+  target_part x h = no_place (about P.around a t.expr x) (from target_of (resolved t.expr x))
 
-  assign_guest : (op : Option BinOp) (x : c.Tree c.target) (y : c.Tree c.expr) → is_first c.expr (c.assign op x y) ≡ true → IsGuest c.target x → IsGuest c.expr y → IsGuest c.expr (c.assign op x y)
-  unfolding is_first
-  assign_guest None (c.variable x) y e g h = (tt, g, h)
-  assign_guest None (c.member x k) y e g h = (g.0, g.1, h)
-  assign_guest (Some bin.InObject) x y e g h = never e
-  assign_guest (Some bin.InstanceOf) x y e g h = never e
-  assign_guest (Some op) (c.variable x) y e g h = (tt, g, h)
-  assign_guest (Some op) (c.member x k) y e g h = (tt, g.0, g.1, h)
+  -- an operator before its operand: what is deleted is a member
+  operator_part : {A : About} (op : UnOp) (y : c.Tree c.expr) → Accepts P A c.expr y → Holds P A c.expr (unary_of op y)
+  unfolding inner_temps
+  operator_part un.Delete (c.read x k) f = held (c.delete x k) (λ few clear. let h = f few clear in record { guest = h.guest; fixed = h.fixed })
+  operator_part un.Delete y f = lacking
+  operator_part op y f = held (c.unary op y) (λ few clear. let h = f few clear in record { guest = (tt, h.guest); fixed = h.fixed })
 
-  step_guest : (up before : Bool) (x : c.Tree c.target) → IsGuest c.target x → IsGuest c.expr (c.step up before x)
+  operated : {A : About} {o : Option (c.Tree c.expr)} (op : UnOp) → Holds P A c.expr o → Holds P A c.expr (from (unary_of op) o)
+  operated op lacking = lacking
+  operated op (held y f) = operator_part op y f
+
+  assign_guest : (op : Option BinOp) (x : c.Tree c.target) (y : c.Tree c.expr) → Assigns op → IsGuest P c.target x → IsGuest P c.expr y → IsGuest P c.expr (c.assign op x y)
+  assign_guest None (c.variable x) y is g h = (is, g, h)
+  assign_guest None (c.member x k) y is g h = (g.0, g.1, h)
+  assign_guest (Some op) (c.variable x) y is g h = (is, g, h)
+  assign_guest (Some op) (c.member x k) y is g h = (is, g.0, g.1, h)
+
+  step_guest : (up before : Bool) (x : c.Tree c.target) → IsGuest P c.target x → IsGuest P c.expr (c.step up before x)
   step_guest up before (c.variable x) g = g
   step_guest up before (c.member x k) g = g
 
-  choice_part : {is js ks : List (List ℕ)} {fs gs hs : List Fault} {o r q : Option (c.Tree c.expr)} → Holds is fs c.expr o → Holds js gs c.expr r → Holds ks hs c.expr q → Holds ((is ++ js) ++ ks) ((fs ++ gs) ++ hs) c.expr (three c.choice o r q)
-  unfolding is_first
-  choice_part lacking b d = lacking
-  choice_part (held x a) lacking d = lacking
-  choice_part (held x a) (held y b) lacking = lacking
-  choice_part {is = is} {js = js} {ks = ks} {fs = fs} {gs = gs} {hs = hs} (held x a) (held y b) (held z d) = held (c.choice x y z) (λ e clean all.
-      let h = three_true _ _ _ e in
-      let two = no_front (fs ++ gs) hs clean in
-      let some = all_front (is ++ js) ks imports all in
-      let u = a h.0 (no_front fs gs two) (all_front is js imports some) in
-      let v = b h.1 (no_back fs gs two) (all_back is js imports some) in
-      let w = d h.2 (no_back (fs ++ gs) hs clean) (all_back (is ++ js) ks imports all) in
-      record { guest = (u.guest, v.guest, w.guest); fixed = all_both (is ++ js) ks fixed_names (all_both is js fixed_names u.fixed v.fixed) w.fixed })
+  -- 11.2.3: a call of a member is a call of a method
+  called_less : (x : c.Tree c.expr) (xs : c.Tree c.exprs) → inner_temps c.expr x + inner_temps c.exprs xs ≤ inner_temps c.expr (called x xs)
+  unfolding inner_temps
+  called_less (c.read x k) xs = omega arith
+  called_less x xs = omega arith
 
-  -- calls aren't of the language yet
-  no_call : (x : c.Tree c.expr) (xs : c.Tree c.exprs) → is_first c.expr (called x xs) ≡ false
-  unfolding is_first
-  no_call (c.read x k) xs = refl
-  no_call _ xs = refl
+  called_guest : (x : c.Tree c.expr) (xs : c.Tree c.exprs) → IsGuest P c.expr x → IsGuest P c.exprs xs → IsGuest P c.expr (called x xs)
+  called_guest (c.read x k) xs g h = (g.0, g.1, h)
+  called_guest x xs g h = (g, h)
 
-  field_part : {is js : List (List ℕ)} {fs gs : List Fault} {o : Option (c.Tree c.expr)} {r : Option (c.Tree c.fields)} (k : Word) → Holds is fs c.expr o → Holds js gs c.fields r → Holds (is ++ js) (((hidden k ++ reserved k) ++ fs) ++ gs) c.fields (both (c.more_fields k.text) o r)
-  unfolding is_first
+  field_part : {A B : About} {o : Option (c.Tree c.expr)} {r : Option (c.Tree c.fields)} (k : Word) → Holds P A c.expr o → Holds P B c.fields r → Holds P (beside (behind_faults (hidden k ++ reserved k) A) B) c.fields (both (c.more_fields k.text) o r)
+  unfolding inner_temps
   field_part k lacking b = lacking
-  field_part k (held x a) lacking = lacking
-  field_part {is = is} {js = js} {fs = fs} {gs = gs} k (held x a) (held y b) = held (c.more_fields k.text x y) (λ e clean all.
-      let h = both_true _ _ e in
-      let front = no_front ((hidden k ++ reserved k) ++ fs) gs clean in
-      fine_both (λ g q. (guest_key k (no_front (hidden k ++ reserved k) fs front), g, q)) (a h.0 (no_back (hidden k ++ reserved k) fs front) (all_front is js imports all)) (b h.1 (no_back ((hidden k ++ reserved k) ++ fs) gs clean) (all_back is js imports all)))
+  field_part k (held x f) lacking = lacking
+  field_part {A = A} {B = B} k (held x f) (held y b) = held (c.more_fields k.text x y) (λ few clear.
+      let front = clear_front P (behind_faults (hidden k ++ reserved k) A) B clear in
+      let g : Fine P A.imported c.expr x = f (fewer _ (inner_temps c.expr x + inner_temps c.fields y) (omega arith) few) (clear_behind P (hidden k ++ reserved k) A front) in
+      let h : Fine P B.imported c.fields y = b (fewer _ (inner_temps c.expr x + inner_temps c.fields y) (omega arith) few) (clear_back P (behind_faults (hidden k ++ reserved k) A) B clear) in
+      record { guest = (guest_key k (no_front (hidden k ++ reserved k) A.faults front.clean), g.guest, h.guest); fixed = all_both A.imported B.imported outer g.fixed h.fixed })
 
-  nothing : {s : c.Sort} (y : c.Tree s) → IsGuest s y → Holds [] [] s (Some y)
-  nothing y g = held y (λ e clean all. record { guest = g; fixed = λ k there. never there })
+-- ---- each form
 
-  abbrev pub Part : (s : t.Sort) → Placed s → Type 0
-  Part s x = Holds (free P.around s x) (faults_in P.around s x) (of_sort s) (resolved s x)
+module _ (imports : List (List ℕ)) (outer : Names) where
+  abbrev M : (s : t.Sort) → Placed s → Type 0
+  M s x = Means imports outer s x
 
-  mutual
-    unfolding resolved is_first faults_in free
+  pub this_form : (at : ℕ) → M t.expr (p.this at)
+  unfolding resolved
+  this_form at h P a = lacking
 
-    pub expression : (x : Placed t.expr) → Part t.expr x
-    expression (p.this a) = lacking
-    expression p.null = nothing c.null tt
-    expression (p.bool b) = nothing (c.bool b) tt
-    expression (p.num n) = nothing (c.num n) tt
-    expression (p.text us) = nothing (c.text us) tt
-    expression (p.name x) = name_part x
-    expression (p.array xs) = one_form c.array (λ y e. e) (λ y g. g) (expressions xs)
-    expression (p.object fs) = more_behind (repeated [] fs) (one_form c.record_of (λ y e. e) (λ y g. g) (fields fs))
-    expression (p.function f) = any_form c.function (resolved t.func f) (λ y. refl)
-    expression (p.dot x k) = more_behind (hidden k) (dot_part k.text (expression x))
-    expression (p.index x y) = index_part (expression x) (expression y)
-    expression (p.call x xs) = any_pair called (resolved t.expr x) (resolved t.exprs xs) no_call
-    expression (p.new x xs) = any_pair c.new (resolved t.expr x) (resolved t.exprs xs) (λ a b. refl)
-    expression (p.unary op x at) = operated op (deleted op at x) (expression x)
-    expression (p.step up before x) = one_form (c.step up before) (λ y e. e) (λ y g. step_guest up before y g) (place x)
-    expression (p.binary op x y) = pair_form (c.binary op) (λ a b e. both_true _ _ e) (λ a b e g h. (g, h)) (expression x) (expression y)
-    expression (p.and x y) = pair_form c.and (λ a b e. both_true _ _ e) (λ a b e g h. (g, h)) (expression x) (expression y)
-    expression (p.or x y) = pair_form c.or (λ a b e. both_true _ _ e) (λ a b e g h. (g, h)) (expression x) (expression y)
-    expression (p.choice x y z) = choice_part (expression x) (expression y) (expression z)
-    expression (p.assign op x y) = pair_form (c.assign op) (assign_first op) (assign_guest op) (place x) (expression y)
-    expression (p.comma x y) = pair_form c.comma (λ a b e. both_true _ _ e) (λ a b e g h. (g, h)) (expression x) (expression y)
+  pub null_form : M t.expr p.null
+  unfolding resolved free
+  null_form h P a = no_part P c.null refl tt
 
-    expressions : (xs : Placed t.exprs) → Part t.exprs xs
-    expressions p.no_exprs = nothing c.no_exprs tt
-    expressions (p.more_exprs x xs) = pair_form c.more_exprs (λ a b e. both_true _ _ e) (λ a b e g h. (g, h)) (expression x) (expressions xs)
+  pub bool_form : (v : Bool) → M t.expr (p.bool v)
+  unfolding resolved free
+  bool_form v h P a = no_part P (c.bool v) refl tt
 
-    fields : (fs : Placed t.fields) → Part t.fields fs
-    fields p.no_fields = nothing c.no_fields tt
-    fields (p.more_fields k x rest) = field_part k (expression x) (fields rest)
+  pub num_form : (n : ℤ) → M t.expr (p.num n)
+  unfolding resolved free
+  num_form n h P a = no_part P (c.num n) refl tt
 
-    -- what is written to
-    pub place : (x : Placed t.expr) → Holds (free P.around t.expr x) (faults_in P.around t.expr x ++ target P.around x) c.target (from target_of (resolved t.expr x))
-    place (p.name x) =
-        let cases = elim (is_arguments x.text) as (λ b. is_arguments x.text ≡ b → Holds (import_at P.around x) (used P.around x ++ written P.around x) c.target (target_of (cond b c.args (c.name x.text)))) [
-          | true ↦ λ is. lacking
-          | false ↦ λ is. held (c.variable x.text) (a_variable x is)
-        ] in cases refl
-    place (p.dot x k) = more_behind [] (more_behind (hidden k) (dot_place k.text (expression x)))
-    place (p.index x y) = more_behind [] (index_place (expression x) (expression y))
-    place x = no_place (faults_in P.around t.expr x) (from target_of (resolved t.expr x))
+  pub text_form : (us : List ℕ) → M t.expr (p.text us)
+  unfolding resolved free
+  text_form us h P a = no_part P (c.text us) refl tt
 
-  pub value : (m : Placed t.maybe_expr) → Part t.maybe_expr m
-  unfolding resolved is_first faults_in free
-  value p.no_expr = nothing c.no_expr tt
-  value (p.some_expr x) = one_form c.some_expr (λ y e. e) (λ y g. g) (expression x)
+  pub name_form : (x : Word) → M t.expr (p.name x)
+  unfolding resolved
+  name_form x h P a = name_part P a x
+
+  pub array_form : (xs : Placed t.exprs) → M t.exprs xs → M t.expr (p.array xs)
+  unfolding resolved faults_in free names_arguments misplaced inner_temps
+  array_form xs f h P a = one_form P c.array (λ y. omega arith) (λ y g. g) (f h P a)
+
+  pub object_form : (fs : Placed t.fields) → M t.fields fs → M t.expr (p.object fs)
+  unfolding resolved faults_in free names_arguments misplaced inner_temps
+  object_form fs f h P a = more_behind P (repeated [] fs) (one_form P c.record_of (λ y. omega arith) (λ y g. g) (f h P a))
+
+  pub dot_form : (x : Placed t.expr) (k : Word) → M t.expr x → M t.expr (p.dot x k)
+  unfolding resolved faults_in free names_arguments misplaced inner_temps
+  dot_form x k f h P a = more_behind P (hidden k) (one_form P (λ y. c.read y (c.fixed k.text)) (λ y. omega arith) (λ y g. (g, tt)) (f h P a))
+
+  pub index_form : (x y : Placed t.expr) → M t.expr x → M t.expr y → M t.expr (p.index x y)
+  unfolding resolved faults_in free names_arguments misplaced inner_temps
+  index_form x y f g h P a = pair_form P (λ u v. c.read u (c.computed v)) (λ u v. omega arith) (λ u v i j. (i, j)) (f h.0 P a) (g h.1 P a)
+
+  pub call_form : (x : Placed t.expr) (xs : Placed t.exprs) → M t.expr x → M t.exprs xs → M t.expr (p.call x xs)
+  unfolding resolved faults_in free names_arguments misplaced
+  call_form x xs f g h P a = pair_form P called (called_less P a) (called_guest P a) (f h.0 P a) (g h.1 P a)
+
+  pub new_form : (x : Placed t.expr) (xs : Placed t.exprs) → M t.expr x → M t.exprs xs → M t.expr (p.new x xs)
+  unfolding resolved faults_in free names_arguments misplaced inner_temps
+  new_form x xs f g h P a = pair_form P c.new (λ u v. omega arith) (λ u v i j. (i, j)) (f h.0 P a) (g h.1 P a)
+
+  pub unary_form : (op : UnOp) (x : Placed t.expr) (at : ℕ) → M t.expr x → M t.expr (p.unary op x at)
+  unfolding resolved faults_in free names_arguments misplaced
+  unary_form op x at f h P a = more_front P (deleted op at x) (operated P a op (f h P a))
+
+  pub step_form : (up before : Bool) (x : Placed t.expr) → M t.expr x → M t.expr (p.step up before x)
+  unfolding resolved faults_in free names_arguments misplaced inner_temps
+  step_form up before x f h P a = one_form P (c.step up before) (λ y. omega arith) (step_guest P a up before) (target_part P a x (f h P a))
+
+  pub binary_form : (op : BinOp) (x y : Placed t.expr) → M t.expr x → M t.expr y → M t.expr (p.binary op x y)
+  unfolding resolved faults_in free names_arguments misplaced inner_temps
+  binary_form op x y f g h P a = pair_form P (c.binary op) (λ u v. omega arith) (λ u v i j. (i, j)) (f h.0 P a) (g h.1 P a)
+
+  pub and_form : (x y : Placed t.expr) → M t.expr x → M t.expr y → M t.expr (p.and x y)
+  unfolding resolved faults_in free names_arguments misplaced inner_temps
+  and_form x y f g h P a = pair_form P c.and (λ u v. omega arith) (λ u v i j. (i, j)) (f h.0 P a) (g h.1 P a)
+
+  pub or_form : (x y : Placed t.expr) → M t.expr x → M t.expr y → M t.expr (p.or x y)
+  unfolding resolved faults_in free names_arguments misplaced inner_temps
+  or_form x y f g h P a = pair_form P c.or (λ u v. omega arith) (λ u v i j. (i, j)) (f h.0 P a) (g h.1 P a)
+
+  pub choice_form : (x y z : Placed t.expr) → M t.expr x → M t.expr y → M t.expr z → M t.expr (p.choice x y z)
+  unfolding resolved faults_in free names_arguments misplaced inner_temps
+  choice_form x y z f g k h P a = three_form P c.choice (λ u v w. omega arith) (λ u v w i j l. (i, j, l)) (f h.0 P a) (g h.1 P a) (k h.2 P a)
+
+  pub assign_form : (op : Option BinOp) (x y : Placed t.expr) → M t.expr x → M t.expr y → M t.expr (p.assign op x y)
+  unfolding resolved faults_in free names_arguments misplaced inner_temps
+  assign_form op x y f g h P a = pair_form P (c.assign op) (λ u v. omega arith) (λ u v i j. assign_guest P a op u v h.0 i j) (target_part P a x (f h.1 P a)) (g h.2 P a)
+
+  pub comma_form : (x y : Placed t.expr) → M t.expr x → M t.expr y → M t.expr (p.comma x y)
+  unfolding resolved faults_in free names_arguments misplaced inner_temps
+  comma_form x y f g h P a = pair_form P c.comma (λ u v. omega arith) (λ u v i j. (i, j)) (f h.0 P a) (g h.1 P a)
+
+  pub no_exprs_form : M t.exprs p.no_exprs
+  unfolding resolved free
+  no_exprs_form h P a = no_part P c.no_exprs refl tt
+
+  pub more_exprs_form : (x : Placed t.expr) (xs : Placed t.exprs) → M t.expr x → M t.exprs xs → M t.exprs (p.more_exprs x xs)
+  unfolding resolved faults_in free names_arguments misplaced inner_temps
+  more_exprs_form x xs f g h P a = pair_form P c.more_exprs (λ u v. omega arith) (λ u v i j. (i, j)) (f h.0 P a) (g h.1 P a)
+
+  pub no_fields_form : M t.fields p.no_fields
+  unfolding resolved free
+  no_fields_form h P a = no_part P c.no_fields refl tt
+
+  pub more_fields_form : (k : Word) (x : Placed t.expr) (fs : Placed t.fields) → M t.expr x → M t.fields fs → M t.fields (p.more_fields k x fs)
+  unfolding resolved faults_in free names_arguments misplaced
+  more_fields_form k x fs f g h P a = field_part P a k (f h.0 P a) (g h.1 P a)
+
+  pub no_expr_form : M t.maybe_expr p.no_expr
+  unfolding resolved free
+  no_expr_form h P a = no_part P c.no_expr refl tt
+
+  pub some_expr_form : (x : Placed t.expr) → M t.expr x → M t.maybe_expr (p.some_expr x)
+  unfolding resolved faults_in free names_arguments misplaced inner_temps
+  some_expr_form x f h P a = one_form P c.some_expr (λ y. omega arith) (λ y g. g) (f h P a)

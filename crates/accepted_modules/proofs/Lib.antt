@@ -1,7 +1,12 @@
 pub mod Declared
+pub mod Formed
+pub mod Names
+pub mod Words
+pub mod Variables
 pub mod Places
-pub mod Flat
 pub mod Jumps
+pub mod Parts
 pub mod Expressions
+pub mod Functions
 pub mod Statements
 pub mod Accepted

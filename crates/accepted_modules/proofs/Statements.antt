@@ -1,242 +1,235 @@
--- The statements of a module that is of the first language and breaks no rule are a guest's, and what they declare are its variables.
-use Rattle.std.proofs.Common.{◌≡◌, ℕ, true, false, List, [], ◌∷◌, ◌++◌, Option, Some, None, refl, sym, ◌∙◌, subst}
-use Rattle.std.specs.Prelude.{◌||◌, IfSome}
+-- Each form of a statement of an accepted module is a guest's where its parts are.
+use Rattle.std.proofs.Common.{◌≡◌, ℕ, ◌+◌, true, false, List, [], ◌∷◌, ◌++◌, Option, Some, None, refl, sym, ap, ◌∙◌, subst, arith}
+use Rattle.std.specs.Prelude.{◌||◌}
 use Rattle.std.proofs.lemmas.List.{append-nil}
-use Rattle.std.proofs.Common.{append_assoc}
 use Rattle.caja_units.specs.Units.{same_units}
 use Rattle.es3_heap.proofs.Keys.{same_key-refl}
 use Rattle.es3_tree.specs.Tree as t
 use Rattle.es3_tree.specs.Placed as p
 use Rattle.es3_tree.specs.Placed.{Placed, Word}
+use Rattle.es3_labels.specs.Around as around
+use Rattle.es3_labels.specs.Around.{Around}
+use Rattle.es3_labels.specs.Misplaced.{misplaced, jump, again, is_loop}
 use Rattle.cajita_tree.specs.Tree as c
-use Rattle.cajita_names.specs.Rules.{fixed_names}
-use Rattle.cajita_names.specs.Declarations.{Declaration, declarations}
-use Rattle.cajita_rules.specs.Faults.{Fault, hidden, declared, masking, faults_in}
-use Rattle.cajita_forms.specs.Options.{one, both, three, four}
-use Rattle.cajita_rewrite.specs.Rewrite as rewriting
+use Rattle.cajita_names.specs.Declarations as d
+use Rattle.cajita_names.specs.Declarations.{Declaration, declared_as, declarations}
+use Rattle.cajita_rules.specs.Faults.{hidden, declared, masking, faults_in}
+use Rattle.cajita_forms.specs.Options.{one, both}
+use Rattle.cajita_forms.specs.Forms.{text_of}
+use Rattle.cajita_forms.specs.Arguments.{names_arguments}
+use Rattle.source_sizes.specs.Sizes.{inner_temps}
+use Rattle.scope_rules.specs.Declaring.{is_declaration}
 use Rattle.scope_rules.specs.Free.{free}
-use Rattle.scope_rules.specs.Resolve.{of_sort, resolved, declared_functions}
-use Rattle.scope_rules.specs.Language.{is_first}
-use Rattle.cajita_simulation.specs.Guest.{is_among}
-use Rattle.accepted_modules.proofs.Declared.{both_true, never, no_front, no_back, right_there, left_there, all_front, all_back, all_both, guest_declared, Variables, none, more, together}
+use Rattle.scope_rules.specs.Resolve.{resolved, declared_functions}
+use Rattle.scope_rules.proofs.Declaring.{stands, declares_none}
+use Rattle.cajita_simulation.specs.Guest.{Names}
+use Rattle.accepted_modules.proofs.Declared.{never, left_there, right_there, no_front, no_back, guest_declared, all_both}
+use Rattle.accepted_modules.proofs.Formed.{Formed, FormedBody}
 use Rattle.accepted_modules.proofs.Places.{Place, in_the_catch}
-use Rattle.accepted_modules.proofs.Expressions.{IsGuest, Accepts, Holds, lacking, held, fine_both, three_true, expression, value}
-use Rattle.scope_rules.proofs.Options.{one_any}
-use Rattle.accepted_modules.proofs.Flat.{Flat, FlatBody, listed, without_functions}
+use Rattle.accepted_modules.proofs.Parts.{About, about, beside, behind_faults, declaring, fewer, Clear, Fine, Holds, lacking, held, clear_front, clear_back, clear_behind, more_front, more_jumps, same_declared, no_part, one_form, pair_form, three_form, four_form, both_held, body_more, body_declares, HoldsBody, Means}
+use Rattle.accepted_modules.proofs.Expressions.{target_part}
 
-module _ {imports : List (List ℕ)} (P : Place imports) where
-  -- these names may be read and written to
-  abbrev pub Usable : List (List ℕ) → Type 0
-  Usable names = (k : List ℕ) → is_among names k ≡ true → (P.vars k ≡ true) × (P.free k ≡ true)
+-- a word that is declared
+item_part : {imports : List (List ℕ)} {outer : Names} (P : Place imports outer) {A B : About} {o : Option (c.Tree c.maybe_expr)} {r : Option (c.Tree c.items)} (x : Word) → A.declared ≡ [] → Holds P A c.maybe_expr o → Holds P B c.items r
+    → Holds P (declaring (declared_as d.variable x ∷ B.declared) (beside (behind_faults (declared x) A) B)) c.items (both (c.more_items x.text) o r)
+unfolding inner_temps
+item_part P x bare lacking b = lacking
+item_part P x bare (held y f) lacking = lacking
+item_part {outer = outer} P {A = A} {B = B} x bare (held y f) (held z g) = held (c.more_items x.text y z) (λ few clear.
+    let here = clear.usable x.text (left_there (same_units x.text x.text) _ (same_key-refl x.text)) in
+    let both_clear : Clear P (declaring B.declared (beside (behind_faults (declared x) A) B)) = record { usable = λ k e. clear.usable k (right_there (same_units k x.text) _ e); granted = clear.granted; copied = clear.copied; clean = clear.clean; placed = clear.placed } in
+    let parts : Clear P (beside (behind_faults (declared x) A) B) = record { usable = λ k e. both_clear.usable k (subst (λ l. Rattle.cajita_names.specs.Scope.declares (l ++ B.declared) k ≡ true) bare e); granted = clear.granted; copied = clear.copied; clean = clear.clean; placed = clear.placed } in
+    let front = clear_front P (behind_faults (declared x) A) B parts in
+    let u : Fine P A.imported c.maybe_expr y = f (fewer _ (inner_temps c.maybe_expr y + inner_temps c.items z) (omega arith) few) (clear_behind P (declared x) A front) in
+    let v : Fine P B.imported c.items z = g (fewer _ (inner_temps c.maybe_expr y + inner_temps c.items z) (omega arith) few) (clear_back P (behind_faults (declared x) A) B parts) in
+    record { guest = (here.0, here.1, guest_declared x (no_front (declared x) A.faults front.clean), u.guest, v.guest); fixed = all_both A.imported B.imported outer u.fixed v.fixed })
 
-  -- a part with these declarations, which declares these names, imports those and has these faults
-  pub record Said (ds : List Declaration) (names is : List (List ℕ)) (fs : List Fault) (s : c.Sort) (y : c.Tree s) : Type 0 where
-    pub variables : is_first s y ≡ true → Variables ds names
-    pub accepted : Usable names → Accepts imports P is fs s y
+-- 12.14: a `catch` has its name more
+catch_part : {imports : List (List ℕ)} {outer : Names} (P : Place imports outer) {A : About} (x : Word) (o : Option (c.Tree c.stmts)) → Holds (in_the_catch P x.text) A c.stmts o → Holds P (behind_faults (declared x ++ masking P.around x) A) c.handler (one (c.some_handler x.text) o)
+unfolding inner_temps
+catch_part P x None f = lacking
+catch_part P {A = A} x (Some list) (held _ f) = held (c.some_handler x.text list) (λ few clear.
+    let inside : Clear (in_the_catch P x.text) A = record {
+      usable = λ k e. let u = clear.usable k e in (right_there (false || (same_units k x.text || false)) _ u.0, right_there (false || (same_units k x.text || false)) _ u.1);
+      granted = clear.granted;
+      copied = λ e w. right_there _ _ (clear.copied e w);
+      clean = no_back (declared x ++ masking P.around x) A.faults clear.clean;
+      placed = clear.placed;
+    } in
+    let g = f few inside in
+    record { guest = (guest_declared x (no_front (declared x) (masking P.around x) (no_front (declared x ++ masking P.around x) A.faults clear.clean)), g.guest); fixed = g.fixed })
 
-  -- an expression declares nothing
-  of_value : {s : c.Sort} {is : List (List ℕ)} {fs : List Fault} {o : Option (c.Tree s)} → Holds imports P is fs s o → IfSome o (λ y. Said [] [] is fs s y)
-  of_value lacking = tt
-  of_value (held y a) = record { variables = λ e. none; accepted = λ d. a }
+-- of a body each statement is formed that declares no function
+body_parts : (x : Placed t.stmt) (ss : Placed t.stmts) → false ≡ is_declaration x → FormedBody (p.more_stmts x ss) → Formed t.stmt x × FormedBody ss
+body_parts (p.declare f) ss plain h = absurd cc
+body_parts x ss plain h = (h.0, h.1)
 
-  usable_front : (xs ys : List (List ℕ)) → Usable (xs ++ ys) → Usable xs
-  usable_front xs ys d k there = d k (Rattle.std.proofs.lemmas.List.Folds.list_any-append (same_units k) xs ys ∙ left_there _ _ there)
+module _ (imports : List (List ℕ)) (outer : Names) where
+  abbrev M : (s : t.Sort) → Placed s → Type 0
+  M s x = Means imports outer s x
 
-  usable_back : (xs ys : List (List ℕ)) → Usable (xs ++ ys) → Usable ys
-  usable_back xs ys d k there = d k (Rattle.std.proofs.lemmas.List.Folds.list_any-append (same_units k) xs ys ∙ right_there _ _ there)
+  pub block_form : (ss : Placed t.stmts) → M t.stmts ss → M t.stmt (p.block ss)
+  unfolding resolved faults_in free names_arguments misplaced inner_temps declarations
+  block_form ss f h P a = one_form P c.block (λ y. omega arith) (λ y g. g) (f.in_block h P a)
 
-  -- two parts of which each is said
-  two_said : {s u v : c.Sort} {ds es : List Declaration} {xs ys is js : List (List ℕ)} {fs gs : List Fault} {x : c.Tree s} {y : c.Tree u} {z : c.Tree v} → (is_first v z ≡ true → (is_first s x ≡ true) × (is_first u y ≡ true)) → (IsGuest imports P s x → IsGuest imports P u y → IsGuest imports P v z) → Said ds xs is fs s x → Said es ys js gs u y → Said (ds ++ es) (xs ++ ys) (is ++ js) (fs ++ gs) v z
-  two_said {ds = ds} {es = es} {xs = xs} {ys = ys} {is = is} {js = js} {fs = fs} {gs = gs} parts guest a b = record {
-    variables = λ e. let h = parts e in together ds es xs ys (a.variables h.0) (b.variables h.1);
-    accepted = λ d e clean all.
-        let h = parts e in
-        fine_both imports P guest (a.accepted (usable_front xs ys d) h.0 (no_front fs gs clean) (all_front is js imports all)) (b.accepted (usable_back xs ys d) h.1 (no_back fs gs clean) (all_back is js imports all));
+  pub var_form : (is : Placed t.items) → M t.items is → M t.stmt (p.var is)
+  unfolding resolved faults_in free names_arguments misplaced inner_temps declarations
+  var_form is f h P a = one_form P c.var (λ y. omega arith) (λ y g. g) (f h P a)
+
+  pub empty_form : M t.stmt p.empty
+  unfolding resolved free
+  empty_form h P a = no_part P c.empty refl tt
+
+  pub expression_form : (x : Placed t.expr) → M t.expr x → M t.stmt (p.expression x)
+  unfolding resolved faults_in free names_arguments misplaced inner_temps declarations
+  expression_form x f h P a = one_form P c.expression (λ y. omega arith) (λ y g. g) (f h P a)
+
+  pub branch_form : (e : Placed t.expr) (x : Placed t.stmt) (m : Placed t.maybe_stmt) → M t.expr e → M t.stmt x → M t.maybe_stmt m → M t.stmt (p.branch e x m)
+  unfolding resolved faults_in free names_arguments misplaced inner_temps declarations
+  branch_form e x m f g k h P a = three_form P c.branch (λ u v w. omega arith) (λ u v w i j l. (i, j, l)) (f h.0 P a) (g h.1 P a) (k h.2 P a)
+
+  pub while_form : (e : Placed t.expr) (x : Placed t.stmt) → M t.expr e → M t.stmt x → M t.stmt (p.while_loop e x)
+  unfolding resolved faults_in free names_arguments misplaced inner_temps declarations
+  while_form e x f g h P a = pair_form P c.while_loop (λ u v. omega arith) (λ u v i j. (i, j)) (f h.0 P a) (g h.1 P (around.in_loop a))
+
+  pub do_form : (x : Placed t.stmt) (e : Placed t.expr) → M t.stmt x → M t.expr e → M t.stmt (p.do_loop x e)
+  unfolding resolved faults_in free names_arguments misplaced inner_temps declarations
+  do_form x e f g h P a = same_declared P (declarations t.stmt x) (append-nil (declarations t.stmt x)) (pair_form P c.do_loop (λ u v. omega arith) (λ u v i j. (i, j)) (f h.0 P (around.in_loop a)) (g h.1 P a))
+
+  pub for_form : (i : Placed t.first) (e m : Placed t.maybe_expr) (x : Placed t.stmt) → M t.first i → M t.maybe_expr e → M t.maybe_expr m → M t.stmt x → M t.stmt (p.for_loop i e m x)
+  unfolding resolved faults_in free names_arguments misplaced inner_temps declarations
+  for_form i e m x f g k l h P a =
+      same_declared P (declarations t.first i ++ declarations t.stmt x) (ap (λ ds. ds ++ declarations t.stmt x) (append-nil (declarations t.first i ++ []) ∙ append-nil (declarations t.first i)))
+      (four_form P c.for_loop (λ u v w z. omega arith) (λ u v w z q r s o. (q, r, s, o)) (f h.0 P a) (g h.1 P a) (k h.2 P a) (l h.3 P (around.in_loop a)))
+
+  pub for_in_form : (i : Placed t.loop_target) (e : Placed t.expr) (x : Placed t.stmt) → M t.loop_target i → M t.expr e → M t.stmt x → M t.stmt (p.for_in i e x)
+  unfolding resolved faults_in free names_arguments misplaced inner_temps declarations
+  for_in_form i e x f g k h P a =
+      same_declared P (declarations t.loop_target i ++ declarations t.stmt x) (ap (λ ds. ds ++ declarations t.stmt x) (append-nil (declarations t.loop_target i)))
+      (three_form P c.for_in (λ u v w. omega arith) (λ u v w q r s. (q, r, s)) (f h.0 P a) (g h.1 P a) (k h.2 P (around.in_loop a)))
+
+  pub continue_form : (n : Option Word) (at : ℕ) → M t.stmt (p.continue n at)
+  unfolding resolved free
+  continue_form n at h P a = no_part P (c.continue (text_of n)) refl tt
+
+  pub break_form : (n : Option Word) (at : ℕ) → M t.stmt (p.break n at)
+  unfolding resolved free
+  break_form n at h P a = no_part P (c.break (text_of n)) refl tt
+
+  pub return_form : (m : Placed t.maybe_expr) (at : ℕ) → M t.maybe_expr m → M t.stmt (p.return m at)
+  unfolding resolved faults_in free names_arguments misplaced inner_temps declarations
+  return_form m at f h P a = more_jumps P (jump (around.has_function a) at) (one_form P c.return (λ y. omega arith) (λ y g. g) (f h P a))
+
+  pub with_form : (e : Placed t.expr) (x : Placed t.stmt) (at : ℕ) → M t.stmt (p.with_object e x at)
+  unfolding resolved
+  with_form e x at h P a = lacking
+
+  pub switch_form : (e : Placed t.expr) (cs : Placed t.cases) → M t.expr e → M t.cases cs → M t.stmt (p.switch e cs)
+  unfolding resolved faults_in free names_arguments misplaced inner_temps declarations
+  switch_form e cs f g h P a = pair_form P c.switch (λ u v. omega arith) (λ u v i j. (i, j)) (f h.0 P a) (g h.1 P (around.in_switch a))
+
+  pub label_form : (l : Word) (x : Placed t.stmt) → M t.stmt x → M t.stmt (p.label l x)
+  unfolding resolved faults_in free names_arguments misplaced inner_temps declarations
+  label_form l x f h P a = more_jumps P (again (around.has_label a l.text) l) (more_front P (hidden l) (one_form P (c.label l.text) (λ y. omega arith) (λ y g. g) (f h P (around.in_label l.text (is_loop x) a))))
+
+  pub throw_form : (e : Placed t.expr) → M t.expr e → M t.stmt (p.throw e)
+  unfolding resolved faults_in free names_arguments misplaced inner_temps declarations
+  throw_form e f h P a = one_form P c.throw (λ y. omega arith) (λ y g. g) (f h P a)
+
+  pub try_form : (ss : Placed t.stmts) (d : Placed t.handler) (m : Placed t.maybe_block) → M t.stmts ss → M t.handler d → M t.maybe_block m → M t.stmt (p.try ss d m)
+  unfolding resolved faults_in free names_arguments misplaced inner_temps declarations
+  try_form ss d m f g k h P a = three_form P c.try (λ u v w. omega arith) (λ u v w i j l. (i, j, l)) (f.in_block h.0 P a) (g h.1 P a) (k h.2 P a)
+
+  pub declare_form : (f : Placed t.func) → M t.stmt (p.declare f)
+  declare_form f h P a = absurd h
+
+  pub no_items_form : M t.items p.no_items
+  unfolding resolved free
+  no_items_form h P a = no_part P c.no_items refl tt
+
+  pub more_items_form : (x : Word) (m : Placed t.maybe_expr) (is : Placed t.items) → M t.maybe_expr m → M t.items is → M t.items (p.more_items x m is)
+  unfolding resolved faults_in free names_arguments misplaced declarations
+  more_items_form x m is f g h P a = item_part P x refl (f h.0 P a) (g h.1 P a)
+
+  pub no_stmt_form : M t.maybe_stmt p.no_stmt
+  unfolding resolved free
+  no_stmt_form h P a = no_part P c.no_stmt refl tt
+
+  pub some_stmt_form : (x : Placed t.stmt) → M t.stmt x → M t.maybe_stmt (p.some_stmt x)
+  unfolding resolved faults_in free names_arguments misplaced inner_temps declarations
+  some_stmt_form x f h P a = one_form P c.some_stmt (λ y. omega arith) (λ y g. g) (f h P a)
+
+  pub no_block_form : M t.maybe_block p.no_block
+  unfolding resolved free
+  no_block_form h P a = no_part P c.no_block refl tt
+
+  pub some_block_form : (ss : Placed t.stmts) → M t.stmts ss → M t.maybe_block (p.some_block ss)
+  unfolding resolved faults_in free names_arguments misplaced inner_temps declarations
+  some_block_form ss f h P a = one_form P c.some_block (λ y. omega arith) (λ y g. g) (f.in_block h P a)
+
+  pub no_first_form : M t.first p.no_first
+  unfolding resolved free
+  no_first_form h P a = no_part P c.no_first refl tt
+
+  pub first_var_form : (is : Placed t.items) → M t.items is → M t.first (p.first_var is)
+  unfolding resolved faults_in free names_arguments misplaced inner_temps declarations
+  first_var_form is f h P a = one_form P c.first_var (λ y. omega arith) (λ y g. g) (f h P a)
+
+  pub first_expr_form : (x : Placed t.expr) → M t.expr x → M t.first (p.first_expr x)
+  unfolding resolved faults_in free names_arguments misplaced inner_temps declarations
+  first_expr_form x f h P a = one_form P c.first_expr (λ y. omega arith) (λ y g. g) (f h P a)
+
+  -- 12.6.4: what the keys are given to
+  pub loop_var_form : (x : Word) → M t.loop_target (p.loop_var x)
+  unfolding resolved faults_in free declarations
+  loop_var_form x h P a = held (c.variable x.text) (λ few clear.
+      let here = clear.usable x.text (left_there (same_units x.text x.text) false (same_key-refl x.text)) in
+      record { guest = (here.0, here.1, guest_declared x clear.clean); fixed = λ k e. never e })
+
+  pub loop_expr_form : (x : Placed t.expr) → M t.expr x → M t.loop_target (p.loop_expr x)
+  unfolding resolved faults_in free names_arguments misplaced declarations
+  loop_expr_form x f h P a = target_part P a x (f h P a)
+
+  pub no_cases_form : M t.cases p.no_cases
+  unfolding resolved free
+  no_cases_form h P a = no_part P c.no_cases refl tt
+
+  pub more_cases_form : (m : Placed t.maybe_expr) (ss : Placed t.stmts) (cs : Placed t.cases) → M t.maybe_expr m → M t.stmts ss → M t.cases cs → M t.cases (p.more_cases m ss cs)
+  unfolding resolved faults_in free names_arguments misplaced inner_temps declarations
+  more_cases_form m ss cs f g k h P a = three_form P c.more_cases (λ u v w. omega arith) (λ u v w i j l. (i, j, l)) (f h.0 P a) (g.in_block h.1 P a) (k h.2 P a)
+
+  pub no_handler_form : M t.handler p.no_handler
+  unfolding resolved free
+  no_handler_form h P a = no_part P c.no_handler refl tt
+
+  pub some_handler_form : (x : Word) (ss : Placed t.stmts) → M t.stmts ss → M t.handler (p.some_handler x ss)
+  unfolding resolved faults_in free names_arguments misplaced declarations
+  some_handler_form x ss f h P a = catch_part P x (resolved t.stmts ss) (f.in_block h (in_the_catch P x.text) a)
+
+  -- ---- lists of statements, in a block and in a body
+
+  pub no_stmts_form : M t.stmts p.no_stmts
+  unfolding resolved free inner_temps
+  no_stmts_form = record { in_block = λ h P a. no_part P c.no_stmts refl tt; in_body = λ h P a. both_held c.no_funcs c.no_stmts (λ few clear. record { functions = tt; statements = tt; fixed = λ k e. never e }) }
+
+  pub more_stmts_form : (x : Placed t.stmt) (ss : Placed t.stmts) → false ≡ is_declaration x → M t.stmt x → M t.stmts ss → M t.stmts (p.more_stmts x ss)
+  unfolding resolved faults_in free names_arguments misplaced inner_temps declarations
+  more_stmts_form x ss plain f g = record {
+    in_block = λ h P a. subst (λ o. Holds P (about P.around a t.stmts (p.more_stmts x ss)) c.stmts o) (sym (stands x (resolved t.stmt x) (resolved t.stmts ss) plain)) (pair_form P c.more_stmts (λ u v. omega arith) (λ u v i j. (i, j)) (f h.0 P a) (g.in_block h.1 P a));
+    in_body = λ h P a.
+        let parts = body_parts x ss plain h in
+        subst (λ o. HoldsBody P (about P.around a t.stmts (p.more_stmts x ss)) o (resolved t.stmts (p.more_stmts x ss))) (sym (declares_none x ss plain))
+        (subst (λ o. HoldsBody P (about P.around a t.stmts (p.more_stmts x ss)) (declared_functions ss) o) (sym (stands x (resolved t.stmt x) (resolved t.stmts ss) plain)) (body_more P (f parts.0 P a) (g.in_body parts.1 P a)));
   }
 
-  -- the same, of another form
-  as_said : {s v : c.Sort} {ds : List Declaration} {xs is : List (List ℕ)} {fs : List Fault} {x : c.Tree s} {z : c.Tree v} → (is_first v z ≡ true → is_first s x ≡ true) → (IsGuest imports P s x → IsGuest imports P v z) → Said ds xs is fs s x → Said ds xs is fs v z
-  as_said part guest a = record { variables = λ e. a.variables (part e); accepted = λ d e clean all. let h = a.accepted d (part e) clean all in record { guest = guest h.guest; fixed = h.fixed } }
+  -- 13: a function that is declared
+  declared_part : (P : Place imports outer) {A : About} {o : Option (c.Tree c.func)} (x : Word) → A.declared ≡ [] → Holds P A c.func o → Holds P (declaring (declared_as d.function x ∷ []) (behind_faults (declared x) A)) c.func o
+  declared_part P x bare lacking = lacking
+  declared_part P {A = A} x bare (held y f) = held y (λ few clear. f few (record { usable = λ k e. never (subst (λ l. Rattle.cajita_names.specs.Scope.declares l k ≡ true) bare e); granted = clear.granted; copied = clear.copied; clean = no_back (declared x) A.faults clear.clean; placed = clear.placed }))
 
-  -- faults more in front, that aren't there
-  in_front : {s : c.Sort} {ds : List Declaration} {xs is : List (List ℕ)} {fs : List Fault} {x : c.Tree s} (gs : List Fault) → Said ds xs is fs s x → Said ds xs is (gs ++ fs) s x
-  in_front {fs = fs} gs a = record { variables = a.variables; accepted = λ d e clean all. a.accepted d e (no_back gs fs clean) all }
+  pub declaration_form : (x : Word) (ps : List Word) (body : Placed t.stmts) (at : ℕ) (ss : Placed t.stmts) → M t.func (p.fun (Some x) ps body at) → M t.stmts ss → M t.stmts (p.more_stmts (p.declare (p.fun (Some x) ps body at)) ss)
+  unfolding resolved faults_in free names_arguments misplaced declarations
+  declaration_form x ps body at ss f g = record { in_block = λ h P a. absurd h.0; in_body = λ h P a. body_declares P (declared_part P x refl (f h.0 P a)) (g.in_body h.1 P a) }
 
-  -- the same declarations and names, otherwise put together
-  renamed : {s : c.Sort} {ds es : List Declaration} {xs ys is : List (List ℕ)} {fs : List Fault} {x : c.Tree s} → ds ≡ es → xs ≡ ys → Said ds xs is fs s x → Said es ys is fs s x
-  renamed {s = s} {ds = ds} {es = es} {xs = xs} {ys = ys} {is = is} {fs = fs} {x = x} d n a = subst (λ l. Said l ys is fs s x) d (subst (λ l. Said ds l is fs s x) n a)
-
-  -- what holds of the forms of one, two, three and four parts
-
-  one_said : {s v : c.Sort} {Q : c.Tree s → Type 0} (R : c.Tree v → Type 0) (o : Option (c.Tree s)) (f : c.Tree s → c.Tree v) → ((x : c.Tree s) → Q x → R (f x)) → IfSome o Q → IfSome (one f o) R
-  one_said R None f g a = tt
-  one_said R (Some x) f g a = g x a
-
-  both_said : {s u v : c.Sort} {Q : c.Tree s → Type 0} {T : c.Tree u → Type 0} (R : c.Tree v → Type 0) (o : Option (c.Tree s)) (r : Option (c.Tree u)) (f : c.Tree s → c.Tree u → c.Tree v) → ((x : c.Tree s) (y : c.Tree u) → Q x → T y → R (f x y)) → IfSome o Q → IfSome r T → IfSome (both f o r) R
-  both_said R None r f g a b = tt
-  both_said R (Some x) None f g a b = tt
-  both_said R (Some x) (Some y) f g a b = g x y a b
-
-  three_said : {s u v w : c.Sort} {Q : c.Tree s → Type 0} {T : c.Tree u → Type 0} {V : c.Tree v → Type 0} (R : c.Tree w → Type 0) (o : Option (c.Tree s)) (r : Option (c.Tree u)) (q : Option (c.Tree v)) (f : c.Tree s → c.Tree u → c.Tree v → c.Tree w) → ((x : c.Tree s) (y : c.Tree u) (z : c.Tree v) → Q x → T y → V z → R (f x y z)) → IfSome o Q → IfSome r T → IfSome q V → IfSome (three f o r q) R
-  three_said R None r q f g a b d = tt
-  three_said R (Some x) None q f g a b d = tt
-  three_said R (Some x) (Some y) None f g a b d = tt
-  three_said R (Some x) (Some y) (Some z) f g a b d = g x y z a b d
-
-  four_said : {s u v w n : c.Sort} {Q : c.Tree s → Type 0} {T : c.Tree u → Type 0} {V : c.Tree v → Type 0} {W : c.Tree w → Type 0} (R : c.Tree n → Type 0) (o : Option (c.Tree s)) (r : Option (c.Tree u)) (q : Option (c.Tree v)) (l : Option (c.Tree w)) (f : c.Tree s → c.Tree u → c.Tree v → c.Tree w → c.Tree n) → ((x : c.Tree s) (y : c.Tree u) (z : c.Tree v) (m : c.Tree w) → Q x → T y → V z → W m → R (f x y z m)) → IfSome o Q → IfSome r T → IfSome q V → IfSome l W → IfSome (four f o r q l) R
-  four_said R None r q l f g a b d e = tt
-  four_said R (Some x) None q l f g a b d e = tt
-  four_said R (Some x) (Some y) None l f g a b d e = tt
-  four_said R (Some x) (Some y) (Some z) None f g a b d e = tt
-  four_said R (Some x) (Some y) (Some z) (Some m) f g a b d e = g x y z m a b d e
-
-  -- three parts, and four
-
-  three_parts : {s u v w : c.Sort} {ds es ps : List Declaration} {xs ys zs is js ks : List (List ℕ)} {fs gs hs : List Fault} {x : c.Tree s} {y : c.Tree u} {z : c.Tree v} {r : c.Tree w} → (is_first w r ≡ true → (is_first s x ≡ true) × (is_first u y ≡ true) × (is_first v z ≡ true)) → (IsGuest imports P s x → IsGuest imports P u y → IsGuest imports P v z → IsGuest imports P w r) → Said ds xs is fs s x → Said es ys js gs u y → Said ps zs ks hs v z → Said ((ds ++ es) ++ ps) ((xs ++ ys) ++ zs) ((is ++ js) ++ ks) ((fs ++ gs) ++ hs) w r
-  three_parts {ds = ds} {es = es} {ps = ps} {xs = xs} {ys = ys} {zs = zs} {is = is} {js = js} {ks = ks} {fs = fs} {gs = gs} {hs = hs} parts guest a b d = record {
-    variables = λ e. let h = parts e in together (ds ++ es) ps (xs ++ ys) zs (together ds es xs ys (a.variables h.0) (b.variables h.1)) (d.variables h.2);
-    accepted = λ n e clean all.
-        let h = parts e in
-        let two = no_front (fs ++ gs) hs clean in
-        let some = all_front (is ++ js) ks imports all in
-        let front = usable_front (xs ++ ys) zs n in
-        let u = a.accepted (usable_front xs ys front) h.0 (no_front fs gs two) (all_front is js imports some) in
-        let v = b.accepted (usable_back xs ys front) h.1 (no_back fs gs two) (all_back is js imports some) in
-        let w = d.accepted (usable_back (xs ++ ys) zs n) h.2 (no_back (fs ++ gs) hs clean) (all_back (is ++ js) ks imports all) in
-        record { guest = guest u.guest v.guest w.guest; fixed = all_both (is ++ js) ks fixed_names (all_both is js fixed_names u.fixed v.fixed) w.fixed };
-  }
-
-  branch_said : {ds es : List Declaration} {xs ys is js ks : List (List ℕ)} {fs gs hs : List Fault} (u : c.Tree c.expr) (v : c.Tree c.stmt) (w : c.Tree c.maybe_stmt) → Said [] [] is fs c.expr u → Said ds xs js gs c.stmt v → Said es ys ks hs c.maybe_stmt w → Said (ds ++ es) (xs ++ ys) ((is ++ js) ++ ks) ((fs ++ gs) ++ hs) c.stmt (c.branch u v w)
-  unfolding is_first
-  branch_said u v w a b d = three_parts (λ e. three_true _ _ _ e) (λ g q l. (g, q, l)) a b d
-
-  clause_said : {ds es : List Declaration} {xs ys is js ks : List (List ℕ)} {fs gs hs : List Fault} (u : c.Tree c.maybe_expr) (v : c.Tree c.stmts) (w : c.Tree c.cases) → Said [] [] is fs c.maybe_expr u → Said ds xs js gs c.stmts v → Said es ys ks hs c.cases w → Said (ds ++ es) (xs ++ ys) ((is ++ js) ++ ks) ((fs ++ gs) ++ hs) c.cases (c.more_cases u v w)
-  unfolding is_first
-  clause_said u v w a b d = three_parts (λ e. three_true _ _ _ e) (λ g q l. (g, q, l)) a b d
-
-  try_said : {ds es ps : List Declaration} {xs ys zs is js ks : List (List ℕ)} {fs gs hs : List Fault} (u : c.Tree c.stmts) (v : c.Tree c.handler) (w : c.Tree c.maybe_block) → Said ds xs is fs c.stmts u → Said es ys js gs c.handler v → Said ps zs ks hs c.maybe_block w → Said ((ds ++ es) ++ ps) (xs ++ (ys ++ zs)) ((is ++ js) ++ ks) ((fs ++ gs) ++ hs) c.stmt (c.try u v w)
-  unfolding is_first
-  try_said {xs = xs} {ys = ys} {zs = zs} u v w a b d = renamed refl (append_assoc xs ys zs) (three_parts (λ e. three_true _ _ _ e) (λ g q l. (g, q, l)) a b d)
-
-  for_said : {ds es : List Declaration} {xs ys is js ks ls : List (List ℕ)} {fs gs hs qs : List Fault} (u : c.Tree c.first) (v w : c.Tree c.maybe_expr) (z : c.Tree c.stmt) → Said ds xs is fs c.first u → Said [] [] js gs c.maybe_expr v → Said [] [] ks hs c.maybe_expr w → Said es ys ls qs c.stmt z → Said (ds ++ es) (xs ++ ys) (((is ++ js) ++ ks) ++ ls) (((fs ++ gs) ++ hs) ++ qs) c.stmt (c.for_loop u v w z)
-  unfolding is_first
-  for_said {ds = ds} {es = es} {xs = xs} {ys = ys} {is = is} {js = js} {ks = ks} {ls = ls} {fs = fs} {gs = gs} {hs = hs} {qs = qs} u v w z a b d q = record {
-    variables = λ e. let h = both_true _ _ e in let g = three_true _ _ _ h.0 in together ds es xs ys (a.variables g.0) (q.variables h.1);
-    accepted = λ n e clean all.
-        let h = both_true _ _ e in
-        let g = three_true _ _ _ h.0 in
-        let three = no_front ((fs ++ gs) ++ hs) qs clean in
-        let two = no_front (fs ++ gs) hs three in
-        let most = all_front ((is ++ js) ++ ks) ls imports all in
-        let some = all_front (is ++ js) ks imports most in
-        let a1 = a.accepted (usable_front xs ys n) g.0 (no_front fs gs two) (all_front is js imports some) in
-        let b1 = b.accepted (λ k there. never there) g.1 (no_back fs gs two) (all_back is js imports some) in
-        let d1 = d.accepted (λ k there. never there) g.2 (no_back (fs ++ gs) hs three) (all_back (is ++ js) ks imports most) in
-        let q1 = q.accepted (usable_back xs ys n) h.1 (no_back ((fs ++ gs) ++ hs) qs clean) (all_back ((is ++ js) ++ ks) ls imports all) in
-        record {
-          guest = (a1.guest, b1.guest, d1.guest, q1.guest);
-          fixed = all_both ((is ++ js) ++ ks) ls fixed_names (all_both (is ++ js) ks fixed_names (all_both is js fixed_names a1.fixed b1.fixed) d1.fixed) q1.fixed;
-        };
-  }
-
-  listed_said : {ds es : List Declaration} {xs ys is js : List (List ℕ)} {fs gs : List Fault} (u : c.Tree c.stmt) (v : c.Tree c.stmts) → Said ds xs is fs c.stmt u → Said es ys js gs c.stmts v → Said (ds ++ es) (xs ++ ys) (is ++ js) (fs ++ gs) c.stmts (c.more_stmts u v)
-  unfolding is_first
-  listed_said u v a b = two_said (λ e. both_true _ _ e) (λ g q. (g, q)) a b
-
-  -- a word that is declared
-  an_item : {ds : List Declaration} {is js : List (List ℕ)} {fs gs : List Fault} (x : Word) (v : c.Tree c.maybe_expr) (rest : c.Tree c.items) → Said [] [] is fs c.maybe_expr v → Said ds (rewriting.declared c.items rest) js gs c.items rest → Said (Rattle.cajita_names.specs.Declarations.declared_as Rattle.cajita_names.specs.Declarations.variable x ∷ ds) (x.text ∷ rewriting.declared c.items rest) (is ++ js) ((declared x ++ fs) ++ gs) c.items (c.more_items x.text v rest)
-  unfolding is_first
-  an_item {ds = ds} {is = is} {js = js} {fs = fs} {gs = gs} x v rest a b = record {
-    variables = λ e. more x ds (rewriting.declared c.items rest) (b.variables (both_true _ _ e).1);
-    accepted = λ d e clean all.
-        let h = both_true _ _ e in
-        let front = no_front (declared x ++ fs) gs clean in
-        let here = d x.text (left_there (same_units x.text x.text) _ (same_key-refl x.text)) in
-        fine_both imports P (λ g q. (here.0, here.1, guest_declared x (no_front (declared x) fs front), g, q))
-        (a.accepted (λ k there. never there) h.0 (no_back (declared x) fs front) (all_front is js imports all))
-        (b.accepted (λ k there. d k (right_there (same_units k x.text) _ there)) h.1 (no_back (declared x ++ fs) gs clean) (all_back is js imports all));
-  }
-
--- what is to be shown of a part
-abbrev pub Meant : {imports : List (List ℕ)} → Place imports → (s : t.Sort) → Placed s → c.Tree (of_sort s) → Type 0
-Meant P s x y = Said P (declarations s x) (rewriting.declared (of_sort s) y) (free P.around s x) (faults_in P.around s x) (of_sort s) y
-
--- a `catch` has its name more
-in_catch_said : {imports : List (List ℕ)} (P : Place imports) (x : Word) {ds : List Declaration} {is : List (List ℕ)} {fs : List Fault} (y : c.Tree c.stmts) → Said (in_the_catch P x.text) ds (rewriting.declared c.stmts y) is fs c.stmts y → Said P ds (rewriting.declared c.stmts y) is ((declared x ++ masking P.around x) ++ fs) c.handler (c.some_handler x.text y)
-unfolding is_first
-in_catch_said {imports = imports} P x {fs = fs} y a = record {
-  variables = a.variables;
-  accepted = λ d e clean all.
-      let h = a.accepted (λ k there. let u = d k there in (right_there (false || (same_units k x.text || false)) _ u.0, right_there (false || (same_units k x.text || false)) _ u.1)) e (no_back (declared x ++ masking P.around x) fs clean) all in
-      record { guest = (guest_declared x (no_front (declared x) _ (no_front (declared x ++ masking P.around x) fs clean)), h.guest); fixed = h.fixed };
-}
-
-module _ {imports : List (List ℕ)} where
-  items : (P : Place imports) (is : Placed t.items) → IfSome (resolved t.items is) (Meant P t.items is)
-  unfolding resolved is_first faults_in free declarations
-  items P p.no_items = record { variables = λ e. none; accepted = λ d e clean all. record { guest = tt; fixed = λ k h. never h } }
-  items P (p.more_items x m is) = both_said P (Meant P t.items (p.more_items x m is)) (resolved t.maybe_expr m) (resolved t.items is) (c.more_items x.text) (λ v y a b. an_item P x v y a b) (of_value P (value imports P m)) (items P is)
-
-  -- no other statement is of the language yet
-  other : (P : Place imports) (x : Placed t.stmt) (y : c.Tree c.stmt) → is_first c.stmt y ≡ false → Meant P t.stmt x y
-  other P x y is = record { variables = λ e. never (sym is ∙ e); accepted = λ d e. never (sym is ∙ e) }
-
-  nothing : (P : Place imports) {s : c.Sort} {fs : List Fault} {y : c.Tree s} → IsGuest imports P s y → Said P [] [] [] fs s y
-  nothing P g = record { variables = λ e. none; accepted = λ d e clean all. record { guest = g; fixed = λ k h. never h } }
-
-  mutual
-    unfolding resolved is_first faults_in free declarations
-
-    stmt : (P : Place imports) (x : Placed t.stmt) → Flat t.stmt x → IfSome (resolved t.stmt x) (Meant P t.stmt x)
-    stmt P (p.block ss) h = one_said P (Meant P t.stmt (p.block ss)) (resolved t.stmts ss) c.block (λ y a. as_said P (λ e. e) (λ g. g) a) (list P ss h)
-    stmt P (p.var is) h = one_said P (Meant P t.stmt (p.var is)) (resolved t.items is) c.var (λ y a. as_said P (λ e. e) (λ g. g) a) (items P is)
-    stmt P p.empty h = nothing P tt
-    stmt P (p.expression x) h = one_said P (Meant P t.stmt (p.expression x)) (resolved t.expr x) c.expression (λ y a. as_said P (λ e. e) (λ g. g) a) (of_value P (expression imports P x))
-    stmt P (p.branch e x m) h = three_said P (Meant P t.stmt (p.branch e x m)) (resolved t.expr e) (resolved t.stmt x) (resolved t.maybe_stmt m) c.branch (λ u v w a b d. branch_said P u v w a b d) (of_value P (expression imports P e)) (stmt P x h.0) (side P m h.1)
-    stmt P (p.while_loop e x) h = both_said P (Meant P t.stmt (p.while_loop e x)) (resolved t.expr e) (resolved t.stmt x) c.while_loop (λ u v a b. two_said P (λ e. both_true _ _ e) (λ g q. (g, q)) a b) (of_value P (expression imports P e)) (stmt P x h)
-    stmt P (p.do_loop x e) h = both_said P (Meant P t.stmt (p.do_loop x e)) (resolved t.stmt x) (resolved t.expr e) c.do_loop (λ u v a b. renamed P (append-nil _) (append-nil _) (two_said P (λ e. both_true _ _ e) (λ g q. (g, q)) a b)) (stmt P x h) (of_value P (expression imports P e))
-    stmt P (p.for_loop i e f x) h = four_said P (Meant P t.stmt (p.for_loop i e f x)) (resolved t.first i) (resolved t.maybe_expr e) (resolved t.maybe_expr f) (resolved t.stmt x) c.for_loop (λ u v w z a b d q. for_said P u v w z a b d q) (head P i) (of_value P (value imports P e)) (of_value P (value imports P f)) (stmt P x h)
-    stmt P (p.for_in i e x) h = Rattle.scope_rules.proofs.Options.three_any c.for_in (Meant P t.stmt (p.for_in i e x)) (λ a b d. other P (p.for_in i e x) _ refl) (resolved t.loop_target i) (resolved t.expr e) (resolved t.stmt x)
-    stmt P (p.continue n a) h = nothing P tt
-    stmt P (p.break n a) h = nothing P tt
-    stmt P (p.return m a) h = one_any c.return (Meant P t.stmt (p.return m a)) (λ x. other P (p.return m a) _ refl) (resolved t.maybe_expr m)
-    stmt P (p.with_object e x a) h = tt
-    stmt P (p.switch e cs) h = both_said P (Meant P t.stmt (p.switch e cs)) (resolved t.expr e) (resolved t.cases cs) c.switch (λ u v a b. two_said P (λ e. both_true _ _ e) (λ g q. (g, q)) a b) (of_value P (expression imports P e)) (clauses P cs h)
-    stmt P (p.label n x) h = one_said P (Meant P t.stmt (p.label n x)) (resolved t.stmt x) (c.label n.text) (λ y a. in_front P (hidden n) (as_said P (λ e. e) (λ g. g) a)) (stmt P x h)
-    stmt P (p.throw e) h = one_said P (Meant P t.stmt (p.throw e)) (resolved t.expr e) c.throw (λ y a. as_said P (λ e. e) (λ g. g) a) (of_value P (expression imports P e))
-    stmt P (p.try ss d l) h = three_said P (Meant P t.stmt (p.try ss d l)) (resolved t.stmts ss) (resolved t.handler d) (resolved t.maybe_block l) c.try (λ u v w a b d. try_said P u v w a b d) (list P ss h.0) (handler P d h.1) (ending P l h.2)
-    stmt P (p.declare f) h = absurd h
-
-    list : (P : Place imports) (ss : Placed t.stmts) → Flat t.stmts ss → IfSome (resolved t.stmts ss) (Meant P t.stmts ss)
-    list P p.no_stmts h = nothing P tt
-    list P (p.more_stmts x ss) h = subst (λ o. IfSome o (Meant P t.stmts (p.more_stmts x ss))) (sym (listed x h.0 (resolved t.stmt x) (resolved t.stmts ss))) (both_said P (Meant P t.stmts (p.more_stmts x ss)) (resolved t.stmt x) (resolved t.stmts ss) c.more_stmts (λ u v a b. listed_said P u v a b) (stmt P x h.0) (list P ss h.1))
-
-    side : (P : Place imports) (m : Placed t.maybe_stmt) → Flat t.maybe_stmt m → IfSome (resolved t.maybe_stmt m) (Meant P t.maybe_stmt m)
-    side P p.no_stmt h = nothing P tt
-    side P (p.some_stmt x) h = one_said P (Meant P t.maybe_stmt (p.some_stmt x)) (resolved t.stmt x) c.some_stmt (λ y a. as_said P (λ e. e) (λ g. g) a) (stmt P x h)
-
-    ending : (P : Place imports) (m : Placed t.maybe_block) → Flat t.maybe_block m → IfSome (resolved t.maybe_block m) (Meant P t.maybe_block m)
-    ending P p.no_block h = nothing P tt
-    ending P (p.some_block ss) h = one_said P (Meant P t.maybe_block (p.some_block ss)) (resolved t.stmts ss) c.some_block (λ y a. as_said P (λ e. e) (λ g. g) a) (list P ss h)
-
-    head : (P : Place imports) (m : Placed t.first) → IfSome (resolved t.first m) (Meant P t.first m)
-    head P p.no_first = nothing P tt
-    head P (p.first_var is) = one_said P (Meant P t.first (p.first_var is)) (resolved t.items is) c.first_var (λ y a. as_said P (λ e. e) (λ g. g) a) (items P is)
-    head P (p.first_expr x) = one_said P (Meant P t.first (p.first_expr x)) (resolved t.expr x) c.first_expr (λ y a. as_said P (λ e. e) (λ g. g) a) (of_value P (expression imports P x))
-
-    clauses : (P : Place imports) (cs : Placed t.cases) → Flat t.cases cs → IfSome (resolved t.cases cs) (Meant P t.cases cs)
-    clauses P p.no_cases h = nothing P tt
-    clauses P (p.more_cases m ss cs) h = three_said P (Meant P t.cases (p.more_cases m ss cs)) (resolved t.maybe_expr m) (resolved t.stmts ss) (resolved t.cases cs) c.more_cases (λ u v w a b d. clause_said P u v w a b d) (of_value P (value imports P m)) (list P ss h.0) (clauses P cs h.1)
-
-    handler : (P : Place imports) (d : Placed t.handler) → Flat t.handler d → IfSome (resolved t.handler d) (Meant P t.handler d)
-    handler P p.no_handler h = nothing P tt
-    handler P (p.some_handler x ss) h = one_said P (Meant P t.handler (p.some_handler x ss)) (resolved t.stmts ss) (c.some_handler x.text) (λ y a. in_catch_said P x y a) (list (in_the_catch P x.text) ss h)
-
-  -- ---- the statements of a body that declares no function
-
-  pub own_list : (P : Place imports) (ss : Placed t.stmts) → FlatBody ss → declared_functions ss ≡ Some c.no_funcs → IfSome (resolved t.stmts ss) (Meant P t.stmts ss)
-  unfolding resolved is_first faults_in free declarations
-  own_list P p.no_stmts h e = nothing P tt
-  own_list P (p.more_stmts x ss) h e =
-      let w = without_functions x ss h e in
-      subst (λ o. IfSome o (Meant P t.stmts (p.more_stmts x ss))) (sym (listed x w.0 (resolved t.stmt x) (resolved t.stmts ss))) (both_said P (Meant P t.stmts (p.more_stmts x ss)) (resolved t.stmt x) (resolved t.stmts ss) c.more_stmts (λ u v a b. listed_said P u v a b) (stmt P x w.0) (own_list P ss w.1 w.2))
+  pub no_declaration_form : (ps : List Word) (body : Placed t.stmts) (at : ℕ) (ss : Placed t.stmts) → M t.stmts (p.more_stmts (p.declare (p.fun None ps body at)) ss)
+  no_declaration_form ps body at ss = record { in_block = λ h P a. absurd h.0; in_body = λ h P a. absurd h }
