@@ -10,7 +10,7 @@ use Rattle.caja_cli.specs.declared.command.Command.TheVariants.{Solo, Cajole}
 use Rattle.caja_cli.specs.declared.status.Status.{Status}
 use Rattle.caja_cli.specs.declared.status.Status.TheVariants.{Refused}
 
--- what is written for an input: where it spells a module that breaks no rule and is of the first language, what is made of the program that stands for
+-- what is written for an input: where it spells a module that breaks no rule, what is made of the program that stands for
 -- it; where it spells one that a rule refuses, or no program within the limits, the refusal
 pub record IsOfSource (command : Command) (make : t.Tree t.program → List ℕ × Status) (input : List ℕ) : Type 0 where
   pub accepted : (p : t.Tree t.program) → IsCajoled input p → command_output command input ≡ make p

@@ -92,7 +92,6 @@ fn a_module_is_answered_by_its_text_and_its_log(rt: HostRuntime) -> Result<(), F
 
 /// Inputs, and the lines that refuse them.
 static REFUSALS: &str = "
-for (var k in {}) ; ⇒ refused main rule 0 0
 foo__; ⇒ refused main rule 1 0
 foo_; ⇒ refused main rule 10 0
 var o = {x: y}; ⇒ refused main rule 10 12

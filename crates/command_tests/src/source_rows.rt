@@ -1,4 +1,4 @@
-//! Sources at the edges of the first language, each with the exact output.
+//! Sources at the edges of the language, each with the exact output.
 
 use caja_cli::Status;
 use caja_units::Memory;
@@ -67,13 +67,8 @@ static REFUSALS: &str = "
 1.x; ⇒ refused main lex 6 0
 (((((((((((((((((((((((((((((((((((((((((((((((((((((((((((((((((((((((((((((((((((((((((((((((((((((((((((((((((((((((((((((((((((((((((((((((((((((((((((((((((((((((((((((((((((((((((((((((((((((((((((((((((((((((((((((((((((((((((((((((((((((((((((((((((1))))))))))))))))))))))))))))))))))))))))))))))))))))))))))))))))))))))))))))))))))))))))))))))))))))))))))))))))))))))))))))))))))))))))))))))))))))))))))))))))))))))))))))))))))))))))))))))))))))))))))))))))))))))))))))))))))))))))))))))))))))))))))))))))); ⇒ refused main read 2 0
 1+1+1+1+1+1+1+1+1+1+1+1+1+1+1+1+1+1+1+1+1+1+1+1+1+1+1+1+1+1+1+1+1+1+1+1+1+1+1+1+1+1+1+1+1+1+1+1+1+1+1+1+1+1+1+1+1+1+1+1+1+1+1+1+1+1+1+1+1+1+1+1+1+1+1+1+1+1+1+1+1+1+1+1+1+1+1+1+1+1+1+1+1+1+1+1+1+1+1+1+1+1+1+1+1+1+1+1+1+1+1+1+1+1+1+1+1+1+1+1+1+1+1+1+1+1+1+1; ⇒ refused main read 2 0
-say('a'); ⇒ refused main rule 0 0
-function f() {} ⇒ refused main rule 0 0
-({x: Math.abs(1)}); ⇒ refused main rule 0 0
 ({x: 1, x: 2}); ⇒ refused main rule 9 8
 ({x: a, x__: 1, x: 2}); ⇒ refused main rule 10 5
-({}).eval(); ⇒ refused main rule 0 0
-new Error; ⇒ refused main rule 0 0
 var if; ⇒ refused main read 1 4
 var arguments; ⇒ refused main rule 13 4
 a ⇒ refused main read 1 1
@@ -94,8 +89,6 @@ x = 1 ⇒ refused main read 1 5
 { ⇒ refused main read 1 1
 {{{{{{{{{{{{{{{{{{{{{{{{{{{{{{{{{{{{{{{{{{{{{{{{{{{{{{{{{{{{{{{{{{{{{{{{{{{{{{{{{{{{{{{{{{{{{{{{{{{{{{{{{{{{{{{{{{{{{{{{{{{{{{{{ ⇒ refused main read 1 128
 {{{{{{{{{{{{{{{{{{{{{{{{{{{{{{{{{{{{{{{{{{{{{{{{{{{{{{{{{{{{{{{{{{{{{{{{{{{{{{{{{{{{{{{{{{{{{{{{{{{{{{{{{{{{{{{{{{{{{{{{{{{{{{{{{ ⇒ refused main read 2 0
-for (var k in {}) ; ⇒ refused main rule 0 0
-var f = function () {}; ⇒ refused main rule 0 0
 ({'x__': 1}); ⇒ refused main rule 1 2
 foo__; ⇒ refused main rule 1 0
 'a'.x__; ⇒ refused main rule 1 4

@@ -1,10 +1,9 @@
 -- What becomes of a source.
-use Rattle.std.specs.Prelude.{ℕ, List, [], Option, Some, None, if◌then◌else◌}
+use Rattle.std.specs.Prelude.{ℕ, List, [], Option, Some, None}
 use Rattle.es3_tree.specs.Tree as t
 use Rattle.es3_tree.specs.Placed as p
 use Rattle.es3_tree.specs.Placed.{Placed}
 use Rattle.cajita_tree.specs.Tree as c
-use Rattle.scope_rules.specs.Language.{is_first}
 use Rattle.cajita_rules.specs.Faults.{Fault, faults, first}
 use Rattle.scope_rules.specs.Resolve.{module_of}
 use Rattle.cajita_rewrite.specs.Rewrite.{program_of}
@@ -20,19 +19,11 @@ pub data Outcome : Type 0 where
   -- the program that stands for it
   cajoled : t.Tree t.program → Outcome
 
--- a module that isn't of the first language breaks the rule 0, at the byte 0
-abbrev pub outside : Outcome
-outside = broken 0 0
-
--- a program without faults has a module, so the first line never comes
-abbrev pub rewritten : Option (c.Tree c.program) → Outcome
-rewritten None = outside
-rewritten (Some m) = if is_first c.program m then cajoled (program_of m) else outside
-
--- by the first fault, and by the module where there is none: whether that is of the first language comes after the rules
+-- by the first fault, and by the module where there is none; a program without faults has a module, so the last line never comes
 abbrev pub judged : Option Fault → Option (c.Tree c.program) → Outcome
 judged (Some f) m = broken f.rule f.at
-judged None m = rewritten m
+judged None (Some m) = cajoled (program_of m)
+judged None None = broken 0 0
 
 abbrev pub statements : Placed t.program → Placed t.stmts
 statements (p.script body) = body

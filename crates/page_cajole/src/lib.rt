@@ -22,7 +22,7 @@ use cajita_tree::Module;
 use es3_printer::print_program;
 use es3_tree::Program;
 pub use formatting::{FormatAnswer, format};
-use scope_rules::{RuleError, check, is_first};
+use scope_rules::{RuleError, check};
 use source::{SOURCE_LIMITS, SourceRead, read_source};
 use std::alloc::Global;
 pub use text::{TextAnswer, read_text};
@@ -44,8 +44,7 @@ pub enum Answer {
     /// Its tokens spell no program: 1 where none goes on with a token, and the byte of that token; 2 where all that go on nest too deep,
     /// and the byte 0.
     Unread(u8, u32),
-    /// A rule refuses it: the number of the rule, and the byte of the source where the first fault is. The rule 0 stands for what breaks
-    /// no rule and isn't of the language that is accepted so far, at the byte 0.
+    /// A rule refuses it: the number of the rule, and the byte of the source where the first fault is.
     Broken(u8, u32),
 }
 
@@ -64,8 +63,7 @@ fn judge(alloc: Global, program: &Program) -> Result<Answer, Memory>
     ensures { IfOk result (λ a. Answers a (outcome_of_body (of_stmts program.now.body.items))) }
 {
     match check(alloc, program, &[]) {
-        Ok(module) if is_first(&module) => Ok(Answer::Module(cajoled(alloc, &module)?)),
-        Ok(_) => Ok(Answer::Broken(0, 0)),
+        Ok(module) => Ok(Answer::Module(cajoled(alloc, &module)?)),
         Err(RuleError::Fault(number, at, _name)) => Ok(Answer::Broken(number, at)),
         Err(RuleError::Memory) => Err(Memory),
     }

@@ -1,49 +1,42 @@
 -- An accepted source is meant by its log.
-use Rattle.std.proofs.Common.{◌≡◌, ◌<◌, ℕ, true, false, List, [], Option, Some, None, cond, refl, sym, ap, subst, ◌∙◌, arith}
+use Rattle.std.proofs.Common.{◌≡◌, ◌<◌, ℕ, List, [], Option, Some, None, refl, sym, ap, subst, ◌∙◌, arith}
 use Rattle.es3_tree.specs.Tree as t
 use Rattle.es3_tree.specs.Placed.{Placed}
 use Rattle.cajita_tree.specs.Tree as c
 use Rattle.es3_tree.specs.Placed as placed
-use Rattle.scope_rules.specs.Language.{is_first}
 use Rattle.cajita_rules.specs.Faults.{Fault, faults, first}
 use Rattle.scope_rules.specs.Resolve.{module_of}
 use Rattle.cajita_rewrite.specs.Rewrite.{program_of}
 use Rattle.page_cajole.specs.Source as s
 use Rattle.page_cajole.specs.Source.{Source, Spells, source_of, source_limits}
-use Rattle.page_cajole.specs.Cajoled.{uncut, unread, broken, outside, cajoled, rewritten, judged, statements, outcome_of, outcome}
+use Rattle.page_cajole.specs.Cajoled.{uncut, unread, broken, cajoled, judged, statements, outcome_of, outcome}
 use Rattle.es3_printed.specs.Back.{AreTokens, IsSpelled, IsReadBack}
 use Rattle.es3_tokens.specs.Back.{IsToken}
 use Rattle.std.proofs.lemmas.List.Elements.{All-map}
 use Rattle.es3_printed.proofs.ReadBack.{read_back}
 use Rattle.es3_printed.proofs.SourceTokens.{cut_tokens}
 use Rattle.es3_grammar.specs.Spots.{spots}
-use Rattle.source_sizes.specs.Sizes.{temps_of, temps_everywhere}
-use Rattle.source_sizes.proofs.Sizes.{below_the_limit, below_the_limit_everywhere}
+use Rattle.source_sizes.specs.Sizes.{temps_everywhere}
+use Rattle.source_sizes.proofs.Sizes.{below_the_limit_everywhere}
 use Rattle.cajoled_text.proofs.Rewritten.{rewritten_is_spelled}
 use Rattle.scope_rules.proofs.Checked.{has_module}
 use Rattle.page_cajole.proofs.Spelled as source
 use Rattle.page_cajole.proofs.Refusals.{uncut_where, uncut_there, unread_where, unread_there}
 use Rattle.page_meaning.proofs.Theorem.{guests_mean}
 use Rattle.accepted_modules.proofs.Accepted.{guest_of, first_none}
-use Rattle.page_meaning.specs.Meant as meant
 use Rattle.page_meaning.specs.Meant.{Meant, IsCajoled, accepted, IsBroken, faulty, IsMeant}
 
--- what was judged to be a program: there is no fault, and a module of the first language
+-- what was judged to be a program: there is no fault, and a module
 record IsJudged (fault : Option Fault) (m : Option (c.Tree c.program)) (p : t.Tree t.program) : Type 0 where
   clean : fault ≡ None
   its_module : c.Tree c.program
   found : m ≡ Some its_module
-  one : is_first c.program its_module ≡ true
   program : p ≡ program_of its_module
 
 judged_program : (fault : Option Fault) (m : Option (c.Tree c.program)) (p : t.Tree t.program) → judged fault m ≡ cajoled p → IsJudged fault m p
 judged_program (Some f) m p e = absurd cc
 judged_program None None p e = absurd cc
-judged_program None (Some x) p e =
-    let cases = elim (is_first c.program x) as (λ b. is_first c.program x ≡ b → cond b (cajoled (program_of x)) outside ≡ cajoled p → IsJudged None (Some x) p) [
-      | true ↦ λ is h. record { clean = refl; its_module = x; found = refl; one = is; program = cc }
-      | false ↦ λ is h. absurd cc
-    ] in cases refl e
+judged_program None (Some x) p e = record { clean = refl; its_module = x; found = refl; program = cc }
 
 read_means : (input : List ℕ) (read : Source) (p : t.Tree t.program) → source_of source_limits input ≡ read → outcome_of read ≡ cajoled p → Meant input p
 read_means input (s.uncut number at) p is e = absurd cc
@@ -51,7 +44,6 @@ read_means input (s.unread number at) p is e = absurd cc
 read_means input (s.spelled (placed.script body)) p is e =
     let j = judged_program (first (faults [] body)) (module_of [] body) p e in
     let h : Spells source_limits input (placed.script body) = source.spelled_where_read source_limits input (placed.script body) is in
-    let few : temps_of j.its_module < 4294967296 = below_the_limit input (placed.script body) h.spelled_by [] j.its_module h.cut h.within.spelled j.found in
     let few_everywhere : temps_everywhere j.its_module < 4294967296 = below_the_limit_everywhere input (placed.script body) h.spelled_by [] j.its_module h.cut h.within.spelled j.found in
     let tokens : AreTokens (spots h.spelled_by) = All-map (λ c. IsToken c.0) (λ t. (t.token, t.start)) h.spelled_by (cut_tokens source_limits.longest input h.spelled_by h.cut) in
     let text : IsSpelled (program_of j.its_module) = rewritten_is_spelled [] body (spots h.spelled_by) j.its_module h.within.spelled tokens j.found (omega (arith, few_everywhere)) in
@@ -60,7 +52,7 @@ read_means input (s.spelled (placed.script body)) p is e =
       spelled = record { tree = placed.script body; spelled = h; resolved = j.found };
       program = j.program;
       back = subst IsReadBack (sym j.program) (read_back (program_of j.its_module) text);
-      means = guests_mean j.its_module (guest_of body (spots h.spelled_by) j.its_module h.within.spelled j.clean j.found j.one (omega (arith, few)));
+      means = guests_mean j.its_module (guest_of body (spots h.spelled_by) j.its_module h.within.spelled j.clean j.found (omega (arith, few_everywhere)));
     }
 
 -- ---- each answer comes just where it is so
@@ -70,26 +62,17 @@ of_spelled : (input : List ℕ) (p : Placed t.program) → Spells source_limits 
 of_spelled input p h = ap outcome_of (source.read_where_spelled source_limits input p h)
 
 cajoled_where : (input : List ℕ) (p : t.Tree t.program) → IsCajoled input p → outcome input ≡ cajoled p
-cajoled_where input _ (accepted p m h clean is one) =
-    of_spelled input p h
-    ∙ ap (λ f. judged f (module_of [] (statements p))) clean
-    ∙ ap rewritten is
-    ∙ ap (λ b. cond b (cajoled (program_of m)) outside) one
+cajoled_where input _ (accepted p m h clean is) = of_spelled input p h ∙ ap (λ f. judged f (module_of [] (statements p))) clean ∙ ap (judged None) is
 
 cajoled_so : (input : List ℕ) (read : Source) (p : t.Tree t.program) → source_of source_limits input ≡ read → outcome_of read ≡ cajoled p → IsCajoled input p
 cajoled_so input (s.uncut number at) p is e = absurd cc
 cajoled_so input (s.unread number at) p is e = absurd cc
 cajoled_so input (s.spelled q) p is e =
     let j = judged_program (first (faults [] (statements q))) (module_of [] (statements q)) p e in
-    subst (IsCajoled input) (sym j.program) (accepted q j.its_module (source.spelled_where_read source_limits input q is) j.clean j.found j.one)
+    subst (IsCajoled input) (sym j.program) (accepted q j.its_module (source.spelled_where_read source_limits input q is) j.clean j.found)
 
 broken_where : (input : List ℕ) (number at : ℕ) → IsBroken input number at → outcome input ≡ broken number at
 broken_where input _ _ (faulty p f h is) = of_spelled input p h ∙ ap (λ q. judged q (module_of [] (statements p))) is
-broken_where input _ _ (meant.outside p m h clean is one) =
-    of_spelled input p h
-    ∙ ap (λ f. judged f (module_of [] (statements p))) clean
-    ∙ ap rewritten is
-    ∙ ap (λ b. cond b (cajoled (program_of m)) outside) one
 
 same_fault : (input : List ℕ) (n i number at : ℕ) → broken n i ≡ broken number at → IsBroken input n i → IsBroken input number at
 same_fault input n i number at e h =
@@ -101,11 +84,7 @@ broken_judged : (input : List ℕ) (p : Placed t.program) (number at : ℕ) → 
     → (m : Option (c.Tree c.program)) → module_of [] (statements p) ≡ m → judged q m ≡ broken number at → IsBroken input number at
 broken_judged input p number at h (Some f) is m found e = same_fault input f.rule f.at number at e (faulty p f h is)
 broken_judged input p number at h None is None found e = let m = has_module [] (statements p) (first_none (faults [] (statements p)) is) in let both : None ≡ Some m.0 = sym found ∙ m.1 in absurd cc
-broken_judged input p number at h None is (Some x) found e =
-    let cases = elim (is_first c.program x) as (λ b. is_first c.program x ≡ b → cond b (cajoled (program_of x)) outside ≡ broken number at → IsBroken input number at) [
-      | true ↦ λ one f. absurd cc
-      | false ↦ λ one f. same_fault input 0 0 number at f (meant.outside p x h is found one)
-    ] in cases refl e
+broken_judged input p number at h None is (Some x) found e = absurd cc
 
 broken_so : (input : List ℕ) (read : Source) (number at : ℕ) → source_of source_limits input ≡ read → outcome_of read ≡ broken number at → IsBroken input number at
 broken_so input (s.uncut n i) number at is e = absurd cc
@@ -117,11 +96,7 @@ broken_so input (s.spelled q) number at is e =
 judged_refused : (f : Option Fault) (m : Option (c.Tree c.program)) (number at : ℕ) → (judged f m ≡ uncut number at → ⊥) × (judged f m ≡ unread number at → ⊥)
 judged_refused (Some f) m number at = (λ e. cc, λ e. cc)
 judged_refused None None number at = (λ e. cc, λ e. cc)
-judged_refused None (Some x) number at =
-    elim (is_first c.program x) as (λ b. (cond b (cajoled (program_of x)) outside ≡ uncut number at → ⊥) × (cond b (cajoled (program_of x)) outside ≡ unread number at → ⊥)) [
-      | true ↦ (λ e. cc, λ e. cc)
-      | false ↦ (λ e. cc, λ e. cc)
-    ]
+judged_refused None (Some x) number at = (λ e. cc, λ e. cc)
 
 uncut_source : (r : Source) (number at : ℕ) → outcome_of r ≡ uncut number at → r ≡ s.uncut number at
 uncut_source (s.uncut n i) number at e = cc

@@ -1,10 +1,9 @@
 -- What the log of an accepted source means.
-use Rattle.std.specs.Prelude.{◌≡◌, ◌↔◌, ℕ, List, [], Some, None, true, false}
+use Rattle.std.specs.Prelude.{◌≡◌, ◌↔◌, ℕ, List, [], Some, None}
 use Rattle.es3_tree.specs.Tree as t
 use Rattle.es3_tree.specs.Placed.{Placed}
 use Rattle.cajita_tree.specs.Tree as c
 use Rattle.cajita_rules.specs.Faults.{Fault, faults, first}
-use Rattle.scope_rules.specs.Language.{is_first}
 use Rattle.scope_rules.specs.Resolve.{module_of}
 use Rattle.cajita_rewrite.specs.Rewrite.{program_of}
 use Rattle.es3_printed.specs.Back.{IsReadBack}
@@ -28,20 +27,16 @@ pub record Meant (input : List ℕ) (p : t.Tree t.program) : Type 0 where
   pub back : IsReadBack p
   pub means : SourceMeans its_module
 
--- the input spells a module that breaks no rule and is of the first language, and the program stands for it
+-- the input spells a module that breaks no rule, and the program stands for it
 pub data IsCajoled (input : List ℕ) : t.Tree t.program → Type 0 where
   accepted : (p : Placed t.program) (m : c.Tree c.program) → Spells source_limits input p → first (faults [] (statements p)) ≡ None
-      → module_of [] (statements p) ≡ Some m → is_first c.program m ≡ true → IsCajoled input (program_of m)
+      → module_of [] (statements p) ≡ Some m → IsCajoled input (program_of m)
 
--- a rule refuses the module that the input spells: its number, and the byte
+-- a rule refuses the module that the input spells: the number and the byte of the first fault
 pub data IsBroken (input : List ℕ) : ℕ → ℕ → Type 0 where
-  -- the first fault
   faulty : (p : Placed t.program) (f : Fault) → Spells source_limits input p → first (faults [] (statements p)) ≡ Some f → IsBroken input f.rule f.at
-  -- it breaks no rule, and is not of the first language: the rule 0, at the byte 0
-  outside : (p : Placed t.program) (m : c.Tree c.program) → Spells source_limits input p → first (faults [] (statements p)) ≡ None
-      → module_of [] (statements p) ≡ Some m → is_first c.program m ≡ false → IsBroken input 0 0
 
--- an input spells one program at most; it is cajoled just where that is a module which breaks no rule and is of the first language, and what is written then
+-- an input spells one program at most; it is cajoled just where that is a module which breaks no rule, and what is written then
 -- means that module; and it is refused just where it spells no program, or one that a rule refuses, with the number and the byte of what refuses it
 pub record IsMeant (input : List ℕ) : Type 0 where
   pub one : (p q : Placed t.program) → Spells source_limits input p → Spells source_limits input q → p ≡ q

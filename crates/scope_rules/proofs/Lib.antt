@@ -4,5 +4,4 @@ pub mod Front
 pub mod Given
 pub mod OnceParts
 pub mod Resolved
-pub mod Bodies
 pub mod Options

@@ -1,5 +1,4 @@
 pub mod Free
 pub mod Resolve
 pub mod Declaring
-pub mod Language
 pub mod Check

@@ -9,11 +9,9 @@ ghost use Rattle.cajita_tree.specs.Tree as resolved_tree;
 ghost use Rattle.cajita_tree.specs.View.{module_view};
 ghost use Rattle.scope_rules.specs.Check.{Checks};
 ghost use Rattle.cajita_rules.specs.Faults.{faults as faults_of};
-ghost use Rattle.scope_rules.specs.Language.{is_first as is_of_the_first};
 ghost use Rattle.scope_rules.specs.Resolve.{module_of};
 
 mod imports;
-mod language;
 mod resolve;
 
 use caja_units::{Memory, Units};
@@ -43,14 +41,6 @@ impl From<Memory> for RuleError {
     fn from(_error: Memory) -> RuleError {
         RuleError::Memory
     }
-}
-
-/// Whether the module is of the language that is accepted so far: it declares no function and has no `for` .. `in` and no `return`, no function
-/// is written or called in it, and `arguments` isn't named (ES3 11, 12).
-pub fn is_first(resolved: &Module) -> bool
-    ensures { result ≡ is_of_the_first resolved_tree.program (module_view resolved.now) }
-{
-    language::is_first_module(resolved)
 }
 
 /// A program without faults has a module, whatever names are granted to it.
