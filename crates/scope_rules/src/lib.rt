@@ -6,7 +6,6 @@ ghost use Rattle.es3_tree.specs.Tree as tree;
 ghost use Rattle.es3_tree.specs.Placed.{Placed};
 ghost use Rattle.es3_tree.specs.PlacedView.{of_stmts};
 ghost use Rattle.cajita_tree.specs.Tree as resolved_tree;
-ghost use Rattle.cajita_tree.specs.View.{module_view};
 ghost use Rattle.scope_rules.specs.Check.{Checks};
 ghost use Rattle.cajita_rules.specs.Faults.{faults as faults_of};
 ghost use Rattle.scope_rules.specs.Resolve.{module_of};

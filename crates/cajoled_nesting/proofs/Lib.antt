@@ -1,0 +1,4 @@
+pub mod Numbers
+pub mod Deep
+pub mod Bound
+pub mod Source
