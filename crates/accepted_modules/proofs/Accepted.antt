@@ -20,7 +20,7 @@ use Rattle.cajita_rewrite.specs.Rewrite.{temps}
 use Rattle.source_sizes.specs.Sizes.{inner_temps, temps_everywhere}
 use Rattle.scope_rules.specs.Free.{free}
 use Rattle.scope_rules.specs.Resolve.{resolved, declared_functions, imports_of, module_of}
-use Rattle.cajita_simulation.specs.Guest.{is_among, Names, is_declared, within, GuestModule, a_guest}
+use Rattle.cajita_simulation.specs.Guest.{is_among, Names, GuestModule, a_guest}
 use Rattle.cajita_simulation.specs.Jumps.{no_jumps, Targets}
 use Rattle.accepted_modules.proofs.Declared.{never, not_true, both_true, no_front, no_back, fixed_guest, once_same}
 use Rattle.accepted_modules.proofs.Formed.{FormedBody, formed_script}

@@ -8,11 +8,10 @@ use Rattle.es3_tree.specs.Tree as t
 use Rattle.es3_tree.specs.Placed as p
 use Rattle.es3_tree.specs.Placed.{Placed, Word}
 use Rattle.es3_labels.specs.Around as around
-use Rattle.es3_labels.specs.Around.{Around}
 use Rattle.es3_labels.specs.Misplaced.{misplaced, jump, again, is_loop}
 use Rattle.cajita_tree.specs.Tree as c
 use Rattle.cajita_names.specs.Declarations as d
-use Rattle.cajita_names.specs.Declarations.{Declaration, declared_as, declarations}
+use Rattle.cajita_names.specs.Declarations.{declared_as, declarations}
 use Rattle.cajita_rules.specs.Faults.{hidden, declared, masking, faults_in}
 use Rattle.cajita_forms.specs.Options.{one, both}
 use Rattle.cajita_forms.specs.Forms.{text_of}

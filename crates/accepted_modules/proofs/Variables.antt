@@ -5,7 +5,7 @@ use Rattle.std.proofs.Common.{append_assoc}
 use Rattle.caja_units.specs.Units.{same_units}
 use Rattle.es3_tree.specs.Tree as t
 use Rattle.es3_tree.specs.Placed as p
-use Rattle.es3_tree.specs.Placed.{Placed, Word}
+use Rattle.es3_tree.specs.Placed.{Placed}
 use Rattle.cajita_tree.specs.Tree as c
 use Rattle.cajita_names.specs.Declarations as d
 use Rattle.cajita_names.specs.Declarations.{Role, declarations}

@@ -4,7 +4,7 @@ use Rattle.std.specs.Prelude.{max, IfSome}
 use Rattle.es3_tree.specs.Tree as t
 use Rattle.es3_tree.specs.Measure.{nest}
 use Rattle.es3_tree.specs.Placed as p
-use Rattle.es3_tree.specs.Placed.{Placed, Word}
+use Rattle.es3_tree.specs.Placed.{Placed}
 use Rattle.es3_tree.specs.declared.UnOp.{UnOp}
 use Rattle.es3_tree.specs.declared.UnOp.TheVariants.{Delete}
 use Rattle.es3_grammar.specs.Plain.{plain}
