@@ -142,7 +142,7 @@ module _ {imports : List (List ℕ)} {outer : Names} (P : Place imports outer) (
   of_body fs is list lists lines few clear =
       let front = no_front (all_declared ps ++ redeclared [] ds) (faults_in (scope.in_function ds P.around) t.stmts body) clear.clean in
       let once = no_back (all_declared ps) (redeclared [] ds) front in
-      let words = list_words (scope.in_function ds P.around) body (no_back (all_declared ps ++ redeclared [] ds) _ clear.clean) in
+      let words = list_words (scope.in_function ds P.around) body (no_back (all_declared ps ++ redeclared [] ds) (faults_in (scope.in_function ds P.around) t.stmts body) clear.clean) in
       let parts : Few (temps c.stmts list) × Few (inner_temps c.funcs fs + inner_temps c.stmts list) = (fewer _ (temps c.stmts list + (inner_temps c.funcs fs + inner_temps c.stmts list)) (omega arith) few, fewer _ (temps c.stmts list + (inner_temps c.funcs fs + inner_temps c.stmts list)) (omega arith) few) in
       let fine = body_there (inside fs is) lines parts.1 (clear_inside fs is clear) in
       let jumps : Targets function_jumps [] c.stmts list = subst (λ o. IfSome o (Targets function_jumps [] c.stmts)) lists (own_jumps body h clear.placed) in
