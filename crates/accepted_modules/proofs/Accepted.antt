@@ -1,6 +1,7 @@
 -- A module that is of the first language and breaks no rule is a guest.
 use Rattle.std.proofs.Common.{◌≡◌, ℕ, ◌<◌, Bool, true, false, List, [], ◌∷◌, ◌++◌, map, Option, Some, None, cond, refl, sym, ap, ◌∙◌, subst}
 use Rattle.std.specs.Prelude.{◌||◌, IfSome}
+use Rattle.std.proofs.Math.Path.{fun_ext}
 use Rattle.std.proofs.lemmas.List.Folds.{list_any-append}
 use Rattle.caja_units.specs.Units.{same_units}
 use Rattle.es3_tree.specs.Tree as t
@@ -23,7 +24,7 @@ use Rattle.source_sizes.specs.Sizes.{temps_of}
 use Rattle.scope_rules.specs.Free.{free}
 use Rattle.scope_rules.specs.Resolve.{resolved, declared_functions, imports_of, module_of}
 use Rattle.scope_rules.specs.Language.{is_first}
-use Rattle.cajita_simulation.specs.Guest.{is_among, inner, GuestName, Guest, GuestModule, a_guest}
+use Rattle.cajita_simulation.specs.Guest.{is_among, inner, module_names, GuestName, Guest, GuestModule, a_guest}
 use Rattle.cajita_simulation.specs.Jumps.{no_jumps, Targets}
 use Rattle.accepted_modules.proofs.Declared.{never, no_front, no_back, either, right_there, fixed_guest, guest_same, Variables, named_variables, no_loop_variables, known_variables, once_same}
 use Rattle.accepted_modules.proofs.Places.{in_the_module}
@@ -82,7 +83,7 @@ mutual
   declared_name F V (c.switch e cs) g k there = clause_names F V cs g.1 k there
   declared_name F V (c.label l x) g k there = declared_name F V x g k there
   declared_name F V (c.try xs h f) g k there = in_either (rewriting.declared c.stmts xs) (rewriting.declared c.handler h ++ rewriting.declared c.maybe_block f) k there (declared_names F V xs g.0 k) (λ more. in_either (rewriting.declared c.handler h) (rewriting.declared c.maybe_block f) k more (catch_names F V h g.1 k) (end_names F V f g.2 k))
-  declared_name F V (c.for_in x e b) g k there = absurd g
+  declared_name F V (c.for_in x e b) g k there = declared_name F V b g.2 k there
   declared_name F V _ g k there = never there
 
   side_names : (F V : List ℕ → Bool) (x : c.Tree c.maybe_stmt) → Guest V F c.maybe_stmt x → (k : List ℕ) → is_among (rewriting.declared c.maybe_stmt x) k ≡ true → GuestName k
@@ -176,10 +177,21 @@ module _ (body : Placed t.stmts) (list : c.Tree c.stmts) (one : is_first c.stmts
   guest_module : faults_in (module_scope [] body) t.stmts body ≡ [] → misplaced in_program t.stmts body ≡ [] → temps c.stmts list < 18446744073709551616 → GuestModule (c.a_module given (c.a_body c.no_funcs vars list))
   guest_module clean placed few =
       let fine = (meant_over vars usable).accepted (λ k there. let own = vars_same k ∙ there in (right_there (is_among given k) _ own, own)) one clean (λ k there. given_same k ∙ there) in
-      a_guest given vars list vars_same
+      a_guest given vars c.no_funcs list (λ k there. vars_same k ∙ there)
       (λ k there. fixed_guest k (fine.fixed k (sym (given_same k) ∙ there)))
       (λ k there. declared_names (is_among vars) (λ x. is_among given x || is_among vars x) list fine.guest k (sym (vars_same k) ∙ there))
-      few fine.guest (targets placed)
+      few (targets placed) tt tt
+      (subst (λ known. Guest (module_names given vars c.no_funcs) known c.stmts list) (fun_ext (λ k. sym (or_false (is_among vars k)))) (subst (λ known. Guest known (is_among vars) c.stmts list) (fun_ext (λ k. or_turn (is_among given k) (is_among vars k))) fine.guest))
+    where
+      or_turn : (a b : Bool) → (a || b) ≡ (b || a)
+      or_turn true true = refl
+      or_turn true false = refl
+      or_turn false true = refl
+      or_turn false false = refl
+
+      or_false : (a : Bool) → (a || false) ≡ a
+      or_false true = refl
+      or_false false = refl
 
 flat_of : {body : Placed t.stmts} {u : List Spot} → Spells t.program grammar.free 0 (p.script body) u → FlatBody body
 flat_of (s_script ss u h) = flat_body h
