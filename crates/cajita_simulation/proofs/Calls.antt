@@ -19,7 +19,7 @@ use Rattle.cajita_simulation.specs.Alike.{shown}
 use Rattle.cajita_simulation.proofs.Doing as Source
 use Rattle.cajita_simulation.proofs.Heaps.Opened.{IsOpened}
 use Rattle.cajita_simulation.proofs.Heaps.Guards.{IsGuard, guard_call}
-use Rattle.cajita_simulation.proofs.Relation.{EsValue, ObjectsAre, Tags, names_at, Temps, Here, env_of, Rel, rel_pay}
+use Rattle.cajita_simulation.proofs.Relation.{EsValue, ObjectsAre, Tags, names_at, Temps, Here, env_of, In, Rel, rel_pay}
 use Rattle.cajita_simulation.proofs.Slots.{slot_plan}
 use Rattle.cajita_simulation.proofs.Laws.{Cont', M, most_steps, steps_hold, begins_there}
 
@@ -39,15 +39,18 @@ found_runtime s c None is bound f = cc
 found_runtime s c (Some e) is bound f = is ∙ ap (λ (u : EsValue). let o : Option EsValue = Some u in o) (f e is)
 
 -- the runtime's object is found wherever a form stands
-runtime_plan : {H : Here} {T : Temps} {k : ℕ} {w : World} {z : List Item} {n : ℕ} {g : Tags} {s : Store} {y : Kept} {m : ℕ} → Rel H T k w z n g s y m → Target.name_value_plan runtime_name (env_of H) s ≡ Target.give (es.Obj runtime_id) s
-runtime_plan {H = H} {s = s} r =
-    let p = r.here.captured in
-    slot_plan runtime_name (env_of H) s p.runtime (es.Obj runtime_id) refl p.runtime_at (found_runtime s p.runtime _ refl p.runtime_bound (λ e is. r.all.scopes.runtime p.runtime e is))
+pub runtime_at : {H : Here} {g : Tags} {s : Store} → In H g s → ((c : ℕ) (e : EsValue) → name_value runtime_name (names_at s c) ≡ Some e → e ≡ es.Obj runtime_id) → Target.name_value_plan runtime_name (env_of H) s ≡ Target.give (es.Obj runtime_id) s
+runtime_at {H = H} {s = s} here is =
+    let p = here.captured in
+    slot_plan runtime_name (env_of H) s p.runtime (es.Obj runtime_id) refl p.runtime_at (found_runtime s p.runtime _ refl p.runtime_bound (λ e there. is p.runtime e there))
 
 -- `___.g(..)` from its node: the name and the member are entered, and then the arguments
+pub callee_at : (H : Here) {d : ℕ} (guard : List ℕ) (args : t.Tree t.exprs) {p : Source.Plan} {z : List Item} {n : ℕ} {s : Store} {y : Kept} {m : ℕ} (next' : Cont') → Target.name_value_plan runtime_name (env_of H) s ≡ Target.give (es.Obj runtime_id) s → M H d p z n (bind (Target.arguments (Target.called (member (es.Obj runtime_id) guard)) [] args (env_of H) s) next') y (suc (suc m)) → M H d p z n (bind (Target.expr_plan (runtime_call guard args) (env_of H) s) next') y m
+callee_at H {d = d} guard args {p = p} {z = z} {n = n} {s = s} {y = y} {m = m} next' found x =
+    right_enter (right_enter (subst (λ q. M H d p z n (bind q (λ e s1. bind (Target.on_value_of (Target.dot_target guard) e s1) (λ e1 s2. bind (Target.on_target_of (Target.after_callee args (env_of H)) e1 s2) next'))) y (suc (suc m))) (sym found) x))
+
 pub callee_match : {H : Here} {T : Temps} {d k : ℕ} (guard : List ℕ) (args : t.Tree t.exprs) {p : Source.Plan} {w : World} {z : List Item} {n : ℕ} {g : Tags} {s : Store} {y : Kept} {m : ℕ} (next' : Cont') → Rel H T (suc (suc k)) w z n g s y m → (Rel H T k w z n g s y (suc (suc m)) → M H d p z n (bind (Target.arguments (Target.called (member (es.Obj runtime_id) guard)) [] args (env_of H) s) next') y (suc (suc m))) → M H d p z n (bind (Target.expr_plan (runtime_call guard args) (env_of H) s) next') y m
-callee_match {H = H} {d = d} guard args {p = p} {z = z} {n = n} {s = s} {y = y} {m = m} next' r f =
-    right_enter (right_enter (subst (λ q. M H d p z n (bind q (λ e s1. bind (Target.on_value_of (Target.dot_target guard) e s1) (λ e1 s2. bind (Target.on_target_of (Target.after_callee args (env_of H)) e1 s2) next'))) y (suc (suc m))) (sym (runtime_plan r)) (f (rel_pay (rel_pay r)))))
+callee_match {H = H} guard args next' r f = callee_at H guard args next' (runtime_at r.here r.all.scopes.runtime) (f (rel_pay (rel_pay r)))
 
 -- what waits for an array that a guard is given: the guard's call
 abbrev pub with_array : List ℕ → Here → Cont' → Cont'

@@ -13,7 +13,7 @@ use Rattle.cajita_meaning.specs.Direct.{Item}
 use Rattle.page_natives.specs.Natives.{Kept}
 use Rattle.cajita_simulation.specs.Guest.{inner}
 use Rattle.cajita_simulation.proofs.Heaps.Lists.{slice_get-push}
-use Rattle.cajita_simulation.proofs.Relation.{EsValue, Val, OptVal, tag_of_scope, Tags, Here, Temps, Slot, unknown, declared, holds, SlotIs, names_at, AreScopes, Place, In, Rel, Stays, keeps_refl}
+use Rattle.cajita_simulation.proofs.Relation.{EsValue, Val, OptVal, tag_of_scope, Tags, Here, Temps, Slot, unknown, declared, holds, keys, SlotIs, names_at, AreScopes, Place, In, Rel, Stays, keeps_refl}
 use Rattle.cajita_simulation.proofs.Scopes.{passes, in_stays}
 use Rattle.cajita_simulation.proofs.Writes.{differs}
 use Rattle.cajita_simulation.proofs.Entering.{NewScopes, names_new, shaped_scope, scopes_are, related_scope}
@@ -68,6 +68,7 @@ no_slot : (s : Store) (c : ℕ) (x : List ℕ) (q : Slot) → names_at s c ≡ [
 no_slot s c x unknown empty p = refl
 no_slot s c x declared empty p = absurd (none_some p.0 (sym (ap (name_value x) empty) ∙ p.1))
 no_slot s c x (holds v) empty p = absurd (none_some p.0 (sym (ap (name_value x) empty) ∙ p.1))
+no_slot s c x (keys ks) empty p = absurd (none_some p.0 (sym (ap (name_value x) empty) ∙ p.1))
 
 outer : (b c : Bool) → b ≡ false → ((false || (b || false)) || c) ≡ true → c ≡ true
 outer true c e f = cc

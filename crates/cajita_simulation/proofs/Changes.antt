@@ -21,7 +21,7 @@ use Rattle.row_simulation.proofs.Changes.{named_within}
 use Rattle.row_simulation.proofs.Relation as row_relation
 use Rattle.cajita_simulation.specs.Alike.{shown}
 use Rattle.cajita_simulation.specs.Related.{KnowsPage}
-use Rattle.cajita_simulation.proofs.Relation.{Named, ObjectsAre, Tags, AreScopes, Temps, Slot, unknown, declared, holds, SlotIs, ScopesAre, Here, CodeIs, ClosuresAre, Related, Rel, Closed, Shaped, Stays, optval_keep}
+use Rattle.cajita_simulation.proofs.Relation.{Named, ObjectsAre, Tags, AreScopes, Temps, Slot, unknown, declared, holds, keys, SlotIs, ScopesAre, Here, CodeIs, ClosuresAre, Related, Rel, Closed, Shaped, Stays, optval_keep, list_keep}
 use Rattle.cajita_simulation.proofs.Scopes.{captured_stays, in_stays}
 
 -- objects changed on both sides, and correspond again when m' steps are taken, with a page that keeps this; no closure of a module came or went, and no scope of the world changed
@@ -88,6 +88,7 @@ slot_keep : (s : Store) (h' : Objects) (c : ℕ) (x : List ℕ) (q : Slot) → r
 slot_keep s h' c x unknown k p = tt
 slot_keep s h' c x declared k p = p
 slot_keep s h' c x (holds v) k p = (p.0, p.1, row_relation.val_keep k v p.0 p.2)
+slot_keep s h' c x (keys ks) k p = (p.0, p.1, list_keep k ks p.0 p.2)
 
 pub scopes_keep : {T : Temps} {g : Tags} {scopes : ℕ → List Pairs} {s : Store} {h' : Objects} → rows.Keeps s.heap h' → ScopesAre T g scopes s → ScopesAre T g scopes (with_heap s h')
 scopes_keep {T = T} {s = s} {h' = h'} k r = record {
@@ -143,8 +144,8 @@ printed_quiet (was_revoked m p ∷ z) more quiet = ap (λ l. was_revoked m p ∷
 printed_quiet (changed_node r k c ∷ z) more quiet = ap (λ l. changed_node r k c ∷ l) (printed_quiet z more quiet)
 printed_quiet (ended m e o ∷ z) more quiet = ap (λ l. ended m e o ∷ l) (printed_quiet z more quiet)
 
+pub related_told : {T : Temps} {k : ℕ} {w : World} {z z' : List Item} {n : ℕ} {g : Tags} {s : Store} {y : Kept} {m : ℕ} → printed z' ≡ printed z → Related T k w z n g s y m → Related T k w z' n g s y m
+related_told same r = record { steps = r.steps; items = same ∙ r.items; objects = r.objects; pages = r.pages; closures = r.closures; scopes = r.scopes; globals = r.globals; kept = r.kept }
+
 pub rel_told : {H : Here} {T : Temps} {k : ℕ} {w : World} {z : List Item} {n : ℕ} {g : Tags} {s : Store} {y : Kept} {m : ℕ} (more : List Item) → printed more ≡ [] → Rel H T k w z n g s y m → Rel H T k w (z ++ more) n g s y m
-rel_told {z = z} more quiet r = record {
-  all = record { steps = r.all.steps; items = printed_quiet z more quiet ∙ r.all.items; objects = r.all.objects; pages = r.all.pages; closures = r.all.closures; scopes = r.all.scopes; globals = r.all.globals; kept = r.all.kept };
-  here = r.here;
-}
+rel_told {z = z} more quiet r = record { all = related_told (printed_quiet z more quiet) r.all; here = r.here }

@@ -167,7 +167,7 @@ module _ (g : Tags) (s : Store) (by : ℕ) (f : c.Tree c.func) (direct chain : L
   pub closure_named : {objects : ℕ → List Object} {m : ℕ} → by < 64 → ObjectsAre first place_of objects s.heap m → Named after.heap (made_name by (length (objects by))) (length s.heap.list)
   closure_named below old = ap heap.tag_of function_there ∙ ap (tag.Made by) (ap count_at (old.count by below))
 
-  closures_with : {objects : ℕ → List Object} {vars free : Names} {m : ℕ} → by < 64 → suc m ≤ 4294967295 → AreScopes s → ObjectsAre first place_of objects s.heap m → Captured vars free by g direct chain s → Guest vars free c.func f → ClosuresAre objects g (coded code s) → ClosuresAre (with_last by (a_closure f direct) objects) g after
+  pub closures_with : {objects : ℕ → List Object} {vars free : Names} {m : ℕ} → by < 64 → suc m ≤ 4294967295 → AreScopes s → ObjectsAre first place_of objects s.heap m → Captured vars free by g direct chain s → Guest vars free c.func f → ClosuresAre objects g (coded code s) → ClosuresAre (with_last by (a_closure f direct) objects) g after
   closures_with {objects = objects} below few are old captured guest r = closures_last objects by f direct (length s.heap.list) below (closure_objects below few old) (closure_named below old) (new_code are captured guest) (closures_kept {s = coded code s} (closure_keeps (room by below few old)) are old r)
 
   -- the relation with the closure, for which the interpreter takes a step

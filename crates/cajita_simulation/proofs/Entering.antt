@@ -1,5 +1,5 @@
 -- What is entered on both sides: a scope more, and a function whose object has no name.
-use Rattle.std.proofs.Common.{◌≡◌, ◌≢◌, ℕ, zero, suc, ◌+◌, ◌*◌, ◌≤◌, ◌<◌, true, false, List, [], ◌∷◌, ◌++◌, length, Option, Some, cond, refl, sym, ap, ◌∙◌, subst, arith}
+use Rattle.std.proofs.Common.{◌≡◌, ◌≢◌, ℕ, zero, suc, ◌+◌, ◌*◌, ◌≤◌, ◌<◌, true, false, List, [], ◌∷◌, ◌++◌, length, Option, Some, None, cond, refl, sym, ap, ◌∙◌, subst, arith}
 use Rattle.std.specs.Prelude.{slice_get, is_some, codes, nat_eq}
 use Rattle.std.proofs.lemmas.Option.{slice_get_within}
 use Rattle.std.proofs.lemmas.List.{length-append}
@@ -25,7 +25,7 @@ use Rattle.row_simulation.proofs.Changes.{IsNew, by_number}
 use Rattle.row_simulation.proofs.Added.{added_keeps, objects_added}
 use Rattle.cajita_simulation.proofs.Heaps.Lists.{slice_get-push, slice_get-push-other}
 use Rattle.cajita_simulation.proofs.Heaps.Functions.{function_object, prototype_object, function_new}
-use Rattle.cajita_simulation.proofs.Relation.{EsValue, ScopeTag, tag_of_scope, Tags, Temps, ScopeIs, names_at, OwnNames, IsScope, AreScopes, Slot, unknown, declared, holds, SlotIs, ScopesAre, Related, Shaped, Keeps, keeps_trans, closed_refl}
+use Rattle.cajita_simulation.proofs.Relation.{EsValue, ScopeTag, tag_of_scope, Tags, Temps, ScopeIs, names_at, OwnNames, IsScope, AreScopes, Slot, unknown, declared, holds, keys, SlotIs, ScopesAre, Related, Shaped, Keeps, keeps_trans, closed_refl}
 use Rattle.cajita_simulation.proofs.Changes.{Changes, related_changed, closures_shaped}
 
 -- what is past the end stays so where another one is last
@@ -52,7 +52,7 @@ last_other m x scopes k n lt = elim (nat_eq k m) as (λ b. (slice_get (cond b (s
 pub names_new : (owner : store.Owner) (names : store.Names) (s : Store) → names_at (store.with_scope owner names s) (length s.scopes) ≡ names
 names_new owner names s = ap store.scope_at (slice_get-push s.scopes (record { owner = owner; names = names }))
 
-names_other : (owner : store.Owner) (names : store.Names) (s : Store) (c : ℕ) → c ≢ length s.scopes → names_at (store.with_scope owner names s) c ≡ names_at s c
+pub names_other : (owner : store.Owner) (names : store.Names) (s : Store) (c : ℕ) → c ≢ length s.scopes → names_at (store.with_scope owner names s) c ≡ names_at s c
 names_other owner names s c ne = ap store.scope_at (slice_get-push-off s.scopes c (record { owner = owner; names = names }) ne)
 
 pub shaped_scope : (g : Tags) (t : ScopeTag) (owner : store.Owner) (names : store.Names) (s : Store) → Shaped g s (g ++ t ∷ []) (store.with_scope owner names s)
@@ -70,6 +70,17 @@ scopes_are owner names s own are c =
     (λ same. subst IsScope (sym (ap (slice_get (store.with_scope owner names s).scopes) same ∙ slice_get-push s.scopes (record { owner = owner; names = names }))) own)
     (λ other. subst IsScope (sym (slice_get-push-off s.scopes c (record { owner = owner; names = names }) other)) (are c))
 
+-- the runtime's object is what is called so, where the new scope has no such name
+pub scope_runtime : (owner : store.Owner) (names : store.Names) (s : Store) → is_some (name_value runtime_name names) ≡ false → ((c : ℕ) (e : EsValue) → name_value runtime_name (names_at s c) ≡ Some e → e ≡ es.Obj runtime_id) → (c : ℕ) (e : EsValue) → name_value runtime_name (names_at (store.with_scope owner names s) c) ≡ Some e → e ≡ es.Obj runtime_id
+scope_runtime owner names s none was c e is =
+    by_number c (length s.scopes) (e ≡ es.Obj runtime_id)
+    (λ same. absurd (none_some (name_value runtime_name names) none (sym (ap (name_value runtime_name) (ap (names_at (store.with_scope owner names s)) same ∙ names_new owner names s)) ∙ is)))
+    (λ other. was c e (sym (ap (name_value runtime_name) (names_other owner names s c other)) ∙ is))
+  where
+    none_some : (o : Option EsValue) → is_some o ≡ false → o ≡ Some e → ⊥
+    none_some None b at = cc
+    none_some (Some u) b at = cc
+
 -- the new scopes of both sides: they have the same variables, what is known of the hidden names of the new one is so, and of the others what was known
 pub record NewScopes (T T' : Temps) (pairs : Pairs) (owner : store.Owner) (names : store.Names) (s : Store) : Type 0 where
   pub same : ScopeIs s.heap pairs names
@@ -82,6 +93,7 @@ slot_other : (owner : store.Owner) (names : store.Names) (s : Store) (c : ℕ) (
 slot_other owner names s c x unknown ne p = tt
 slot_other owner names s c x declared ne p = (p.0, ap (name_value x) (names_other owner names s c ne) ∙ p.1)
 slot_other owner names s c x (holds v) ne p = (p.0, ap (name_value x) (names_other owner names s c ne) ∙ p.1, p.2)
+slot_other owner names s c x (keys ks) ne p = (p.0, ap (name_value x) (names_other owner names s c ne) ∙ p.1, p.2)
 
 module _ {T T' : Temps} {pairs : Pairs} {owner : store.Owner} {names : store.Names} {g : Tags} {scopes : ℕ → List Pairs} {s : Store} (m : ℕ) (new : NewScopes T T' pairs owner names s) (old : ScopesAre T g scopes s) where
   abbrev newest : ScopeTag
@@ -227,6 +239,16 @@ function_changes {w = w} {s = s} {y = y} {m = m} code params maker r =
 pub shaped_code : (g : Tags) (code : Code) (s : Store) → Shaped g s g (record s { codes = s.codes ++ code ∷ [] })
 shaped_code g code s = record { count = omega arith; shape = λ c x lt. refl; fixed = λ c lt. refl; codes = λ k q e. slice_get-push-other s.codes k code (slice_get_within s.codes k q e) ∙ e; tags = λ c t e. e }
 
+slot_coded : (l : List Code) (s : Store) (c : ℕ) (x : List ℕ) (t : Slot) → SlotIs s c x t → SlotIs (record s { codes = l }) c x t
+slot_coded l s c x unknown p = tt
+slot_coded l s c x declared p = p
+slot_coded l s c x (holds v) p = p
+slot_coded l s c x (keys ks) p = p
+
+-- other codes
+pub scopes_coded : {T : Temps} {g : Tags} {scopes : ℕ → List Pairs} {s : Store} (l : List Code) → ScopesAre T g scopes s → ScopesAre T g scopes (record s { codes = l })
+scopes_coded {s = s} l r = record { same = r.same; once = r.once; known = r.known; count = r.count; temps = λ c x hidden. slot_coded l s c x _ (r.temps c x hidden); runtime = r.runtime; are = λ c. r.are c; unshared = r.unshared }
+
 -- a code more
 pub related_code : {T : Temps} {k : ℕ} {w : World} {z : List Item} {n : ℕ} {g : Tags} {s : Store} {y : Kept} {m : ℕ} (code : Code) → Related T k w z n g s y m → Related T k w z n g (record s { codes = s.codes ++ code ∷ [] }) y m
 related_code {w = w} {g = g} {s = s} code r = record {
@@ -235,15 +257,10 @@ related_code {w = w} {g = g} {s = s} code r = record {
   objects = r.objects;
   pages = r.pages;
   closures = closures_shaped w.objects {g = g} {s = s} refl (shaped_code g code s) r.scopes.are (λ c. r.scopes.are c) r.closures;
-  scopes = record { same = r.scopes.same; once = r.scopes.once; known = r.scopes.known; count = r.scopes.count; temps = λ c x hidden. slot_same c x _ (r.scopes.temps c x hidden); runtime = r.scopes.runtime; are = λ c. r.scopes.are c; unshared = r.scopes.unshared };
+  scopes = scopes_coded (s.codes ++ code ∷ []) r.scopes;
   globals = r.globals;
   kept = r.kept;
 }
-  where
-    slot_same : (c : ℕ) (x : List ℕ) (t : Slot) → SlotIs s c x t → SlotIs (record s { codes = s.codes ++ code ∷ [] }) c x t
-    slot_same c x unknown p = tt
-    slot_same c x declared p = p
-    slot_same c x (holds v) p = p
 
 -- the relation with such a function
 pub related_function : {T : Temps} {j k : ℕ} {w : World} {z : List Item} {n : ℕ} {g : Tags} {s : Store} {y : Kept} {m : ℕ} (code : Code) (maker : ℕ) → suc (suc m) + k ≤ 64 * n → Related T j w z n g s y m → Related T k w z n g (with_code code maker s) y (suc (suc m))

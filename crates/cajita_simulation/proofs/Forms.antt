@@ -30,6 +30,9 @@ pub mod Block
 pub mod Label
 pub mod Turns
 pub mod Loop
+pub mod Keys
+pub mod KeyTurns
+pub mod ForIn
 pub mod Endings
 pub mod Switch
 pub mod Try

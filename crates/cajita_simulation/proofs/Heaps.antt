@@ -8,3 +8,4 @@ pub mod Guards
 pub mod Arrays
 pub mod Pairs
 pub mod Records
+pub mod Keys

@@ -25,7 +25,7 @@ pub use Rattle.cajita_simulation.specs.Jumps.{Jumps, no_jumps, all_jumps, in_loo
 use Rattle.cajita_simulation.specs.Sides.{Ends, Stops, Outs, Begins, Affords}
 use Rattle.cajita_simulation.proofs.Doing as Source
 use Rattle.cajita_simulation.proofs.Told.{told_more, told_grows, printed_append, items_append}
-use Rattle.cajita_simulation.proofs.Relation.{EsValue, Val, Here, env_of, Tags, Temps, declared, holds, Rel, Stays, stays_refl, stays_trans, stays_step, stays_before, more, rel_less, rel_both}
+use Rattle.cajita_simulation.proofs.Relation.{EsValue, Val, Here, env_of, Tags, Temps, Slot, declared, holds, Rel, Stays, stays_refl, stays_trans, stays_step, stays_before, more, rel_less, rel_both}
 
 pub prefix_refl : (xs : List Item) → IsPrefix xs xs
 prefix_refl xs = record { rest = []; is = sym (append-nil xs) }
@@ -106,9 +106,12 @@ pub record Throws (H : Here) (T : Temps) (d k : ℕ) (w0 : World) (g0 : Tags) (s
 pub record Gives (H : Here) (T : Temps) (d k : ℕ) (w0 : World) (g0 : Tags) (s0 : Store) (i : ℕ) (next : Cont) (next' : Cont') : Type 0 where
   pub on : (c : ℕ) → c ≤ d → (v : Value) (e : EsValue) (w : World) (z : List Item) (n : ℕ) (g : Tags) (s : Store) (y : Kept) (m : ℕ) → Val s.heap v e → Rel H T k w z n g s y m → Stays w0 g0 s0 i w g s m → M H c (next (Source.gave v) w) z n (next' (Target.gave e) s) y m
 
--- a hidden name of a scope holds a value
+-- this is known of a hidden name of a scope; that it holds a value
+abbrev pub puts : ℕ → List ℕ → Slot → Temps → Temps
+puts act x q T c y = cond (nat_eq c act) (cond (same_units y x) q (T c y)) (T c y)
+
 abbrev pub hold : ℕ → List ℕ → Value → Temps → Temps
-hold act x v T c y = cond (nat_eq c act) (cond (same_units y x) (holds v) (T c y)) (T c y)
+hold act x v T = puts act x (holds v) T
 
 -- what a statement leaves in the module's result
 abbrev pub after : Here → Temps → Option Value → Temps

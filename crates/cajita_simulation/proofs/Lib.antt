@@ -22,5 +22,6 @@ pub mod Records
 pub mod Forms
 pub mod Load
 pub mod Calling
+pub mod Declaring
 pub mod Simulation
 pub mod Theorem

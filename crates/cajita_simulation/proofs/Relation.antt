@@ -1,6 +1,9 @@
 -- What persists from one related state to a later one, and the steps that are in hand.
-use Rattle.std.proofs.Common.{◌≡◌, ℕ, suc, ◌+◌, ◌*◌, ◌≤◌, ◌<◌, List, length, Option, Some, None, refl, ◌∙◌, arith}
+use Rattle.std.proofs.Common.{◌≡◌, ℕ, suc, ◌+◌, ◌*◌, ◌≤◌, ◌<◌, List, length, Option, Some, None, refl, ap, ◌∙◌, arith}
 use Rattle.std.specs.Prelude.{slice_get, is_some}
+use Rattle.std.proofs.lemmas.Option.{slice_get_within}
+use Rattle.es3_heap.specs.declared.value.Value.TheVariants as es
+use Rattle.es3_heap.specs.Objects as heap
 use Rattle.es3_heap.specs.Objects.{Objects}
 use Rattle.es3_language.specs.Store as store
 use Rattle.es3_language.specs.Store.{Store, name_value}
@@ -11,10 +14,11 @@ use Rattle.cajita_meaning.specs.Direct.{Item}
 use Rattle.page_natives.specs.Natives.{Kept}
 pub use Rattle.row_simulation.specs.Correspond.{EsValue, Named, Val, Vals, ObjectsAre}
 use Rattle.row_simulation.specs.Correspond as rows
+use Rattle.row_simulation.specs.RowLaw.{IsList}
 use Rattle.row_simulation.proofs.Relation as row_relation
 use Rattle.row_simulation.proofs.Row as row_laws
 pub use Rattle.cajita_simulation.specs.Guest.{Names}
-pub use Rattle.cajita_simulation.specs.Scopes.{ScopeTag, tag_of_scope, Tags, Chained, OptVal, names_at, ScopeIs, OwnNames, IsScope, AreScopes, Slot, unknown, declared, holds, Temps, no_temps, SlotIs, ScopesAre}
+pub use Rattle.cajita_simulation.specs.Scopes.{ScopeTag, tag_of_scope, Tags, Chained, OptVal, names_at, ScopeIs, OwnNames, IsScope, AreScopes, Slot, unknown, declared, holds, keys, Temps, no_temps, SlotIs, ScopesAre}
 pub use Rattle.cajita_simulation.specs.Related.{Here, env_of, Within, Place, Captured, In, CodeIs, ClosuresAre, Related, Between, Rel}
 
 -- of the objects: what a row leaves, and steps that only grow
@@ -83,6 +87,11 @@ stays_before k = record { heap = keeps_before k.heap; shaped = k.shaped; closed 
 
 pub val_keep : {a b : Objects} {i j : ℕ} → Keeps a i b j → (v : Value) (e : EsValue) → Val a v e → Val b v e
 val_keep k v e p = row_relation.val_keep k.objects v e p
+
+-- an array of texts that has no name stays as it is
+pub list_keep : {a b : Objects} → rows.Keeps a b → (ks : List (List ℕ)) (e : EsValue) → IsList a ks e → IsList b ks e
+list_keep {a = a} k ks (es.Obj i) p = k.bare i (slice_get_within a.list i _ p) (ap heap.tag_of p) ∙ p
+list_keep k ks _ p = absurd p
 
 pub optval_keep : {a b : Objects} {i j : ℕ} → Keeps a i b j → (v : Option Value) (e : Option EsValue) → OptVal a v e → OptVal b v e
 optval_keep k None None p = tt

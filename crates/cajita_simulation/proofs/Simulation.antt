@@ -40,6 +40,7 @@ use Rattle.cajita_simulation.proofs.Forms.Var.{var_body}
 use Rattle.cajita_simulation.proofs.Forms.Block.{block_body, branch_body}
 use Rattle.cajita_simulation.proofs.Forms.Label.{label_body}
 use Rattle.cajita_simulation.proofs.Forms.Loop.{MaybeLaw, MaybeBody, LaterLaw, Part, while_body, do_body, for_body, for_var_body, for_first_body, later_law, later_zero}
+use Rattle.cajita_simulation.proofs.Forms.ForIn.{variable_in_body, member_in_body}
 use Rattle.cajita_simulation.proofs.Forms.Switch.{switch_body}
 use Rattle.cajita_simulation.proofs.Forms.Try.{try_body}
 
@@ -56,8 +57,8 @@ value_body few closures natives law types b (c.text us) g = text_body us
 value_body few closures natives law types b (c.name x) g = name_body x g.0 g.1
 value_body few closures natives law types b (c.array es) g = array_body few law es g
 value_body few closures natives law types b (c.record_of fs) g = record_body few law fs g
-value_body few closures natives law types b (c.function (c.fun None params false (c.a_body c.no_funcs names list))) g = function_body few params false (c.a_body c.no_funcs names list) g
-value_body few closures natives law types b (c.function (c.fun (Some x) params false (c.a_body c.no_funcs names list))) g = own_name_body few x params false (c.a_body c.no_funcs names list) g.0 g.1
+value_body few closures natives law types b (c.function (c.fun None params args body)) g = function_body few params args body g
+value_body few closures natives law types b (c.function (c.fun (Some x) params args body)) g = own_name_body few x params args body g.0 g.1
 value_body few closures natives law types b (c.read e k) g = read_body few law (law b e g.0) k g.1
 value_body few closures natives law types b (c.call e es) g = call_body few closures natives law (law b e g.0) es g.1
 value_body few closures natives law types b (c.method e k es) g = method_body few closures natives law (law b e g.0) k g.1 es g.2
@@ -84,8 +85,6 @@ value_body few closures natives law types b (c.and x y) g = and_body (law b x g.
 value_body few closures natives law types b (c.or x y) g = or_body (law b x g.0) (law _ y g.1)
 value_body few closures natives law types b (c.choice x y z) g = choice_body (law b x g.0) (law _ y g.1) (law _ z g.2)
 value_body few closures natives law types b (c.comma x y) g = comma_body (law b x g.0) (law _ y g.1)
-value_body few closures natives law types b (c.function (c.fun (Some x) params true body)) g = absurd g.1
-value_body few closures natives law types b (c.function (c.fun (Some x) params false (c.a_body (c.more_funcs f fs) names list))) g = absurd g.1
 value_body few closures natives law types b _ g = absurd g
 
 abbrev IsNoName : c.Tree c.expr → Type 0
@@ -190,6 +189,9 @@ bare_body {H = H} few law effects later b (c.do_loop x e) bare g =
     do_body (part (omega arith) (omega arith)) (effects H few b x g.0)
     (later b (temps c.stmt x + temps c.expr e) (b + temps c.stmt x) b b (c.some_expr e) c.no_expr x g.1 tt g.0 (part (omega arith) (omega arith)) (part (omega arith) (omega arith)) (part (omega arith) (omega arith)))
 bare_body {H = H} few law effects later b (c.for_loop i e u x) bare g = for_law law (effects H few) later b i e u x g.0 g.1 g.2 g.3
+bare_body {H = H} few law effects later b (c.for_in (c.variable x) e s) bare g = variable_in_body few x g.0.0 g.0.1 g.0.2 (law (b + 3) e g.1) (effects H few (b + 3 + temps c.expr e) s g.2)
+bare_body {H = H} few law effects later b (c.for_in (c.member o k) e s) bare g =
+    member_in_body few law k g.0.1 (law (b + 3) o g.0.0) (law (b + 3 + (temps c.expr o + temps c.key k)) e g.1) (effects H few (b + 3 + (temps c.expr o + (temps c.key k + temps c.expr e))) s g.2)
 bare_body few law effects later b (c.continue l) bare g = continue_body l
 bare_body few law effects later b (c.break l) bare g = break_body l
 bare_body few law effects later b (c.return c.no_expr) bare g = leave_body
@@ -198,7 +200,6 @@ bare_body {H = H} few law effects later b (c.switch e cs) bare g = switch_body l
 bare_body {H = H} few law effects later b (c.label l x) bare g = label_body l (effects H few b x g)
 bare_body few law effects later b (c.throw e) bare g = throw_body (law b e g)
 bare_body few law effects later b (c.try xs h f) bare g = try_body few effects xs h f g.0 g.1 g.2
-bare_body few law effects later b _ bare g = absurd g
 
 effect_body : {H : Here} {d : ℕ} → H.by < 64 → Values H d → ((J : Here) → J.by < 64 → Effects J d) → Later H d → (b : ℕ) (x : c.Tree c.stmt) → Guest H.vars H.free c.stmt x → EffectBody H d b (temps c.stmt x) x (rewritten false c.stmt b x)
 unfolding rewritten

@@ -24,8 +24,8 @@ use Rattle.cajita_simulation.proofs.Doing as Source
 use Rattle.cajita_simulation.proofs.Relation.{EsValue, Val, Here, env_of, Tags, Temps, Slot, declared, holds, SlotIs, names_at, Rel, Stays, rel_pay}
 use Rattle.cajita_simulation.proofs.Slots.{slot_plan}
 use Rattle.cajita_simulation.proofs.Written.{slot_written}
-use Rattle.cajita_simulation.proofs.Writes.{rel_held, stays_held, Covers, rel_covers}
-use Rattle.cajita_simulation.proofs.Laws.{Cont, Cont', M, Room, Throws, NextValue, hold}
+use Rattle.cajita_simulation.proofs.Writes.{Fits, rel_put, stays_held, Covers, rel_covers}
+use Rattle.cajita_simulation.proofs.Laws.{Cont, Cont', M, Room, Throws, NextValue, puts, hold}
 
 pub temp_hidden : (i : ℕ) → is_hidden (temp_name i) ≡ true
 temp_hidden i = is_hidden-from_end (temp_name i) (codes "x" ++ (number_units i ++ codes "_")) (ap (λ l. codes "x" ++ l) (sym (append_assoc (number_units i) (codes "_") (codes "__"))))
@@ -37,11 +37,14 @@ pub temp_other : (i : ℕ) → same_units runtime_name (temp_name i) ≡ false
 temp_other i = refl
 
 -- what a hidden name that is held has
-pub hold_there : (c : ℕ) (x : List ℕ) (v : Value) (T : Temps) → hold c x v T c x ≡ holds v
-hold_there c x v T = rw (same c, same_key-refl x) refl
+pub put_there : (c : ℕ) (x : List ℕ) (q : Slot) (T : Temps) → puts c x q T c x ≡ q
+put_there c x q T = rw (same c, same_key-refl x) refl
   where
     same : (n : ℕ) → nat_eq n n ≡ true
     same n = grind (arith, nat_tests)
+
+pub hold_there : (c : ℕ) (x : List ℕ) (v : Value) (T : Temps) → hold c x v T c x ≡ holds v
+hold_there c x v T = put_there c x (holds v) T
 
 -- a temporary that is declared has a value, and is found in the activation
 pub record TempAt (H : Here) (s : Store) (x : List ℕ) : Type 0 where
@@ -83,8 +86,11 @@ either true q r is = is
 either false q r is = is
 
 -- another temporary has what it had
+pub put_other : (c i j : ℕ) (p : Slot) (T : Temps) (q : Slot) → i ≢ j → i < 18446744073709551616 → j < 18446744073709551616 → T c (temp_name j) ≡ q → puts c (temp_name i) p T c (temp_name j) ≡ q
+put_other c i j p T q ne few small is = rw (temps_apart i j ne few small) (either (nat_eq c c) (T c (temp_name j)) q is)
+
 pub hold_other : (c i j : ℕ) (v : Value) (T : Temps) (q : Slot) → i ≢ j → i < 18446744073709551616 → j < 18446744073709551616 → T c (temp_name j) ≡ q → hold c (temp_name i) v T c (temp_name j) ≡ q
-hold_other c i j v T q ne few small is = rw (temps_apart i j ne few small) (either (nat_eq c c) (T c (temp_name j)) q is)
+hold_other c i j v T q ne few small is = put_other c i j (holds v) T q ne few small is
 
 -- the room of a part, while an earlier temporary is held
 pub room_held : {H : Here} {T : Temps} {b q c u : ℕ} (i : ℕ) (v : Value) → i < c → b ≤ c → c + u ≤ b + q → Room H T b q → Room H (hold H.act (temp_name i) v T) c u
@@ -104,14 +110,19 @@ value_covers f x = record {
   throws = throws_covers f x.throws;
 }
 
--- a temporary takes a value: from the write to what is done next
+-- a temporary takes what a slot says: from the write, which has the value f as a form, to what is done next
+pub put_match : {H : Here} {T : Temps} {d k : ℕ} (i : ℕ) (q : Slot) (e f u : EsValue) {p : Source.Plan} {w : World} {z : List Item} {n : ℕ} {g : Tags} {s : Store} {y : Kept} {m : ℕ} (next' : Cont') → name_value (temp_name i) (names_at s H.act) ≡ Some u → Fits s.heap q e → Rel H T k w z n g s y m
+    → ((s1 : Store) → Rel H (puts H.act (temp_name i) q T) k w z n g s1 y m → Stays w g s m w g s1 m → M H d p z n (next' (Target.gave f) s1) y m)
+    → M H d p z n (bind (write_plan (slot H.act (temp_name i)) e f (env_of H) s) next') y m
+put_match {H = H} {d = d} i q e f u {p = p} {z = z} {n = n} {g = g} {s = s} {y = y} {m = m} next' there is r go =
+    subst (λ s2. M H d p z n (next' (Target.gave f) s2) y m) (sym (slot_written s H.act (temp_name i) e r.here.written r.all.scopes.unshared))
+    (go (with_slot H.act (temp_name i) e s) (rel_put H.act (temp_name i) q e u there (temp_hidden i) (temp_other i) is r) (stays_held H.act (temp_name i) e u there))
+
+-- it takes a value
 pub temp_match : {H : Here} {T : Temps} {d k : ℕ} (i : ℕ) (v : Value) (e : EsValue) {p : Source.Plan} {w : World} {z : List Item} {n : ℕ} {g : Tags} {s : Store} {y : Kept} {m : ℕ} (next' : Cont') → T H.act (temp_name i) ≡ declared → Val s.heap v e → Rel H T k w z n g s y m
     → ((s1 : Store) → Rel H (hold H.act (temp_name i) v T) k w z n g s1 y m → Stays w g s m w g s1 m → M H d p z n (next' (Target.gave e) s1) y m)
     → M H d p z n (bind (write_plan (slot H.act (temp_name i)) e e (env_of H) s) next') y m
-temp_match {H = H} {d = d} i v e {p = p} {z = z} {n = n} {g = g} {s = s} {y = y} {m = m} next' known is r f =
-    let at = temp_at i known r in
-    subst (λ s2. M H d p z n (next' (Target.gave e) s2) y m) (sym (slot_written s H.act (temp_name i) e r.here.written r.all.scopes.unshared))
-    (f (with_slot H.act (temp_name i) e s) (rel_held H.act (temp_name i) v e at.value at.there (temp_hidden i) (temp_other i) is r) (stays_held H.act (temp_name i) e at.value at.there))
+temp_match i v e next' known is r f = let at = temp_at i known r in put_match i (holds v) e e at.value next' at.there is r f
 
 -- a temporary that holds a value is read
 pub temp_read : {H : Here} {T : Temps} {d k : ℕ} (i : ℕ) (v : Value) {p : Source.Plan} {w : World} {z : List Item} {n : ℕ} {g : Tags} {s : Store} {y : Kept} {m : ℕ} (next' : Cont') → T H.act (temp_name i) ≡ holds v → Rel H T (suc k) w z n g s y m

@@ -32,20 +32,20 @@ use Rattle.cajita_simulation.proofs.Relation.{EsValue, Vals, Tags, Between}
 use Rattle.cajita_simulation.proofs.Laws.{sides}
 use Rattle.cajita_simulation.proofs.Simulation.{owns}
 use Rattle.cajita_simulation.proofs.Load.Names.{Module}
-use Rattle.cajita_simulation.proofs.Load.Entering.{made_store, function_before, function_keeps}
+use Rattle.cajita_simulation.proofs.Load.Entering.{made_store, functions_store, functions_before, function_keeps}
 use Rattle.cajita_simulation.proofs.Load.Whole.{IsGuest, whole, imports_read}
 use Rattle.cajita_simulation.proofs.Calls.{opened_of}
 use Rattle.cajita_simulation.proofs.Load.Begins.{begins_one, imports_begin}
 
 -- imports have the same values where the module's function is there
 
-import_there : (q : Module) (by : ℕ) (s : Store) (k : List ℕ) → imports_id < length s.heap.list → own (made_store by q s).heap imports_id k ≡ own s.heap imports_id k
-import_there q by s k lt = ap (λ o. find k (props_of o)) (function_before by q s imports_id lt)
+import_there : (q : Module) (by : ℕ) (s : Store) (k : List ℕ) → imports_id < length s.heap.list → own (functions_store by q s).heap imports_id k ≡ own s.heap imports_id k
+import_there q by s k lt = ap (λ o. find k (props_of o)) (functions_before by q s imports_id lt)
 
-values_there : (q : Module) (by : ℕ) (s : Store) (names : List (List ℕ)) → imports_id < length s.heap.list → map (λ k. value_of (own (made_store by q s).heap imports_id k)) names ≡ map (λ k. value_of (own s.heap imports_id k)) names
+values_there : (q : Module) (by : ℕ) (s : Store) (names : List (List ℕ)) → imports_id < length s.heap.list → map (λ k. value_of (own (functions_store by q s).heap imports_id k)) names ≡ map (λ k. value_of (own s.heap imports_id k)) names
 values_there q by s [] lt = refl
 values_there q by s (k ∷ names) lt =
-    ap (λ o. value_of o ∷ map (λ k. value_of (own (made_store by q s).heap imports_id k)) names) (import_there q by s k lt)
+    ap (λ o. value_of o ∷ map (λ k. value_of (own (functions_store by q s).heap imports_id k)) names) (import_there q by s k lt)
     ∙ ap (λ l. value_of (own s.heap imports_id k) ∷ l) (values_there q by s names lt)
 
 values_long : (h : Objects) (vs : List Value) (us : List EsValue) → Vals h vs us → length vs ≡ length us
@@ -59,11 +59,11 @@ map_long f (x ∷ names) = ap suc (map_long f names)
 
 -- the load of a module, and its program, wherever both sides are related
 pub load_simulated : (rules : Rules) (by : ℕ) → by < 64 → (m : c.Tree c.program) → GuestModule m → {vs : List Value} {w : World} {z : List Item} {n : ℕ} {g : Tags} {s : Store} {y : Kept} {i : ℕ} → ImportsAre s.heap (imports_of m) vs → Between w z n g s y i → Simulated (sides rules) n i (λ j. run (direct rules) j (enter (load_of m by vs) w ends) z) (λ k. run (es3 page_table) k (Target.program_plan (program_of m) by s) y)
-load_simulated rules by few _ (a_guest imports vars list same names names' small guest targets) {vs = vs} {n = n} {s = s} {i = i} are r =
-    let q : Module = record { imports = imports; vars = vars; list = list } in
-    let f : List ℕ → EsValue = λ k. value_of (own (made_store by q s).heap imports_id k) in
+load_simulated rules by few _ (a_guest imports vars fs list same names names' small targets new functions guest) {vs = vs} {n = n} {s = s} {i = i} are r =
+    let q : Module = record { imports = imports; vars = vars; funcs = fs; list = list } in
+    let f : List ℕ → EsValue = λ k. value_of (own (functions_store by q s).heap imports_id k) in
     let us : List EsValue = map f imports in
-    let is : IsGuest q = record { same = same; names = record { imports = names; vars = names' }; few = small; list = guest; targets = targets } in
+    let is : IsGuest q = record { same = same; names = record { imports = names; vars = names'; funcs = new }; few = small; funcs = functions; list = guest; targets = targets } in
     let values : Vals (made_store by q s).heap vs us = subst (λ l. Vals (made_store by q s).heap vs l) (sym (values_there q by s imports are.there)) (vals_keep (function_keeps by q s) vs (map (λ k. value_of (own s.heap imports_id k)) imports) are.values) in
     let long : length vs ≡ length imports = values_long s.heap vs _ are.values ∙ map_long (λ k. value_of (own s.heap imports_id k)) imports in
     turn_simulated (sides rules) n i _ _ _ _ (λ d. whole rules by few q is vs us owns d (imports_read rules by q s is (opened_of r.objects) r.scopes.unshared) values long r)

@@ -5,6 +5,8 @@ use Rattle.std.proofs.lemmas.List.{length-set}
 use Rattle.std.proofs.lemmas.Bool.Decides.{nat_tests}
 use Rattle.std.specs.Cmp.Lexicographic.{same_text}
 use Rattle.caja_units.specs.Units.{same_units, is_hidden}
+use Rattle.es3_heap.specs.Objects.{Objects}
+use Rattle.row_simulation.specs.RowLaw.{IsList}
 use Rattle.es3_language.specs.Store.{Store, name_value, with_slot, with_name, renamed}
 use Rattle.es3_language.specs.References.{slot, resolve}
 use Rattle.cajita_rewrite.specs.Rewrite.{runtime_name}
@@ -13,11 +15,11 @@ use Rattle.cajita_meaning.specs.Direct.{Item}
 use Rattle.page_natives.specs.Natives.{Kept}
 use Rattle.cajita_simulation.proofs.Doing.{assign}
 use Rattle.cajita_simulation.proofs.Heaps.Names.{name_value-with_name}
-use Rattle.cajita_simulation.proofs.Relation.{EsValue, Val, OptVal, ScopeTag, tag_of_scope, Tags, names_at, Temps, Slot, unknown, declared, holds, SlotIs, ScopesAre, Here, Rel, Shaped, Stays, keeps_refl, closed_refl}
+use Rattle.cajita_simulation.proofs.Relation.{EsValue, Val, OptVal, ScopeTag, tag_of_scope, Tags, names_at, Temps, Slot, unknown, declared, holds, keys, SlotIs, ScopesAre, Here, Rel, Shaped, Stays, keeps_refl, closed_refl}
 use Rattle.cajita_simulation.proofs.Scopes.{FoundAt, found_at, in_stays}
 use Rattle.cajita_simulation.proofs.Written.{same_place, other_place, value_at-with_value, names_at-written, names_at-other, scope_at-written, scope_at-other, slot_kept, variable_kept, are_written, fixed_written, written_same}
 use Rattle.cajita_simulation.proofs.Changes.{closures_shaped}
-use Rattle.cajita_simulation.proofs.Laws.{hold}
+use Rattle.cajita_simulation.proofs.Laws.{puts, hold}
 
 -- a guest's variable that the interpreter finds
 pub find : {H : Here} {T : Temps} {k : ℕ} {w : World} {z : List Item} {n : ℕ} {g : Tags} {s : Store} {y : Kept} {m : ℕ} (x : List ℕ) (c : ℕ) → resolve H.chain s x ≡ slot c x → is_hidden x ≡ false → Rel H T k w z n g s y m → FoundAt g H.by H.around.chain w.scopes s x c
@@ -44,6 +46,7 @@ slot_kept_in : (s : Store) (c : ℕ) (x : List ℕ) (e u : EsValue) (n : ℕ) (y
 slot_kept_in s c x e u n y unknown there ne p = tt
 slot_kept_in s c x e u n y declared there ne p = (p.0, slot_kept s c n x y u e there ne ∙ p.1)
 slot_kept_in s c x e u n y (holds v) there ne p = (p.0, slot_kept s c n x y u e there ne ∙ p.1, p.2)
+slot_kept_in s c x e u n y (keys ks) there ne p = (p.0, slot_kept s c n x y u e there ne ∙ p.1, p.2)
 
 same_module : (n : ℕ) → nat_eq n n ≡ true
 same_module n = grind (arith, nat_tests)
@@ -139,13 +142,26 @@ stays_assigned H {g = g} {s = s} x c v e u there = record { heap = keeps_refl; s
 
 -- a hidden name, on the interpreter's side alone
 
-held : (s : Store) (c : ℕ) (x : List ℕ) (v : Value) (e u : EsValue) (T : Temps) (n : ℕ) (y : List ℕ) → name_value x (names_at s c) ≡ Some u → Val s.heap v e → SlotIs s n y (T n y) → SlotIs (with_slot c x e s) n y (hold c x v T n y)
-held s c x v e u T n y there is p =
+-- a value that a slot may have
+abbrev pub Fits : Objects → Slot → EsValue → Type 0
+Fits h unknown e = Unit {0}
+Fits h declared e = Unit {0}
+Fits h (holds v) e = Val h v e
+Fits h (keys ks) e = IsList h ks e
+
+fitting : (s : Store) (c : ℕ) (x : List ℕ) (q : Slot) (e : EsValue) → name_value x (names_at s c) ≡ Some e → Fits s.heap q e → SlotIs s c x q
+fitting s c x unknown e there is = tt
+fitting s c x declared e there is = (e, there)
+fitting s c x (holds v) e there is = (e, there, is)
+fitting s c x (keys ks) e there is = (e, there, is)
+
+held : (s : Store) (c : ℕ) (x : List ℕ) (q : Slot) (e u : EsValue) (T : Temps) (n : ℕ) (y : List ℕ) → name_value x (names_at s c) ≡ Some u → Fits s.heap q e → SlotIs s n y (T n y) → SlotIs (with_slot c x e s) n y (puts c x q T n y)
+held s c x q e u T n y there is p =
     let after = with_slot c x e s in
-    let written : n ≡ c → y ≡ x → SlotIs after n y (holds v) = λ at same. subst (λ k. SlotIs after k y (holds v)) (sym at) (subst (λ q. SlotIs after c q (holds v)) (sym same) (e, ap (name_value x) (names_at-written s c x u e there) ∙ name_value-with_name x e (names_at s c), is)) in
-    let cases = elim (nat_eq n c) as (λ b. nat_eq n c ≡ b → SlotIs after n y (cond b (cond (same_units y x) (holds v) (T n y)) (T n y))) [
+    let written : n ≡ c → y ≡ x → SlotIs after n y q = λ at same. subst (λ k. SlotIs after k y q) (sym at) (subst (λ z. SlotIs after c z q) (sym same) (fitting after c x q e (ap (name_value x) (names_at-written s c x u e there) ∙ name_value-with_name x e (names_at s c)) is)) in
+    let cases = elim (nat_eq n c) as (λ b. nat_eq n c ≡ b → SlotIs after n y (cond b (cond (same_units y x) q (T n y)) (T n y))) [
       | false ↦ λ other. here_kept after n y (T n y) (ap (name_value y) (names_at-other s c n x e (other_place n c other))) refl p
-      | true ↦ λ at. elim (same_units y x) as (λ b. same_units y x ≡ b → SlotIs after n y (cond b (holds v) (T n y))) [
+      | true ↦ λ at. elim (same_units y x) as (λ b. same_units y x ≡ b → SlotIs after n y (cond b q (T n y))) [
         | true ↦ λ same. written (same_place n c at) (same_text y x (sym same))
         | false ↦ λ other. slot_kept_in s c x e u n y (T n y) there other p
       ] refl
@@ -155,14 +171,15 @@ held s c x v e u T n y there is p =
     here_kept after n y unknown same heap p = tt
     here_kept after n y declared same heap p = (p.0, same ∙ p.1)
     here_kept after n y (holds v) same heap p = (p.0, same ∙ p.1, subst (λ h. Val h v p.0) (sym heap) p.2)
+    here_kept after n y (keys ks) same heap p = (p.0, same ∙ p.1, subst (λ h. IsList h ks p.0) (sym heap) p.2)
 
-scopes_held : {T : Temps} {g : Tags} {scopes : ℕ → List Pairs} {s : Store} (c : ℕ) (x : List ℕ) (v : Value) (e u : EsValue) → name_value x (names_at s c) ≡ Some u → is_hidden x ≡ true → same_units runtime_name x ≡ false → Val s.heap v e → ScopesAre T g scopes s → ScopesAre (hold c x v T) g scopes (with_slot c x e s)
-scopes_held {T = T} {scopes = scopes} {s = s} c x v e u there hidden other is r = record {
+scopes_put : {T : Temps} {g : Tags} {scopes : ℕ → List Pairs} {s : Store} (c : ℕ) (x : List ℕ) (q : Slot) (e u : EsValue) → name_value x (names_at s c) ≡ Some u → is_hidden x ≡ true → same_units runtime_name x ≡ false → Fits s.heap q e → ScopesAre T g scopes s → ScopesAre (puts c x q T) g scopes (with_slot c x e s)
+scopes_put {T = T} {scopes = scopes} {s = s} c x q e u there hidden other is r = record {
   same = λ n k l tag y guest. subst (λ o. OptVal s.heap (value_at y (scope_at (slice_get (scopes k) l))) o) (sym (slot_kept s c n x y u e there (open_differs y guest))) (r.same n k l tag y guest);
   once = r.once;
   known = r.known;
   count = let l = length-set s.scopes c (renamed (slice_get s.scopes c) (with_name x e (names_at s c))) in omega (arith, l, r.count);
-  temps = λ n y hid. held s c x v e u T n y there is (r.temps n y hid);
+  temps = λ n y hid. held s c x q e u T n y there is (r.temps n y hid);
   runtime = λ n q at. r.runtime n q (sym (slot_kept s c n x runtime_name u e there other) ∙ at);
   are = are_written s c x e r.are;
   unshared = r.unshared;
@@ -176,8 +193,8 @@ scopes_held {T = T} {scopes = scopes} {s = s} c x v e u there hidden other is r 
         ] in cases refl
 
 -- the relation after a hidden name of a scope was written, on the interpreter's side alone
-pub rel_held : {H : Here} {T : Temps} {k : ℕ} {w : World} {z : List Item} {n : ℕ} {g : Tags} {s : Store} {y : Kept} {m : ℕ} (c : ℕ) (x : List ℕ) (v : Value) (e u : EsValue) → name_value x (names_at s c) ≡ Some u → is_hidden x ≡ true → same_units runtime_name x ≡ false → Val s.heap v e → Rel H T k w z n g s y m → Rel H (hold c x v T) k w z n g (with_slot c x e s) y m
-rel_held {w = w} {g = g} {s = s} c x v e u there hidden other is r =
+pub rel_put : {H : Here} {T : Temps} {k : ℕ} {w : World} {z : List Item} {n : ℕ} {g : Tags} {s : Store} {y : Kept} {m : ℕ} (c : ℕ) (x : List ℕ) (q : Slot) (e u : EsValue) → name_value x (names_at s c) ≡ Some u → is_hidden x ≡ true → same_units runtime_name x ≡ false → Fits s.heap q e → Rel H T k w z n g s y m → Rel H (puts c x q T) k w z n g (with_slot c x e s) y m
+rel_put {w = w} {g = g} {s = s} c x q e u there hidden other is r =
     let shaped = shaped_slot g s c x e u there in
     let are = are_written s c x e r.all.scopes.are in
     record {
@@ -187,7 +204,7 @@ rel_held {w = w} {g = g} {s = s} c x v e u there hidden other is r =
         objects = r.all.objects;
         pages = r.all.pages;
         closures = closures_shaped w.objects refl shaped r.all.scopes.are are r.all.closures;
-        scopes = scopes_held c x v e u there hidden other is r.all.scopes;
+        scopes = scopes_put c x q e u there hidden other is r.all.scopes;
         globals = r.all.globals;
         kept = r.all.kept;
       };
@@ -221,21 +238,21 @@ rel_covers {s = s} f r =
 pub covers_trans : {T U V : Temps} → Covers T U → Covers U V → Covers T V
 covers_trans f g = record { covers = λ s c x hidden p. f.covers s c x hidden (g.covers s c x hidden p) }
 
--- what a name holds may be forgotten, where it was declared before
-pub held_covers : (T : Temps) (c : ℕ) (x : List ℕ) (v : Value) → T c x ≡ declared → Covers T (hold c x v T)
-held_covers T c x v is = record { covers = λ s n y hidden p. one s n y p }
+-- what is known of a name may be forgotten, where it was declared before
+pub put_covers : (T : Temps) (c : ℕ) (x : List ℕ) (q : Slot) → ((s : Store) (n : ℕ) (y : List ℕ) → SlotIs s n y q → SlotIs s n y declared) → T c x ≡ declared → Covers T (puts c x q T)
+put_covers T c x q fewer is = record { covers = λ s n y hidden p. one s n y p }
   where
-    fewer : (s : Store) (n : ℕ) (y : List ℕ) → SlotIs s n y (holds v) → SlotIs s n y declared
-    fewer s n y p = (p.0, p.1)
-
-    one : (s : Store) (n : ℕ) (y : List ℕ) → SlotIs s n y (hold c x v T n y) → SlotIs s n y (T n y)
+    one : (s : Store) (n : ℕ) (y : List ℕ) → SlotIs s n y (puts c x q T n y) → SlotIs s n y (T n y)
     one s n y p =
-        let cases = elim (nat_eq n c) as (λ b. nat_eq n c ≡ b → SlotIs s n y (cond b (cond (same_units y x) (holds v) (T n y)) (T n y)) → SlotIs s n y (T n y)) [
+        let cases = elim (nat_eq n c) as (λ b. nat_eq n c ≡ b → SlotIs s n y (cond b (cond (same_units y x) q (T n y)) (T n y)) → SlotIs s n y (T n y)) [
           | false ↦ λ other p. p
-          | true ↦ λ at. elim (same_units y x) as (λ b. same_units y x ≡ b → SlotIs s n y (cond b (holds v) (T n y)) → SlotIs s n y (T n y)) [
+          | true ↦ λ at. elim (same_units y x) as (λ b. same_units y x ≡ b → SlotIs s n y (cond b q (T n y)) → SlotIs s n y (T n y)) [
             | false ↦ λ other p. p
             | true ↦ λ same p.
                 let slot : T n y ≡ declared = subst (λ k. T k y ≡ declared) (sym (same_place n c at)) (subst (λ q. T c q ≡ declared) (sym (same_text y x (sym same))) is) in
                 subst (λ q. SlotIs s n y q) (sym slot) (fewer s n y p)
           ] refl
         ] in cases refl p
+
+pub held_covers : (T : Temps) (c : ℕ) (x : List ℕ) (v : Value) → T c x ≡ declared → Covers T (hold c x v T)
+held_covers T c x v is = put_covers T c x (holds v) (λ s n y p. (p.0, p.1)) is

@@ -8,8 +8,8 @@ use Rattle.es3_tree.specs.declared.UnOp.TheVariants as un
 use Rattle.es3_tree.specs.declared.BinOp.{BinOp}
 use Rattle.row_simulation.specs.OperatorLaw.{IsOfValues}
 use Rattle.cajita_tree.specs.Tree as c
-use Rattle.cajita_meaning.specs.Asking.{func_name}
 use Rattle.cajita_rewrite.specs.Rewrite.{temps, declared, arguments_copy}
+use Rattle.cajita_meaning.specs.Asking.{func_name}
 use Rattle.cajita_simulation.specs.Jumps.{no_jumps, function_jumps, Targets}
 
 abbrev pub is_among : List (List ℕ) → List ℕ → Bool
@@ -39,7 +39,7 @@ abbrev pub is_declared : c.Tree c.funcs → List ℕ → Bool
 is_declared c.no_funcs x = false
 is_declared (c.more_funcs f fs) x = same_units x (func_name f) || is_declared fs x
 
--- what a body adds to the names around it: its parameters, its variables, the functions that it declares, and the copy of `arguments` if it names that
+-- what is around the statements of a body: its parameters, its variables and its functions, the copy of `arguments` where it reads that, and the names around it
 abbrev pub within : List (List ℕ) → List (List ℕ) → c.Tree c.funcs → Bool → Names → Names
 within params vars fs args names x = (args && same_units x arguments_copy) || (is_declared fs x || inner params vars names x)
 
@@ -52,7 +52,7 @@ abbrev pub NewFuncs : List (List ℕ) → List (List ℕ) → c.Tree c.funcs →
 NewFuncs params names c.no_funcs = Unit {0}
 NewFuncs params names (c.more_funcs f fs) = NewFunc params names f fs × NewFuncs params names fs
 
--- each of the names once
+-- each name once
 abbrev pub AreDistinct : List (List ℕ) → Type 0
 AreDistinct [] = Unit {0}
 AreDistinct (x ∷ xs) = (is_among xs x ≡ false) × AreDistinct xs
@@ -70,14 +70,13 @@ Converts op = Unit {0}
 abbrev pub without : List ℕ → Names → Names
 without x names y = not (same_units y x) && names y
 
--- a part over names that may be read and names that may be written
+-- a part over names that may be read and names that may be written; no other form is accepted yet
 abbrev pub Guest : Names → Names → (s : c.Sort) → c.Tree s → Type 0
 Guest vars free _ c.null = Unit {0}
 Guest vars free _ (c.bool b) = Unit {0}
 Guest vars free _ (c.num n) = Unit {0}
 Guest vars free _ (c.text us) = Unit {0}
 Guest vars free _ (c.name x) = (vars x ≡ true) × GuestName x
-Guest vars free _ c.args = vars arguments_copy ≡ true
 Guest vars free _ (c.array es) = Guest vars free _ es
 Guest vars free _ (c.record_of fs) = Guest vars free _ fs
 Guest vars free _ (c.function (c.fun None params args body)) = Guest vars free _ (c.fun None params args body)
@@ -127,14 +126,14 @@ Guest vars free _ c.no_items = Unit {0}
 Guest vars free _ (c.more_items x e rest) = (vars x ≡ true) × (free x ≡ true) × GuestName x × Guest vars free _ e × Guest vars free _ rest
 Guest vars free _ c.no_stmts = Unit {0}
 Guest vars free _ (c.more_stmts s rest) = Guest vars free _ s × Guest vars free _ rest
--- a function: its parameters, each once, and its variables have names that a module may use, each variable that a statement declares is among them, its temporaries
--- have names of their own, its jumps are its own, and the functions that it declares have names of their own
-Guest vars free _ (c.fun name params args (c.a_body fs names list)) =
-    ((x : List ℕ) → is_among params x ≡ true → GuestName x) × ((x : List ℕ) → is_among names x ≡ true → GuestName x) × AreDistinct params × ((x : List ℕ) → is_among (declared c.stmts list) x ≡ true → is_among names x ≡ true)
-    × (temps c.stmts list < 18446744073709551616) × Targets function_jumps [] c.stmts list × NewFuncs params names fs
-    × Guest (within params names fs args vars) (within params names fs args free) _ fs × Guest (within params names fs args vars) (within params names fs args free) _ list
 Guest vars free _ c.no_funcs = Unit {0}
 Guest vars free _ (c.more_funcs f fs) = Guest vars free _ f × Guest vars free _ fs
+-- a function that reads no `arguments`: its parameters, each once, and its variables have names that a module may use, each variable that a statement declares is among
+-- them, its temporaries have names of their own, its jumps are its own, and the functions that it declares have names of their own
+Guest vars free _ (c.fun name params false (c.a_body fs names list)) =
+    ((x : List ℕ) → is_among params x ≡ true → GuestName x) × ((x : List ℕ) → is_among names x ≡ true → GuestName x) × AreDistinct params × ((x : List ℕ) → is_among (declared c.stmts list) x ≡ true → is_among names x ≡ true)
+    × (temps c.stmts list < 18446744073709551616) × Targets function_jumps [] c.stmts list × NewFuncs params names fs
+    × Guest (within params names fs false vars) (within params names fs false free) _ fs × Guest (within params names fs false vars) (within params names fs false free) _ list
 Guest vars free _ c.no_stmt = Unit {0}
 Guest vars free _ (c.some_stmt x) = Guest vars free _ x
 Guest vars free _ c.no_block = Unit {0}
@@ -148,9 +147,15 @@ Guest vars free _ c.no_handler = Unit {0}
 Guest vars free _ (c.some_handler x xs) = GuestName x × Guest (inner [] (x ∷ []) vars) (inner [] (x ∷ []) free) _ xs
 Guest vars free _ _ = ⊥
 
--- a module: its imports and its variables have names that a module may use, each variable that a statement declares is among them, its temporaries have names of their
--- own, the functions that it declares have names of their own, and each of its jumps has its target
+-- what a module's functions and statements may name: its imports, its variables and its functions; imports aren't written
+abbrev pub module_names : List (List ℕ) → List (List ℕ) → c.Tree c.funcs → Names
+module_names imports vars fs = within [] vars fs false (is_among imports)
+
+abbrev pub module_free : List (List ℕ) → c.Tree c.funcs → Names
+module_free vars fs = within [] vars fs false (λ x. false)
+
+-- a module: each variable that its statements declare is among its variables, whose names a module may use, as those of its imports and its functions; its temporaries have
+-- names of their own, and each of its jumps has its target
 pub data GuestModule : c.Tree c.program → Type 0 where
-  a_guest : (imports vars : List (List ℕ)) (fs : c.Tree c.funcs) (list : c.Tree c.stmts) → ((x : List ℕ) → is_among (declared c.stmts list) x ≡ true → is_among vars x ≡ true) → ((x : List ℕ) → is_among imports x ≡ true → GuestName x) → ((x : List ℕ) → is_among vars x ≡ true → GuestName x)
-      → temps c.stmts list < 18446744073709551616 → Targets no_jumps [] c.stmts list → NewFuncs imports vars fs
-      → Guest (within [] vars fs false (is_among imports)) (within [] vars fs false (λ x. false)) c.funcs fs → Guest (within [] vars fs false (is_among imports)) (within [] vars fs false (λ x. false)) c.stmts list → GuestModule (c.a_module imports (c.a_body fs vars list))
+  a_guest : (imports vars : List (List ℕ)) (fs : c.Tree c.funcs) (list : c.Tree c.stmts) → ((x : List ℕ) → is_among (declared c.stmts list) x ≡ true → is_among vars x ≡ true) → ((x : List ℕ) → is_among imports x ≡ true → GuestName x) → ((x : List ℕ) → is_among vars x ≡ true → GuestName x) → temps c.stmts list < 18446744073709551616
+      → Targets no_jumps [] c.stmts list → NewFuncs imports vars fs → Guest (module_names imports vars fs) (module_free vars fs) c.funcs fs → Guest (module_names imports vars fs) (module_free vars fs) c.stmts list → GuestModule (c.a_module imports (c.a_body fs vars list))

@@ -10,6 +10,7 @@ use Rattle.cajita_rewrite.specs.Rewrite.{runtime_name}
 use Rattle.cajita_meaning.specs.World.{Value, Pairs, value_at, scope_at}
 use Rattle.heap_rows.specs.Opening.{runtime_id}
 use Rattle.row_simulation.specs.Correspond.{EsValue, Val}
+use Rattle.row_simulation.specs.RowLaw.{IsList}
 
 -- the module that a scope belongs to, and its number among those of that module
 pub record ScopeTag : Type 0 where
@@ -55,11 +56,13 @@ IsScope (Some scope) = OwnNames scope.owner
 abbrev pub AreScopes : Store → Type 0
 AreScopes s = (c : ℕ) → IsScope (slice_get s.scopes c)
 
--- what is known of a hidden name of the rewriting in a scope: nothing; that it is declared; that it holds what corresponds to a value
+-- what is known of a hidden name of the rewriting in a scope: nothing; that it is declared; that it holds what corresponds to a value; that it holds a new array of
+-- these texts, which has no name
 pub data Slot : Type 0 where
   unknown : Slot
   declared : Slot
   holds : Value → Slot
+  keys : List (List ℕ) → Slot
 
 -- by the number of a scope and the name
 abbrev pub Temps : Type 0
@@ -73,6 +76,7 @@ abbrev pub SlotIs : Store → ℕ → List ℕ → Slot → Type 0
 SlotIs s c x unknown = Unit {0}
 SlotIs s c x declared = (e : EsValue) × (name_value x (names_at s c) ≡ Some e)
 SlotIs s c x (holds v) = (e : EsValue) × (name_value x (names_at s c) ≡ Some e) × Val s.heap v e
+SlotIs s c x (keys ks) = (e : EsValue) × (name_value x (names_at s c) ≡ Some e) × IsList s.heap ks e
 
 -- each scope is the world's scope of its tag, and no other has that tag; what is known of hidden names is so; and nothing but the runtime's object is called so.
 -- No parameter shares its value with an object (10.1.8), since no function is that reads `arguments`

@@ -1,15 +1,21 @@
 -- What is put into a cell is there, and nothing changes in the others.
-use Rattle.std.proofs.Common.{◌≡◌, ◌≢◌, ℕ, zero, suc, ◌+◌, ◌-◌, ◌<◌, ◌≤◌, Bool, true, false, List, [], ◌∷◌, ◌++◌, length, get_or, set, replicate, map, refl, sym, ap, ◌∙◌, subst, append_assoc, append-nil, arith}
-use Rattle.std.specs.Prelude.{nat_eq, slice_get, unwrap_or, if◌then◌else◌}
+use Rattle.std.proofs.Common.{◌≡◌, ◌≢◌, ℕ, zero, suc, ◌+◌, ◌-◌, ◌<◌, ◌≤◌, true, false, List, [], ◌∷◌, ◌++◌, length, get_or, replicate, refl, sym, ap, ◌∙◌, subst, append_assoc, append-nil, arith}
+use Rattle.std.specs.Prelude.{Result, nat_eq, slice_get, unwrap_or, if◌then◌else◌}
 use Rattle.std.proofs.lemmas.Bool.Decides.{nat_tests}
 use Rattle.std.proofs.lemmas.List.{length-append, length-replicate, get_or-set_same, get_or-set_other}
 use Rattle.std.proofs.lemmas.Option.{unwrap_or-slice_get}
 use Rattle.es3_heap.specs.declared.value.Value.{Value}
 use Rattle.es3_heap.specs.declared.value.Value.TheVariants as v
+use Rattle.es3_heap.specs.declared.value.Stop.{Stop}
 use Rattle.es3_heap.specs.Objects.{Objects}
-use Rattle.es3_language.specs.Natives.{value_reply, Turn}
-use Rattle.page_natives.specs.Answered.{turn_of}
+use Rattle.es3_moves.specs.Answers.{Answers}
+use Rattle.heap_rows.specs.Doing.{gives}
+use Rattle.row_outcomes.specs.declared.Outcome.{Outcome}
+use Rattle.row_outcomes.specs.Comes.{Comes}
+use Rattle.page_natives.specs.Answered.{answered, turn_of}
+use Rattle.page_natives.specs.Objects.{to_value}
 use Rattle.page_natives.specs.Natives.{Kept, cell_value, cell_done, padded, put_at}
+use Rattle.page_natives.proofs.Answered.{comes_answers}
 
 -- one more, where there are fewer
 pub padded_more : (n : ℕ) (cells : List Value) → length cells < n → padded n (cells ++ v.Undefined ∷ []) ≡ padded n cells
@@ -24,10 +30,6 @@ padded_more n cells fewer =
 -- none, where there are so many
 pub padded_all : (n : ℕ) (cells : List Value) → n ≤ length cells → padded n cells ≡ cells
 padded_all n cells many = let none : n - length cells ≡ 0 = omega (arith, many) in ap (λ k. cells ++ replicate k v.Undefined) none ∙ append-nil cells
-
--- what is put where there are so many
-pub put_made : (cell : ℕ) (x : Value) (before after : List Value) → cell < length after → padded (cell + 1) after ≡ padded (cell + 1) before → set after cell x ≡ put_at cell x before
-put_made cell x before after lt same = ap (λ l. set l cell x) (sym (padded_all (cell + 1) after (omega (arith, lt))) ∙ same)
 
 nothing_there : (k i : ℕ) → get_or (replicate k v.Undefined) i v.Undefined ≡ v.Undefined
 nothing_there zero i = refl
@@ -52,8 +54,10 @@ pub put_elsewhere : (cell i : ℕ) (x : Value) (cells : List Value) → i ≢ ce
 put_elsewhere cell i x cells other = get_or-set_other (padded (cell + 1) cells) cell i x v.Undefined other ∙ padded_same cells (cell + 1 - length cells) i
 
 -- what a cell holds is answered
-pub got : (z : Kept) (cell : ℕ) (h : Objects) (x : Value) → x ≡ unwrap_or (slice_get z.cells cell) v.Undefined → turn_of (cell_done cell z.cells h) z ≡ record { reply = value_reply x; heap = h; state = z }
-got z cell h x is = ap (λ y. let t : Turn Kept = record { reply = value_reply y; heap = h; state = z } in t) (sym (unwrap_or-slice_get z.cells cell v.Undefined) ∙ sym is)
+pub got : (z : Kept) (cell : ℕ) (h : Objects) (held : Value) (result : Result Outcome Stop) → held ≡ unwrap_or (slice_get z.cells cell) v.Undefined → Comes (to_value held h) result h
+    → Answers (turn_of (cell_done cell z.cells h) z) (answered result) h z
+got z cell h held result is comes =
+    subst (λ x. Answers (turn_of (gives x h []) z) (answered result) h z) (is ∙ unwrap_or-slice_get z.cells cell v.Undefined) (comes_answers (to_value held h) z result h comes)
 
 -- what every cell holds afterwards
 pub put_is : (cell : ℕ) (x : Value) (cells : List Value) (i : ℕ) → cell_value i (put_at cell x cells) ≡ (if nat_eq i cell then x else cell_value i cells)

@@ -9,8 +9,7 @@ use Rattle.es3_heap.specs.declared.value.FuncKind.TheVariants as kind
 use Rattle.es3_heap.specs.declared.value.Stop.{Stop}
 use Rattle.es3_heap.specs.Objects.{Objects, Callable, object_at, class_of, callable_of}
 use Rattle.es3_heap.specs.Properties.{own}
-use Rattle.rows.specs.Rows as r
-use Rattle.rows.specs.Rows.{Branch, Row, Sight, ends, throws as refuses}
+use Rattle.rows.specs.Rows.{Branch, Row, ends, throws as refuses}
 use Rattle.rows.specs.Nodes.{Rules, no_rules, node_seen, on_node}
 use Rattle.rows.specs.Table.{row_of}
 use Rattle.heap_rows.specs.Marks.{simple_mark}

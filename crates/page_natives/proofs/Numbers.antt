@@ -1,12 +1,10 @@
 -- Each callee by its number.
-use Rattle.std.proofs.Common.{◌≡◌, ℕ, ◌+◌, ◌*◌, ◌/◌, ◌%◌, ◌-◌, ◌≤◌, true, false, List, Some, refl, sym, ap, ◌∙◌, arith}
+use Rattle.std.proofs.Common.{◌≡◌, ℕ, ◌+◌, ◌*◌, ◌/◌, ◌%◌, ◌-◌, ◌≤◌, false, Some, refl, ap, ◌∙◌, arith}
 use Rattle.std.specs.Prelude.{nat_lt}
 use Rattle.std.proofs.lemmas.Bool.Decides.{nat_tests}
-use Rattle.es3_heap.specs.declared.value.Value.{Value}
-use Rattle.es3_heap.specs.Objects.{Objects}
 use Rattle.rows.specs.Rows as r
 use Rattle.rows.specs.Rows.{Native}
-use Rattle.heap_rows.specs.Natives.{own_number, cell_number, is_common}
+use Rattle.heap_rows.specs.Natives.{own_number, cell_number}
 use Rattle.page_natives.specs.declared.natives.Callee.TheVariants as c
 use Rattle.page_natives.specs.Natives.{own_callee, callee_of}
 use Rattle.page_natives.specs.OwnFunctions.{HasItsNumber, BuiltInsDoTheirRows}

@@ -1,5 +1,5 @@
 -- The natives of a page name live objects alone.
-use Rattle.std.proofs.Common.{ℕ, zero, suc, ◌+◌, ◌-◌, ◌≤◌, Bool, true, false, List, [], ◌∷◌, All, length, replicate, cond, Option, Some, None, Ok, Err, lt_of_lt_of_le, le_trans}
+use Rattle.std.proofs.Common.{ℕ, zero, suc, ◌+◌, ◌-◌, Bool, true, false, List, [], ◌∷◌, All, length, replicate, cond, Option, Some, None, Ok, Err, lt_of_lt_of_le, le_trans}
 use Rattle.std.proofs.lemmas.List.Elements.{All-nil, All-cons, All-head, All-tail, All-push, All-append, All-set, All-weaker}
 use Rattle.std.specs.Prelude.{codes, nat_lt, Result}
 use Rattle.plans.specs.Plans.{Fault}
@@ -26,7 +26,6 @@ use Rattle.page_natives.specs.declared.built_ins.Tool.{Tool}
 use Rattle.page_natives.specs.declared.built_ins.Tool.TheVariants as tool
 use Rattle.page_natives.specs.declared.built_ins.Method.{Method}
 use Rattle.page_natives.specs.declared.built_ins.Method.TheVariants as m
-use Rattle.page_natives.specs.declared.built_ins.NodeMethod.{NodeMethod}
 use Rattle.page_natives.specs.declared.built_ins.BuiltIn.{BuiltIn}
 use Rattle.page_natives.specs.declared.built_ins.BuiltIn.TheVariants as b
 use Rattle.page_natives.specs.declared.natives.Callee.{Callee}
@@ -34,8 +33,7 @@ use Rattle.page_natives.specs.declared.natives.Callee.TheVariants as c
 use Rattle.page_natives.specs.Objects.{object_from, array_from}
 use Rattle.page_natives.specs.BuiltIns.{tool_done, method_done, of_node, done_of}
 use Rattle.page_natives.specs.declared.natives.Waiting.{Waiting}
-use Rattle.page_natives.specs.Answered.{turn_of}
-use Rattle.page_natives.specs.Natives.{Kept, Fits, kept_fits, callee_of, can_wait, cell_value, padded, put_at, say_done, with_said, later_done, with_waiting, with_kept, done_by, kept_by, turn_by, page_table}
+use Rattle.page_natives.specs.Natives.{Kept, kept_fits, callee_of, can_wait, cell_value, padded, put_at, say_done, with_said, later_done, with_waiting, done_by, kept_by, turn_by, page_table}
 
 -- the functions that are no rows
 

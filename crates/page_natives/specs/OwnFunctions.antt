@@ -3,12 +3,11 @@
 use Rattle.std.specs.Prelude.{◌≡◌, ℕ, suc, true, List, ◌∷◌, [], ◌++◌, length, Some}
 use Rattle.es3_heap.specs.declared.value.Value.{Value}
 use Rattle.es3_heap.specs.declared.value.Tag.{Tag}
-use Rattle.es3_heap.specs.declared.value.Tag.TheVariants as tag
 use Rattle.es3_heap.specs.Objects.{Objects}
 use Rattle.rows.specs.Rows.{Native}
 use Rattle.rows.specs.Nodes.{Rules}
 use Rattle.rows.specs.Table.{row_of}
-use Rattle.heap_rows.specs.Natives.{number_of, own_number, cell_number, is_common}
+use Rattle.heap_rows.specs.Natives.{number_of, is_common}
 use Rattle.heap_rows.specs.Doing.{Done, Came, named, does}
 use Rattle.heap_rows.specs.Opening.{place_of}
 use Rattle.row_outcomes.specs.Comes.{row_done}

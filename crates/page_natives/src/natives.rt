@@ -4,10 +4,11 @@ ghost use Rattle.std.specs.Prelude.{◌≡◌, ◌≤◌, ◌%◌, ◌/◌, ◌-
 ghost use Rattle.es3_convert.specs.Conversions.{text_of};
 ghost use Rattle.es3_moves.specs.Answers.{Answers};
 ghost use Rattle.page_natives.specs.Answered.{answered, turn_of};
-ghost use Rattle.page_natives.specs.Natives.{Kept, kept_of, new_kept, kept_fits, own_callee, callee_of, can_wait, say_done, with_said, later_done, with_waiting, cell_done, set_done, put_at, with_kept, done_by, kept_by, page_table};
+ghost use Rattle.page_natives.specs.Natives.{Kept, kept_of, new_kept, kept_fits, own_callee, callee_of, can_wait, say_done, with_said, later_done, with_waiting, cell_done, set_done, padded, put_at, with_kept, done_by, kept_by, page_table};
 ghost use Rattle.page_natives.specs.Keeps.{page_keeps_live};
 
 use crate::built_ins::{BuiltIn, built_in, done};
+use crate::objects::value_of;
 use crate::waiting::can_wait;
 use caja_units::{Memory, Units};
 use es3_convert::{out_of_memory, to_text};
@@ -115,14 +116,23 @@ pub struct PageNatives {
     pub waiting: Vec<Waiting>,
 }
 
+/// Makes so many cells at least; new ones hold nothing.
+fn pad(cells: &mut Vec<Value>, count: usize) -> Result<(), Memory>
+    ensures items { OnOk result (cells.new.items ≡ padded count cells.old.items) }
+    ensures long { OnOk result (count ≤ length cells.new.items) }
+{
+    while cells.len() < count {
+        cells.push(Value::Undefined)?;
+    }
+    Ok(())
+}
+
 /// Puts a value into a cell. The cells before it of which there were none yet hold nothing.
 fn put_at(cells: &mut Vec<Value>, cell: u32, value: Value) -> Result<(), Memory>
     ensures { OnOk result (cells.new.items ≡ put_at cell value cells.old.items) }
 {
     let at = cell as usize;
-    while cells.len() <= at {
-        cells.push(Value::Undefined)?;
-    }
+    pad(cells, at + 1)?;
     cells[at] = value;
     Ok(())
 }
@@ -192,9 +202,7 @@ impl PageNatives {
         ensures { Answers (turn_of (cell_done cell (kept_of self.now).cells h.now) (kept_of self.now)) (answered result) h.now (kept_of self.now) }
     {
         let absent = Value::Undefined;
-        let held = value_or(&self.cells, cell as usize, &absent);
-        let value = held.copy(alloc).map_err(out_of_memory)?;
-        Ok(Outcome::Value(value))
+        value_of(alloc, h, value_or(&self.cells, cell as usize, &absent))
     }
 
     /// `set(v)` of a cell: it holds the argument.

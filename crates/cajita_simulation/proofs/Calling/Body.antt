@@ -1,5 +1,5 @@
 -- The call of a closure: both enter it, run its statements, and go back.
-use Rattle.std.proofs.Common.{◌≡◌, ℕ, zero, suc, ◌+◌, ◌≤◌, ◌<◌, true, false, List, [], ◌∷◌, length, Option, None, cond, refl, sym, subst, arith}
+use Rattle.std.proofs.Common.{◌≡◌, ℕ, zero, suc, ◌+◌, ◌≤◌, ◌<◌, true, false, List, [], ◌∷◌, ◌++◌, length, Option, None, cond, refl, sym, subst, arith}
 use Rattle.std.specs.Prelude.{nat_lt}
 use Rattle.plans.specs.Plans.{bind, depth_fault, stops}
 use Rattle.acts.specs.Acts.{replied, answer, fault}
@@ -7,36 +7,43 @@ use Rattle.matching.proofs.Rules.{right_enter, left_tick, left_told, both_stop}
 use Rattle.es3_tree.specs.Tree as t
 use Rattle.es3_heap.specs.declared.value.Value.TheVariants as es
 use Rattle.es3_heap.specs.Objects as heap
-use Rattle.es3_language.specs.Store.{Store, with_vars, with_params}
+use Rattle.es3_language.specs.Store.{Store, activation, with_vars, with_params, with_scope}
 use Rattle.es3_language.specs.Hoisting.{functions_of}
 use Rattle.es3_language.specs.Expressions.{apply_callable, with_functions, open_code, this_of}
 use Rattle.es3_language.specs.Meaning as Target
 use Rattle.cajita_tree.specs.Tree as c
-use Rattle.cajita_rewrite.specs.Rewrite.{rewritten, temps, declared, others, temp_items, name_items, var_stmts}
+use Rattle.cajita_rewrite.specs.Rewrite.{rewritten, temps, declared, others, temp_items, name_items, var_stmts, marks}
 use Rattle.cajita_meaning.specs.World as World
-use Rattle.cajita_meaning.specs.World.{Value, World as State}
+use Rattle.cajita_meaning.specs.World.{Value, next_scope, World as State}
 use Rattle.cajita_meaning.specs.Asking as Asking
-use Rattle.cajita_meaning.specs.Asking.{passing, stepping_all, entry_reply, statements_reply, returned_reply, good_value}
-use Rattle.cajita_meaning.specs.Direct.{Item, passed}
+use Rattle.cajita_meaning.specs.Asking.{passing, stepping_all, count_of, functions_made, entry_reply, statements_reply, returned_reply, good_value}
+use Rattle.cajita_meaning.specs.Direct.{Item, passed, printed}
 use Rattle.page_natives.specs.Natives.{Kept}
-use Rattle.cajita_simulation.specs.Guest.{Guest}
+use Rattle.cajita_simulation.specs.Guest.{Guest, within}
 use Rattle.cajita_simulation.specs.Jumps.{function_jumps}
 use Rattle.cajita_simulation.proofs.Doing as Source
 use Rattle.cajita_simulation.proofs.Doing.{good, bad}
-use Rattle.cajita_simulation.proofs.Relation.{EsValue, Vals, Here, env_of, Tags, Temps, AreScopes, In, CodeIs, Rel, Stays, stays_refl, stays_step, stays_trans, stays_before, rel_less, rel_pay, rel_steps}
+use Rattle.cajita_simulation.proofs.Relation.{EsValue, Vals, Here, env_of, Tags, Temps, tag_of_scope, ScopeIs, AreScopes, Captured, In, CodeIs, Related, Rel, Stays, stays_refl, stays_trans, stays_before, rel_less, related_steps}
+use Rattle.cajita_simulation.proofs.Scopes.{in_stays}
 use Rattle.cajita_simulation.proofs.Writes.{Covers}
-use Rattle.cajita_simulation.proofs.Changes.{rel_told}
+use Rattle.cajita_simulation.proofs.Changes.{rel_told, related_told}
 use Rattle.cajita_simulation.proofs.Laws.{Targets, bare, NextValue, NextEffect, effect_from, Cont, Cont', M, Room, room_part, steps_hold}
 use Rattle.cajita_simulation.proofs.Rows.{Going}
 use Rattle.cajita_simulation.proofs.Forms.List.{Effects, behind'}
-use Rattle.cajita_simulation.proofs.Calling.Names.{NewNames, heads, statements, own_names, new_names, no_functions}
-use Rattle.cajita_simulation.proofs.Calling.Entering.{inside, entered_store, declares_room, declares_covers, rel_enter, stays_enter, rel_back}
+use Rattle.cajita_simulation.proofs.Entering.{names_new, scopes_are, scope_runtime}
+use Rattle.cajita_simulation.proofs.Calls.{opened_of}
+use Rattle.cajita_simulation.proofs.Declaring.Stores.{bare_store, named_store, bound_names, functions_first}
+use Rattle.cajita_simulation.proofs.Declaring.Names.{Placed, placed, bound_pairs, objects_world, declared_world, world_is}
+use Rattle.cajita_simulation.proofs.Declaring.Relation.{one_each, one_each_is, Few, shaped_named, scope_alike, related_declared, stays_declared}
+use Rattle.cajita_simulation.proofs.Declaring.Marks.{Entered, six, six_is, marks_match, declares_match}
+use Rattle.cajita_simulation.proofs.Calling.Names.{NewNames, ScopeNames, heads, behind_head, statements, own_names, new_names, functions_are, scope_names, call_names}
+use Rattle.cajita_simulation.proofs.Calling.Entering.{inside, declares, declares_room, declares_covers, captured_enter, in_enter, new_scopes, rel_back}
 use Rattle.cajita_simulation.proofs.Calling.Laws.{ClosureLaw}
 
 -- names are bound, each with a step of the direct meaning
-ticked : (H : Here) {d : ℕ} (count : ℕ) (w : State) (p : Asking.Reply) (go : Going) (next : Cont) {z : List Item} (n : ℕ) {q : Target.Plan} {y : Kept} {m : ℕ} → ((n' : ℕ) → n ≤ n' → M H d (bind (replied p go) next) z n' q y m) → M H d (bind (replied (stepping_all count w p) go) next) z n q y m
+ticked : (H : Here) {d : ℕ} (count : ℕ) (w : State) (p : Asking.Reply) (go : Going) (next : Cont) {z : List Item} (n : ℕ) {q : Target.Plan} {y : Kept} {m : ℕ} → ((n' : ℕ) → n' ≡ n + count → M H d (bind (replied p go) next) z n' q y m) → M H d (bind (replied (stepping_all count w p) go) next) z n q y m
 ticked H zero w p go next n f = f n (omega arith)
-ticked H (suc count) w p go next n f = left_tick (ticked H count w p go next (suc n) (λ n' le. f n' (omega arith)))
+ticked H (suc count) w p go next n f = left_tick (ticked H count w p go next (suc n) (λ n' same. f n' (omega (arith, same))))
 
 -- what is told where values go from one module to another
 passed_match : {H : Here} {T : Temps} {d k : ℕ} (a b : ℕ) (us : List Value) (p : Asking.Reply) (go : Going) (next : Cont) {w : State} {z : List Item} {n : ℕ} {g : Tags} {s : Store} {q : Target.Plan} {y : Kept} {m : ℕ} → Rel H T k w z n g s y m → ((z' : List Item) → Rel H T k w z' n g s y m → M H d (bind (replied p go) next) z' n q y m) → M H d (bind (replied (passing a b us p) go) next) z n q y m
@@ -92,10 +99,10 @@ temps_none : (i q : ℕ) (is : t.Tree t.items) → NoValues is → NoValues (tem
 temps_none i zero is p = p
 temps_none i (suc q) is p = temps_none (suc i) q is p
 
-head_match : {J : Here} {T : Temps} {d k : ℕ} (is : t.Tree t.items) → NoValues is → (rest : t.Tree t.stmts) {p : Source.Plan} {w : State} {z : List Item} {n : ℕ} {g : Tags} {s : Store} {y : Kept} {m : ℕ} (end' : Cont') (next' : Cont') → Rel J T (suc k) w z n g s y m → ((m' : ℕ) → m ≤ m' → Rel J T k w z n g s y m' → M J d p z n (bind (Target.list true rest None (env_of J) s end') next') y m') → M J d p z n (bind (Target.list true (var_stmts is rest) None (env_of J) s end') next') y m
-head_match t.no_items none rest end' next' r f = f _ (omega arith) (rel_less (omega arith) r)
-head_match {J = J} {d = d} (t.more_items x e is) none rest {p = p} {z = z} {n = n} {s = s} {y = y} {m = m} end' next' r f =
-    right_enter (subst (λ q. M J d p z n (bind q (λ e1 s1. bind (Target.list_rest true rest None (env_of J) end' e1 s1) next')) y (suc m)) (sym (no_values (t.more_items x e is) (env_of J) s none)) (f (suc m) (omega arith) (rel_pay r)))
+head_match : (H : Here) {d : ℕ} (is : t.Tree t.items) → NoValues is → (rest : t.Tree t.stmts) (s : Store) {p : Source.Plan} {z : List Item} {n : ℕ} {y : Kept} {m : ℕ} (end' : Cont') (next' : Cont') → ((m' : ℕ) → m ≤ m' → m' ≤ suc m → M H d p z n (bind (Target.list true rest None (env_of H) s end') next') y m') → M H d p z n (bind (Target.list true (var_stmts is rest) None (env_of H) s end') next') y m
+head_match H t.no_items none rest s end' next' f = f _ (omega arith) (omega arith)
+head_match H {d = d} (t.more_items x e is) none rest s {p = p} {z = z} {n = n} {y = y} {m = m} end' next' f =
+    right_enter (subst (λ q. M H d p z n (bind q (λ e1 s1. bind (Target.list_rest true rest None (env_of H) end' e1 s1) next')) y (suc m)) (sym (no_values (t.more_items x e is) (env_of H) s none)) (f (suc m) (omega arith) (omega arith)))
 
 -- a place of the same page
 abbrev at_page : Here → Here → Here
@@ -120,27 +127,63 @@ body_ends {H = H} J {T = T} go next next' f are here keep x = record {
 closure_match : {H : Here} {T : Temps} {d k : ℕ} → ((J : Here) → J.by < 64 → Effects J d) → (a by i : ℕ) (f : c.Tree c.func) (direct : List ℕ) (this : EsValue) (us : List Value) (qs : List EsValue) {w : State} {z : List Item} {n : ℕ} {g : Tags} {s : Store} {y : Kept} {m : ℕ} (go : Going) (next : Cont) (next' : Cont') → a < d → by < 64 → CodeIs by g s f direct i → Vals s.heap us qs → Rel H T (suc k) w z n g s y m → NextValue H T a k w g s m (Source.called_next go next) next'
     → M H a (bind (replied (entry_reply f direct by us H.around.calls H.by w) go) next) z n (bind (apply_callable (heap.callable_of (heap.object_at s.heap i)) (es.Obj i) this qs (env_of H) s) next') y m
 unfolding rewritten
-closure_match {H = H} {T = T} {k = k} effects a by i (c.fun name params false (c.a_body c.no_funcs names xs)) direct this us qs {w = w} {z = z} {n = n} {g = g} {s = s} {y = y} {m = m} go next next' lt below code is r x =
-    let f = c.fun name params false (c.a_body c.no_funcs names xs) in
+closure_match {H = H} {T = T} {k = k} effects a by i (c.fun name params false (c.a_body fs names xs)) direct this us qs {w = w} {z = z} {n = n} {g = g} {s = s} {y = y} {m = m} go next next' lt below code is r x =
+    let f = c.fun name params false (c.a_body fs names xs) in
     let q = temps c.stmts xs in
     let guest = code.guest in
-    let new : NewNames params names (own_names names xs) q = new_names _ _ names xs guest.5 guest.1 guest.2 params guest.0 in
-    let J = inside H by w s code.vars code.free direct code.chain params names (this_of this s) in
-    let all = with_vars (own_names names xs) (with_params params qs []) in
-    let pairs = World.with_vars names (World.with_params params us []) in
-    let after = entered_store (es.Obj i) params qs all s in
-    let outer = World.with_scope by pairs w in
-    let source : Asking.Reply = statements_reply xs J.around by H.by outer in
-    let target : List (t.Tree t.func) → Target.Plan = λ fs. Target.list true (statements names xs) None (env_of J) (with_functions fs (length s.scopes) (length s.scopes ∷ code.chain) by after) Target.body_end in
-    let count = length params + (0 + (length names + 0)) in
-    let entered : (z' : List Item) → Rel H T (suc k) w z' n g s y m → (n' : ℕ) → n ≤ n' → M H a (bind (replied source go) next) z' n' (bind (target []) next') y m = λ z' r0 n' le.
-    let r1 = rel_enter by w g s (es.Obj i) us qs new H (this_of this s) is code.captured (rel_steps (omega arith) (omega (arith, r0.all.steps, le)) r0).all in
-    head_match {J = J} (heads names xs) (temps_none 0 q _ (names_none (others names (declared c.stmts xs)))) (rewritten false c.stmts 0 xs) Target.body_end next' r1 (λ m' more r2.
-    own_match {J = J} H.by (effects J below) xs guest.5 guest.4 0 None a k go Target.body_end next next' lt (declares_room {H = J} q T guest.3) r2 (body_ends {H = H} J go next next' (declares_covers q T r.all.scopes) r.all.scopes.are r.here (stays_trans (stays_enter by w g s (es.Obj i) us qs new) (stays_step more)) x)) in
-    let cases = elim (nat_lt H.around.calls 1000) as (λ b. M H a (bind (replied (cond b (passing H.by by us (stepping_all count w source)) (fault depth_fault w)) go) next) z n (bind (cond b (target (functions_of (statements names xs))) (stops depth_fault s)) next') y m) [
+    let vars' = own_names fs names xs in
+    let news : NewNames params names vars' q = new_names _ _ fs names xs guest.8 guest.1 guest.3 params guest.0 in
+    let act = length s.scopes in
+    let number = next_scope by w in
+    let chain = length s.scopes ∷ code.chain in
+    let outer = next_scope by w ∷ direct in
+    let vars1 = within params names fs false code.vars in
+    let free1 = within params names fs false code.free in
+    let J = inside H by number act vars1 free1 direct code.chain (this_of this s) in
+    let firsts = with_vars vars' (with_params params qs []) in
+    let all = bound_names fs (length s.heap.list) firsts in
+    let new : ScopeNames all code.vars code.free vars1 free1 q = scope_names fs (length s.heap.list) qs news guest.6 code.vars code.free in
+    let owner = activation (es.Obj i) params qs in
+    let scoped = with_scope owner all s in
+    let first_pairs = World.with_vars names (World.with_params params us []) in
+    let pairs = bound_pairs fs outer by w.objects first_pairs in
+    let tags = g ++ tag_of_scope by number ∷ [] in
+    let captured : Captured vars1 free1 by tags outer chain scoped = captured_enter by number g s (es.Obj i) params qs new r.all.scopes.count r.all.scopes.are code.captured in
+    let stands : In J tags scoped = in_enter by number g s (es.Obj i) params qs new H (this_of this s) captured in
+    let are : AreScopes scoped = scopes_are owner all s tt r.all.scopes.are in
+    let entered : Entered J tags scoped = record { here = stands; are = are; runtime = scope_runtime owner all s new.runtime r.all.scopes.runtime; opened = opened_of r.all.objects } in
+    let count = length params + (0 + (length names + count_of fs)) in
+    let done : State → Asking.Reply = λ w2. statements_reply xs J.around by H.by w2 in
+    let source : Asking.Reply = functions_made fs number outer by (World.with_scope by first_pairs w) done in
+    let target : List (t.Tree t.func) → Target.Plan = λ l. Target.list true (statements fs names xs) None (env_of J) (with_functions l act chain by (with_scope owner firsts s)) Target.body_end in
+    let body = rewritten false c.stmts 0 xs in
+    let ends : Store → Target.Plan = λ s1. Target.list true (statements fs names xs) None (env_of J) s1 Target.body_end in
+    let statements_match : (z' : List Item) (n' m1 : ℕ) → Rel H T (suc k) w z' n g s y m → n' ≡ n + count → m ≤ m1 → m1 ≤ suc m → (acc : Option EsValue) (z2 : List Item) → printed z2 ≡ printed z' → Few fs (one_each fs m1) → M H a (bind (replied (done (declared_world fs number outer by (World.with_scope by first_pairs w))) go) next) z2 n' (bind (Target.list true body acc (env_of J) (named_store fs chain by scoped) Target.body_end) next') y (six fs (one_each fs m1)) =
+    λ z' n' m1 r0 same from to acc z2 told few.
+    let ones = one_each_is fs m in
+    let ones1 = one_each_is fs m1 in
+    let sixes = six_is fs (one_each fs m1) in
+    let few0 : Few fs m = λ j lt. let h = few j lt in omega (arith, h, ones1, from) in
+    let alike : ScopeIs (named_store fs chain by s).heap pairs all = λ x shown. scope_alike fs g s by outer chain below few0 r.all.objects x first_pairs firsts (call_names s.heap x params names vars' us qs is (sym (news.guests x shown))) in
+    let scopes = new_scopes by number g (named_store fs chain by s) (es.Obj i) params qs new T pairs alike in
+    let begun : Related T 0 w z' n' g s y m = related_steps (omega arith) (omega (arith, r0.all.steps, same)) r0.all in
+    let both = related_declared {k = 0} fs by outer chain below few0 (omega (arith, r0.all.steps, same, ones)) scopes captured guest.7 begun in
+    let r1 : Rel J (declares act q T) k (World.with_scope by pairs (objects_world fs outer by w)) z2 n' tags (named_store fs chain by scoped) y (six fs (one_each fs m1)) = record { all = related_told told (related_steps (omega (arith, ones, ones1, sixes, from)) (omega (arith, r0.all.steps, same, ones1, sixes, to)) both); here = in_stays (shaped_named fs chain by tags scoped) are are stands } in
+    subst (λ v. M H a (bind (replied (done v) go) next) z2 n' (bind (Target.list true body acc (env_of J) (named_store fs chain by scoped) Target.body_end) next') y (six fs (one_each fs m1))) (sym (world_is fs outer by first_pairs w))
+    (own_match {J = J} H.by (effects J below) xs guest.8 guest.5 0 acc a k go Target.body_end next next' lt (declares_room {H = J} q T guest.4) r1
+    (body_ends {H = H} J go next next' (declares_covers q T r.all.scopes) r.all.scopes.are r.here (stays_declared fs by outer chain pairs owner all below few0 r.all.objects (omega (arith, ones1, sixes, from))) x)) in
+    let functions : (z' : List Item) → Rel H T (suc k) w z' n g s y m → (n' : ℕ) → n' ≡ n + count → M H a (bind (replied source go) next) z' n' (bind (ends (bare_store fs chain by scoped)) next') y m = λ z' r0 n' same.
+    head_match J (heads names xs) (temps_none 0 q _ (names_none (others names (declared c.stmts xs)))) (behind_head fs xs) (bare_store fs chain by scoped) Target.body_end next' (λ m1 from to.
+    let ones1 = one_each_is fs m1 in
+    let sixes = six_is fs (one_each fs m1) in
+    declares_match H.rules (env_of J) fs (marks fs body) None (bare_store fs chain by scoped) Target.body_end next'
+    (marks_match {J = J} params names fs body None number outer chain code.chain (World.with_scope by first_pairs w) done go next Target.body_end next' refl guest.6 entered (subst (λ l. Placed fs (length s.heap.list) l) (sym (names_new owner all s)) (placed params names fs (length s.heap.list) firsts guest.6)) (omega (arith, r0.all.steps, same, ones1, sixes, to)) r0.all.items (statements_match z' n' m1 r0 same from to))) in
+    let goes : (z' : List Item) → Rel H T (suc k) w z' n g s y m → (n' : ℕ) → n' ≡ n + count → M H a (bind (replied source go) next) z' n' (bind (target (functions_of (statements fs names xs))) next') y m = λ z' r0 n' same.
+    subst (λ l. M H a (bind (replied source go) next) z' n' (bind (target l) next') y m) (sym (functions_are _ _ fs names xs guest.8))
+    (subst (λ s1. M H a (bind (replied source go) next) z' n' (bind (ends s1) next') y m) (sym (functions_first fs owner firsts chain by s)) (functions z' r0 n' same)) in
+    let cases = elim (nat_lt H.around.calls 1000) as (λ b. M H a (bind (replied (cond b (passing H.by by us (stepping_all count w source)) (fault depth_fault w)) go) next) z n (bind (cond b (target (functions_of (statements fs names xs))) (stops depth_fault s)) next') y m) [
       | false ↦ both_stop (steps_hold r) (refl, tt, r.all.items)
-      | true ↦ passed_match H.by by us (stepping_all count w source) go next r (λ z' r0. ticked H count w source go next n (λ n' le.
-          subst (λ fs. M H a (bind (replied source go) next) z' n' (bind (target fs) next') y m) (sym (no_functions _ _ names xs guest.5)) (entered z' r0 n' le)))
+      | true ↦ passed_match H.by by us (stepping_all count w source) go next r (λ z' r0. ticked H count w source go next n (λ n' same. goes z' r0 n' same))
     ] in
     subst (λ o. M H a (bind (replied (entry_reply f direct by us H.around.calls H.by w) go) next) z n (bind (apply_callable o (es.Obj i) this qs (env_of H) s) next') y m) (sym code.callable)
     (subst (λ o. M H a (bind (replied (entry_reply f direct by us H.around.calls H.by w) go) next) z n (bind (open_code o by (es.Obj i) (this_of this s) qs H.around.calls s Target.body_end) next') y m) (sym code.code) cases)

@@ -1,48 +1,39 @@
 -- A call enters a closure: a new scope on both sides; and goes back.
 use Rattle.std.proofs.Common.{◌≡◌, ◌≢◌, ℕ, ◌+◌, ◌<◌, Bool, true, false, List, [], ◌∷◌, ◌++◌, length, Option, Some, None, cond, refl, sym, ap, ◌∙◌, subst, arith}
-use Rattle.std.specs.Prelude.{slice_get, is_some, nat_eq, ◌||◌}
+use Rattle.std.specs.Prelude.{slice_get, is_some, nat_eq}
 use Rattle.std.proofs.lemmas.List.{length-append}
 use Rattle.std.proofs.lemmas.Option.{none-some}
 use Rattle.std.proofs.lemmas.Bool.Decides.{nat_tests}
 use Rattle.caja_units.specs.Units.{is_hidden}
 use Rattle.es3_language.specs.Store as store
-use Rattle.es3_language.specs.Store.{Store, Names, activation, name_value, with_vars, with_params, with_scope}
+use Rattle.es3_language.specs.Store.{Store, Names, activation, name_value, with_scope}
 use Rattle.es3_language.specs.Arguments.{is_fixed}
 use Rattle.es3_language.specs.References.{slot, resolve}
 use Rattle.cajita_rewrite.specs.Rewrite.{runtime_name, temp_name}
-use Rattle.cajita_meaning.specs.World as World
-use Rattle.cajita_meaning.specs.World.{Value, Pairs, World as State, next_scope}
+use Rattle.cajita_meaning.specs.World.{Pairs, World as State}
 use Rattle.cajita_meaning.specs.Direct.{Item}
 use Rattle.page_natives.specs.Natives.{Kept}
 use Rattle.cajita_simulation.specs.Guest as Guest
-use Rattle.cajita_simulation.specs.Guest.{is_among, inner}
 use Rattle.cajita_simulation.proofs.Heaps.Lists.{slice_get-push}
-use Rattle.cajita_simulation.proofs.Relation.{EsValue, Vals, tag_of_scope, Tags, Here, Temps, Slot, unknown, declared, holds, SlotIs, ScopesAre, names_at, AreScopes, Place, Captured, In, Related, Rel, Stays, keeps_refl}
+use Rattle.cajita_simulation.proofs.Relation.{EsValue, tag_of_scope, Tags, Here, Temps, Slot, unknown, declared, holds, keys, SlotIs, ScopesAre, ScopeIs, names_at, AreScopes, Place, Captured, In, Rel, Stays}
 use Rattle.cajita_simulation.proofs.Scopes.{passes, in_stays, captured_stays}
 use Rattle.cajita_simulation.proofs.Written.{same_place}
 use Rattle.cajita_simulation.proofs.Writes.{Covers, rel_covers}
 use Rattle.cajita_simulation.proofs.Laws.{Room}
-use Rattle.cajita_simulation.proofs.Entering.{names_new, shaped_scope, scopes_are, NewScopes, related_scope}
+use Rattle.cajita_simulation.proofs.Entering.{names_new, shaped_scope, scopes_are, NewScopes}
 use Rattle.cajita_simulation.proofs.Load.Bound.{is_temp, temp_is, temp_of}
-use Rattle.cajita_simulation.proofs.Calling.Names.{NewNames, call_bound, call_names}
+use Rattle.cajita_simulation.proofs.Calling.Names.{ScopeNames}
 
--- the new scope
-abbrev pub entered_store : EsValue → List (List ℕ) → List EsValue → Names → Store → Store
-entered_store f params qs names s = with_scope (activation f params qs) names s
-
-abbrev pub entered_tags : ℕ → State → Tags → Tags
-entered_tags by w g = g ++ tag_of_scope by (next_scope by w) ∷ []
-
--- where the statements of a closure of a module stand
-abbrev pub inside : Here → ℕ → State → Store → Guest.Names → Guest.Names → List ℕ → List ℕ → List (List ℕ) → List (List ℕ) → ℕ → Here
-inside H by w s vars free direct chain params names this = record {
+-- where the statements of a closure of a module stand, by the numbers of its scope on both sides
+abbrev pub inside : Here → ℕ → ℕ → ℕ → Guest.Names → Guest.Names → List ℕ → List ℕ → ℕ → Here
+inside H by number act vars free direct chain this = record {
   rules = H.rules;
-  around = record { chain = next_scope by w ∷ direct; calls = H.around.calls + 1 };
+  around = record { chain = number ∷ direct; calls = H.around.calls + 1 };
   by = by;
-  chain = length s.scopes ∷ chain;
-  vars = inner params names vars;
-  free = inner params names free;
-  act = length s.scopes;
+  chain = act ∷ chain;
+  vars = vars;
+  free = free;
+  act = act;
   this = this;
 }
 
@@ -67,6 +58,7 @@ pub no_slot : (s : Store) (c : ℕ) (x : List ℕ) (q : Slot) → names_at s c �
 no_slot s c x unknown bare p = refl
 no_slot s c x declared bare p = absurd (none-some p.0 (sym (ap (name_value x) bare) ∙ p.1))
 no_slot s c x (holds v) bare p = absurd (none-some p.0 (sym (ap (name_value x) bare) ∙ p.1))
+no_slot s c x (keys ks) bare p = absurd (none-some p.0 (sym (ap (name_value x) bare) ∙ p.1))
 
 pub past_end : {A : Type 0} (xs : List A) → slice_get xs (length xs) ≡ None
 past_end [] = refl
@@ -87,58 +79,22 @@ declares_covers {s = s0} q T r = record { covers = λ s c x hidden p. one s c x 
 
 -- names that the new scope has, and those that are found further out
 
-bound_either : (a b : Bool) → b ≡ true → (a || b) ≡ true
-bound_either true b e = refl
-bound_either false b e = e
-
-left_false : (a b : Bool) → (a || b) ≡ false → (a ≡ false) × (b ≡ false)
-left_false true b e = cc
-left_false false b e = (refl, e)
-
-or_left : (a b c : Bool) → a ≡ false → b ≡ false → ((a || b) || c) ≡ true → c ≡ true
-or_left true b c ea eb e = cc
-or_left false true c ea eb e = cc
-or_left false false c ea eb e = e
-
-not_true : (b : Bool) → (b ≡ true → ⊥) → b ≡ false
-not_true true f = absurd (f refl)
-not_true false f = refl
-
 pub here_at : (s' : Store) (act : ℕ) (chain : List ℕ) (x : List ℕ) → is_some (name_value x (names_at s' act)) ≡ true → resolve (act ∷ chain) s' x ≡ slot act x
 here_at s' act chain x bound = rw bound refl
 
 pub further_at : (s' : Store) (act : ℕ) (chain : List ℕ) (x : List ℕ) (c : ℕ) → AreScopes s' → is_some (name_value x (names_at s' act)) ≡ false → resolve chain s' x ≡ slot c x → resolve (act ∷ chain) s' x ≡ slot c x
 further_at s' act chain x c are bare at = rw bare (passes (slice_get s'.scopes act) s' x (resolve chain s' x) (are act) ∙ at)
 
-outer_names : {params names vars' : List (List ℕ)} {q : ℕ} (x : List ℕ) → NewNames params names vars' q → (is_among params x || is_among vars' x) ≡ false → (is_among params x ≡ false) × (is_among names x ≡ false)
-outer_names {params = params} {names = names} {vars' = vars'} x g e =
-    let parts = left_false (is_among params x) (is_among vars' x) e in
-    let cases = elim (is_hidden x) as (λ b. is_hidden x ≡ b → is_among names x ≡ false) [
-      | false ↦ λ open_name. sym (g.guests x open_name) ∙ parts.1
-      | true ↦ λ hidden. not_true (is_among names x) (λ e. cc (sym hidden ∙ (g.names_open x e).open_name))
-    ] in (parts.0, cases refl)
-
-module _ {params names vars' : List (List ℕ)} {q : ℕ} (by : ℕ) (w : State) (g : Tags) (s : Store) (f : EsValue) (us : List Value) (qs : List EsValue) (new : NewNames params names vars' q) where
-  abbrev pub all : Names
-  all = with_vars vars' (with_params params qs [])
-
-  abbrev pub pairs : Pairs
-  pairs = World.with_vars names (World.with_params params us [])
-
+-- a scope with these names, the last one
+module _ {all : Names} {vars free vars1 free1 : Guest.Names} {q : ℕ} (by number : ℕ) (g : Tags) (s : Store) (f : EsValue) (params : List (List ℕ)) (qs : List EsValue) (new : ScopeNames all vars free vars1 free1 q) where
   abbrev pub after : Store
-  after = with_scope (activation f params qs) (with_vars vars' (with_params params qs [])) s
+  after = with_scope (activation f params qs) all s
 
   abbrev pub tags : Tags
-  tags = g ++ tag_of_scope by (next_scope by w) ∷ []
+  tags = g ++ tag_of_scope by number ∷ []
 
-  no_runtime : (is_among params runtime_name || is_among vars' runtime_name) ≡ false
-  no_runtime = rw (not_true (is_among params runtime_name) (λ e. closed (new.params_open runtime_name e).open_name), new.runtime) refl
-    where
-      closed : is_hidden runtime_name ≡ false → ⊥
-      closed e = cc
-
-  found_in : (x : List ℕ) (b : Bool) → (is_among params x || is_among vars' x) ≡ b → is_some (name_value x (names_at after (length s.scopes))) ≡ b
-  found_in x b e = ap (λ l. is_some (name_value x l)) (names_new (activation f params qs) all s) ∙ call_bound x params vars' qs ∙ e
+  found_in : (x : List ℕ) (b : Bool) → is_some (name_value x all) ≡ b → is_some (name_value x (names_at after (length s.scopes))) ≡ b
+  found_in x b e = ap (λ l. is_some (name_value x l)) (names_new (activation f params qs) all s) ∙ e
 
   longer : length s.scopes < length after.scopes
   longer = omega (arith, length-append s.scopes (record { owner = activation f params qs; names = all } ∷ []))
@@ -146,38 +102,41 @@ module _ {params names vars' : List (List ℕ)} {q : ℕ} (by : ℕ) (w : State)
   fixed_new : is_fixed (slice_get after.scopes (length s.scopes)) ≡ false
   fixed_new = ap is_fixed (slice_get-push s.scopes (record { owner = activation f params qs; names = all }))
 
-  captured_enter : {vars free : Guest.Names} {direct chain : List ℕ} → length g ≡ length s.scopes → AreScopes s → Captured vars free by g direct chain s → Captured (inner params names vars) (inner params names free) by tags (next_scope by w ∷ direct) (length s.scopes ∷ chain) after
-  captured_enter {vars = vars} {free = free} {direct = direct} {chain = chain} count are p =
+  pub captured_enter : {direct chain : List ℕ} → length g ≡ length s.scopes → AreScopes s → Captured vars free by g direct chain s → Captured vars1 free1 by tags (number ∷ direct) (length s.scopes ∷ chain) after
+  captured_enter {direct = direct} {chain = chain} count are p =
       let are' : AreScopes after = scopes_are (activation f params qs) all s tt are in
-      let old : Captured vars free by tags direct chain after = captured_stays (shaped_scope g (tag_of_scope by (next_scope by w)) (activation f params qs) all s) are are' p in
+      let old : Captured vars free by tags direct chain after = captured_stays (shaped_scope g (tag_of_scope by number) (activation f params qs) all s) are are' p in
       record {
-        chained = (ap (slice_get tags) (sym count) ∙ slice_get-push g (tag_of_scope by (next_scope by w)), old.chained);
+        chained = (ap (slice_get tags) (sym count) ∙ slice_get-push g (tag_of_scope by number), old.chained);
         within = (longer, old.within);
         names = λ x known. place x are' old known;
         runtime = old.runtime;
         runtime_below = old.runtime_below;
-        runtime_at = further_at after (length s.scopes) chain runtime_name old.runtime are' (found_in runtime_name false no_runtime) old.runtime_at;
+        runtime_at = further_at after (length s.scopes) chain runtime_name old.runtime are' (found_in runtime_name false new.runtime) old.runtime_at;
         runtime_bound = old.runtime_bound;
       }
     where
-      place : (x : List ℕ) → AreScopes after → Captured vars free by tags direct chain after → inner params names vars x ≡ true → Place (inner params names free) (length s.scopes ∷ chain) after x
+      place : (x : List ℕ) → AreScopes after → Captured vars free by tags direct chain after → vars1 x ≡ true → Place free1 (length s.scopes ∷ chain) after x
       place x are' old known =
-          let cases = elim (is_among params x || is_among vars' x) as (λ b. (is_among params x || is_among vars' x) ≡ b → Place (inner params names free) (length s.scopes ∷ chain) after x) [
+          let cases = elim (is_some (name_value x all)) as (λ b. is_some (name_value x all) ≡ b → Place free1 (length s.scopes ∷ chain) after x) [
             | true ↦ λ e. record { scope = length s.scopes; below = longer; at = here_at after (length s.scopes) chain x (found_in x true e); written = λ may. fixed_new }
             | false ↦ λ e.
-                let outer = outer_names x new e in
-                let found = old.names x (or_left (is_among params x) (is_among names x) (vars x) outer.0 outer.1 known) in
-                record { scope = found.scope; below = found.below; at = further_at after (length s.scopes) chain x found.scope are' (found_in x false e) found.at; written = λ may. found.written (or_left (is_among params x) (is_among names x) (free x) outer.0 outer.1 may) }
+                let found = old.names x (new.read x e known) in
+                record { scope = found.scope; below = found.below; at = further_at after (length s.scopes) chain x found.scope are' (found_in x false e) found.at; written = λ may. found.written (new.write x e may) }
           ] in cases refl
 
-  -- what is known of the hidden names of the new scope
+  -- where its statements stand
+  pub in_enter : (H : Here) {direct chain : List ℕ} (this : ℕ) → Captured vars1 free1 by tags (number ∷ direct) (length s.scopes ∷ chain) after → In (inside H by number (length s.scopes) vars1 free1 direct chain this) tags after
+  in_enter H {chain = chain} this captured = record { captured = captured; act = longer; written = fixed_new; temps = λ x hidden bound. here_at after (length s.scopes) chain x bound }
+
+  -- what is known of its hidden names
   new_slot : (x : List ℕ) → SlotIs after (length s.scopes) x (cond (is_temp q x) declared unknown)
   new_slot x =
       let cases = elim (is_temp q x) as (λ b. is_temp q x ≡ b → SlotIs after (length s.scopes) x (cond b declared unknown)) [
         | false ↦ λ is. tt
         | true ↦ λ is.
             let p = temp_of q x is in
-            subst (λ y. SlotIs after (length s.scopes) y declared) (sym p.is) (some_there _ (found_in (temp_name p.number) true (bound_either (is_among params (temp_name p.number)) (is_among vars' (temp_name p.number)) (new.temps p.number p.few))))
+            subst (λ y. SlotIs after (length s.scopes) y declared) (sym p.is) (some_there _ (found_in (temp_name p.number) true (new.temps p.number p.few)))
       ] in cases refl
     where
       some_there : (o : Option EsValue) → is_some o ≡ true → (e : EsValue) × (o ≡ Some e)
@@ -188,29 +147,15 @@ module _ {params names vars' : List (List ℕ)} {q : ℕ} (by : ℕ) (w : State)
   none_of None e b is = cc
   none_of (Some u) e b is = cc
 
-  new_scopes : (T : Temps) → Vals s.heap us qs → NewScopes T (declares (length s.scopes) q T) pairs (activation f params qs) all s
-  new_scopes T is = record {
-    same = λ x open_name. call_names s.heap x params names vars' us qs is (sym (new.guests x open_name));
+  -- beside a scope of the world with the same variables
+  pub new_scopes : (T : Temps) (pairs : Pairs) → ScopeIs s.heap pairs all → NewScopes T (declares (length s.scopes) q T) pairs (activation f params qs) all s
+  new_scopes T pairs is = record {
+    same = is;
     own = tt;
-    runtime = λ e at. absurd (none_of (name_value runtime_name all) e (call_bound runtime_name params vars' qs ∙ no_runtime) at);
+    runtime = λ e at. absurd (none_of (name_value runtime_name all) e new.runtime at);
     here = λ x hidden. subst (λ b. SlotIs after (length s.scopes) x (cond b (cond (is_temp q x) declared unknown) (T (length s.scopes) x))) (sym (same_self (length s.scopes))) (new_slot x);
     others = λ c x ne. ap (λ b. cond b (cond (is_temp q x) declared unknown) (T c x)) (other_self c (length s.scopes) ne);
   }
-
-  -- the relation, when both have entered the closure
-  pub rel_enter : (H : Here) {T : Temps} {k : ℕ} {z : List Item} {n : ℕ} {y : Kept} {m : ℕ} {vars free : Guest.Names} {direct chain : List ℕ} (this : ℕ) → Vals s.heap us qs → Captured vars free by g direct chain s → Related T k w z n g s y m → Rel (inside H by w s vars free direct chain params names this) (declares (length s.scopes) q T) k (World.with_scope by pairs w) z n tags after y m
-  rel_enter H {T = T} {chain = chain} this is captured r = record {
-    all = related_scope by (new_scopes T is) r;
-    here = record {
-      captured = captured_enter r.scopes.count r.scopes.are captured;
-      act = longer;
-      written = fixed_new;
-      temps = λ x hidden bound. here_at after (length s.scopes) chain x bound;
-    };
-  }
-
-  pub stays_enter : {m : ℕ} → Stays w g s m (World.with_scope by pairs w) tags after m
-  stays_enter = record { heap = keeps_refl; shaped = shaped_scope g (tag_of_scope by (next_scope by w)) (activation f params qs) all s; closed = record { closures = λ m n h chain e. e } }
 
 -- back in the form that called
 pub rel_back : {H J : Here} {T U : Temps} {i k : ℕ} {u w : State} {z : List Item} {n : ℕ} {g g' : Tags} {t s : Store} {y : Kept} {m : ℕ} → Covers T U → AreScopes t → In H g t → Stays u g t i w g' s m → Rel J U k w z n g' s y m → Rel H T k w z n g' s y m

@@ -1,6 +1,6 @@
 -- The names that a call begins with, beside those of the direct meaning.
 use Rattle.std.proofs.Common.{◌≡◌, ℕ, zero, suc, ◌+◌, ◌<◌, Bool, true, false, List, [], ◌∷◌, ◌++◌, Option, Some, None, refl, sym, ap, ◌∙◌, subst, arith}
-use Rattle.std.specs.Prelude.{is_some, ◌||◌}
+use Rattle.std.specs.Prelude.{is_some, ◌||◌, ◌&&◌}
 use Rattle.std.specs.Cmp.Lexicographic.{same_text}
 use Rattle.caja_units.specs.Units.{same_units, is_hidden}
 use Rattle.es3_tree.specs.Tree as t
@@ -10,25 +10,31 @@ use Rattle.es3_language.specs.Store.{Names, name_value, with_name, with_vars, wi
 use Rattle.es3_language.specs.Hoisting.{vars_in, vars_of, functions_of, own_vars}
 use Rattle.es3_language.specs.Arguments.{is_arguments}
 use Rattle.cajita_tree.specs.Tree as c
-use Rattle.cajita_rewrite.specs.Rewrite.{runtime_name, temp_name, temps, declared, others, name_items, temp_items, head_items, var_stmts, rewritten}
+use Rattle.cajita_rewrite.specs.Rewrite.{runtime_name, temp_name, temps, declared, others, name_items, temp_items, head_items, var_stmts, joined, marks, rewritten}
 use Rattle.cajita_meaning.specs.World as World
 use Rattle.cajita_meaning.specs.World.{Value, Pairs, value_at, with_value}
-use Rattle.cajita_simulation.specs.Guest.{Names as KnownNames, is_among, GuestName, Guest}
+use Rattle.cajita_simulation.specs.Guest.{Names as KnownNames, is_among, is_declared, within, GuestName, NewFuncs, Guest}
 use Rattle.cajita_simulation.proofs.Heaps.Names.{name_value-with_name, name_value-with_name-other}
 use Rattle.cajita_simulation.proofs.Relation.{EsValue, Val, Vals, OptVal}
 use Rattle.cajita_simulation.proofs.Written.{value_at-with_value, value_at-with_value-other}
-use Rattle.cajita_simulation.proofs.Load.Names.{undefined_value, value_at-bound, value_at-unbound, with_vars-bound, with_vars-unbound, among_append, own_among, own_never, temps_hidden, temps_declared, loops_among, others_among, names_kept}
+use Rattle.cajita_simulation.proofs.Declaring.Trees.{func_list, declared_vars, declared_functions}
+use Rattle.cajita_simulation.proofs.Declaring.Stores.{bound_names}
+use Rattle.cajita_simulation.proofs.Declaring.Names.{name_bound, left_none, declared_name, functions_bound}
+use Rattle.cajita_simulation.proofs.Load.Names.{undefined_value, value_at-bound, value_at-unbound, with_vars-bound, with_vars-unbound, among_append, absorbed, own_among, own_never, temps_hidden, temps_declared, loops_among, others_among, names_kept}
 
--- the statements of a function: its head, and those of its source
+-- the statements of a function: its head, its functions and their marks, and those of its source
 
 abbrev pub heads : List (List ℕ) → c.Tree c.stmts → t.Tree t.items
 heads names list = head_items (c.a_body c.no_funcs names list)
 
-abbrev pub statements : List (List ℕ) → c.Tree c.stmts → t.Tree t.stmts
-statements names list = var_stmts (heads names list) (rewritten false c.stmts 0 list)
+abbrev pub behind_head : c.Tree c.funcs → c.Tree c.stmts → t.Tree t.stmts
+behind_head fs list = joined (rewritten false c.funcs 0 fs) (marks fs (rewritten false c.stmts 0 list))
 
-abbrev pub own_names : List (List ℕ) → c.Tree c.stmts → List (List ℕ)
-own_names names list = own_vars (vars_of (statements names list))
+abbrev pub statements : c.Tree c.funcs → List (List ℕ) → c.Tree c.stmts → t.Tree t.stmts
+statements fs names list = var_stmts (heads names list) (behind_head fs list)
+
+abbrev pub own_names : c.Tree c.funcs → List (List ℕ) → c.Tree c.stmts → List (List ℕ)
+own_names fs names list = own_vars (vars_of (statements fs names list))
 
 -- what it declares
 
@@ -38,7 +44,8 @@ list_names vars free b xs g = names_kept vars free false c.stmts b xs g
 -- no statement declares a function
 no_function : (vars free : KnownNames) (b : ℕ) (x : c.Tree c.stmt) (rest : t.Tree t.stmts) → Guest vars free c.stmt x → functions_of (t.more_stmts (rewritten false c.stmt b x) rest) ≡ functions_of rest
 unfolding rewritten
-no_function vars free b (c.for_in x e s) rest g = absurd g
+no_function vars free b (c.for_in (c.variable x) e s) rest g = refl
+no_function vars free b (c.for_in (c.member o k) e s) rest g = refl
 no_function vars free b x rest g = refl
 
 list_functions : (vars free : KnownNames) (b : ℕ) (xs : c.Tree c.stmts) → Guest vars free c.stmts xs → functions_of (rewritten false c.stmts b xs) ≡ []
@@ -54,8 +61,8 @@ head_functions : (is : t.Tree t.items) (rest : t.Tree t.stmts) → functions_of 
 head_functions t.no_items rest = refl
 head_functions (t.more_items x e is) rest = refl
 
-pub no_functions : (vars free : KnownNames) (names : List (List ℕ)) (list : c.Tree c.stmts) → Guest vars free c.stmts list → functions_of (statements names list) ≡ []
-no_functions vars free names list g = head_functions (heads names list) (rewritten false c.stmts 0 list) ∙ list_functions vars free 0 list g
+pub functions_are : (vars free : KnownNames) (fs : c.Tree c.funcs) (names : List (List ℕ)) (list : c.Tree c.stmts) → Guest vars free c.stmts list → functions_of (statements fs names list) ≡ func_list fs
+functions_are vars free fs names list g = head_functions (heads names list) (behind_head fs list) ∙ declared_functions fs (rewritten false c.stmts 0 list) (list_functions vars free 0 list g)
 
 -- of its names: those that aren't hidden are its variables, its temporaries are among them, and the runtime's object is not
 pub record NewNames (params names vars' : List (List ℕ)) (q : ℕ) : Type 0 where
@@ -73,37 +80,29 @@ or_none : (a b : Bool) → (a || b) ≡ false → a ≡ false
 or_none true b e = cc
 or_none false b e = refl
 
-module _ (vars free : KnownNames) (names : List (List ℕ)) (list : c.Tree c.stmts) (guest : Guest vars free c.stmts list) (open_names : (x : List ℕ) → is_among names x ≡ true → GuestName x) (among : (x : List ℕ) → is_among (declared c.stmts list) x ≡ true → is_among names x ≡ true) where
+module _ (vars free : KnownNames) (fs : c.Tree c.funcs) (names : List (List ℕ)) (list : c.Tree c.stmts) (guest : Guest vars free c.stmts list) (open_names : (x : List ℕ) → is_among names x ≡ true → GuestName x) (among : (x : List ℕ) → is_among (declared c.stmts list) x ≡ true → is_among names x ≡ true) where
   abbrev others_here : List (List ℕ)
   others_here = others names (declared c.stmts list)
 
-  all_names : (x : List ℕ) → is_among (vars_of (statements names list)) x ≡ (is_among (vars_in t.items (heads names list)) x || is_among (declared c.stmts list) x)
-  all_names x = ap (λ l. is_among l x) (head_vars (heads names list) (rewritten false c.stmts 0 list) ∙ ap (λ l. vars_in t.items (heads names list) ++ l) (list_names vars free 0 list guest)) ∙ among_append (vars_in t.items (heads names list)) (declared c.stmts list) x
+  all_names : (x : List ℕ) → is_among (vars_of (statements fs names list)) x ≡ (is_among (vars_in t.items (heads names list)) x || is_among (declared c.stmts list) x)
+  all_names x = ap (λ l. is_among l x) (head_vars (heads names list) (behind_head fs list) ∙ ap (λ l. vars_in t.items (heads names list) ++ l) (declared_vars fs (rewritten false c.stmts 0 list) ∙ list_names vars free 0 list guest)) ∙ among_append (vars_in t.items (heads names list)) (declared c.stmts list) x
 
-  within : (x : List ℕ) → (is_among names x || is_among (declared c.stmts list) x) ≡ is_among names x
-  within x =
-      let cases = elim (is_among (declared c.stmts list) x) as (λ b. is_among (declared c.stmts list) x ≡ b → (is_among names x || b) ≡ is_among names x) [
-        | true ↦ λ is. rw (among x is) refl
-        | false ↦ λ is. or_false (is_among names x)
-      ] in cases refl
-    where
-      or_false : (b : Bool) → (b || false) ≡ b
-      or_false true = refl
-      or_false false = refl
+  known_among : (x : List ℕ) → (is_among names x || is_among (declared c.stmts list) x) ≡ is_among names x
+  known_among x = absorbed (is_among names x) (is_among (declared c.stmts list) x) (among x)
 
-  open_known : (x : List ℕ) → is_hidden x ≡ false → is_among (own_names names list) x ≡ is_among names x
+  open_known : (x : List ℕ) → is_hidden x ≡ false → is_among (own_names fs names list) x ≡ is_among names x
   open_known x shown =
-      let cases = elim (is_arguments x) as (λ b. is_arguments x ≡ b → is_among (own_names names list) x ≡ is_among names x) [
-        | true ↦ λ is. own_never (vars_of (statements names list)) x is ∙ sym (not_true (is_among names x) (λ e. cc (sym is ∙ (open_names x e).own_name)))
+      let cases = elim (is_arguments x) as (λ b. is_arguments x ≡ b → is_among (own_names fs names list) x ≡ is_among names x) [
+        | true ↦ λ is. own_never (vars_of (statements fs names list)) x is ∙ sym (not_true (is_among names x) (λ e. cc (sym is ∙ (open_names x e).own_name)))
         | false ↦ λ is.
-            own_among (vars_of (statements names list)) x is ∙ all_names x
+            own_among (vars_of (statements fs names list)) x is ∙ all_names x
             ∙ ap (λ b. b || is_among (declared c.stmts list) x) (temps_hidden 0 (temps c.stmts list) (name_items others_here t.no_items) x shown ∙ loops_among others_here x)
-            ∙ others_among names (declared c.stmts list) x ∙ within x
+            ∙ others_among names (declared c.stmts list) x ∙ known_among x
       ] in cases refl
 
-  temps_known : (i : ℕ) → i < temps c.stmts list → is_among (own_names names list) (temp_name i) ≡ true
+  temps_known : (i : ℕ) → i < temps c.stmts list → is_among (own_names fs names list) (temp_name i) ≡ true
   temps_known i lt =
-      own_among (vars_of (statements names list)) (temp_name i) refl ∙ all_names (temp_name i)
+      own_among (vars_of (statements fs names list)) (temp_name i) refl ∙ all_names (temp_name i)
       ∙ ap (λ b. b || is_among (declared c.stmts list) (temp_name i)) (temps_declared 0 (temps c.stmts list) i (name_items others_here t.no_items) (omega arith) (omega (arith, lt)))
 
   -- no temporary is called so
@@ -111,27 +110,20 @@ module _ (vars free : KnownNames) (names : List (List ℕ)) (list : c.Tree c.stm
   temps_other i zero is = refl
   temps_other i (suc n) is = temps_other (suc i) n is
 
-  runtime_unknown : is_among (own_names names list) runtime_name ≡ false
+  runtime_unknown : is_among (own_names fs names list) runtime_name ≡ false
   runtime_unknown =
       let hidden : is_among names runtime_name ≡ false = not_true (is_among names runtime_name) (λ e. no_open (open_names runtime_name e).open_name) in
-      own_among (vars_of (statements names list)) runtime_name refl ∙ all_names runtime_name
+      own_among (vars_of (statements fs names list)) runtime_name refl ∙ all_names runtime_name
       ∙ ap (λ b. b || is_among (declared c.stmts list) runtime_name) (temps_other 0 (temps c.stmts list) (name_items others_here t.no_items) ∙ loops_among others_here runtime_name)
-      ∙ others_among names (declared c.stmts list) runtime_name ∙ within runtime_name ∙ hidden
+      ∙ others_among names (declared c.stmts list) runtime_name ∙ known_among runtime_name ∙ hidden
     where
       no_open : is_hidden runtime_name ≡ false → ⊥
       no_open e = cc
 
-  pub new_names : (params : List (List ℕ)) → ((x : List ℕ) → is_among params x ≡ true → GuestName x) → NewNames params names (own_names names list) (temps c.stmts list)
+  pub new_names : (params : List (List ℕ)) → ((x : List ℕ) → is_among params x ≡ true → GuestName x) → NewNames params names (own_names fs names list) (temps c.stmts list)
   new_names params open_params = record { guests = open_known; temps = temps_known; runtime = runtime_unknown; params_open = open_params; names_open = open_names }
 
 -- which names are bound
-
-name_bound : (x y : List ℕ) (v : EsValue) (names : Names) → is_some (name_value x (with_name y v names)) ≡ (same_units x y || is_some (name_value x names))
-name_bound x y v names =
-    let cases = elim (same_units x y) as (λ b. same_units x y ≡ b → is_some (name_value x (with_name y v names)) ≡ (b || is_some (name_value x names))) [
-      | true ↦ λ same. subst (λ q. is_some (name_value x (with_name q v names)) ≡ true) (same_text x y (sym same)) (ap is_some (name_value-with_name x v names))
-      | false ↦ λ other. ap is_some (name_value-with_name-other y x v names other)
-    ] in cases refl
 
 or_turn : (a b c : Bool) → (a || (b || c)) ≡ ((b || a) || c)
 or_turn true true c = refl
@@ -191,3 +183,54 @@ vars_are h x xs ys a b (Some v) None is is' same p = absurd p
 
 pub call_names : (h : Objects) (x : List ℕ) (params xs ys : List (List ℕ)) (vs : List Value) (qs : List EsValue) → Vals h vs qs → is_among xs x ≡ is_among ys x → OptVal h (value_at x (World.with_vars xs (World.with_params params vs []))) (name_value x (with_vars ys (with_params params qs [])))
 call_names h x params xs ys vs qs is same = vars_are h x xs ys (World.with_params params vs []) (with_params params qs []) _ _ refl refl same (params_are h x params vs qs [] [] is tt)
+
+-- the names of a new scope, beside those around it: its temporaries, and that a name which it hasn't is found further out
+pub record ScopeNames (all : Names) (vars free vars1 free1 : KnownNames) (q : ℕ) : Type 0 where
+  pub temps : (i : ℕ) → i < q → is_some (name_value (temp_name i) all) ≡ true
+  pub runtime : is_some (name_value runtime_name all) ≡ false
+  pub read : (x : List ℕ) → is_some (name_value x all) ≡ false → vars1 x ≡ true → vars x ≡ true
+  pub write : (x : List ℕ) → is_some (name_value x all) ≡ false → free1 x ≡ true → free x ≡ true
+
+either_side : (a b : Bool) → b ≡ true → (a || b) ≡ true
+either_side true b e = refl
+either_side false b e = e
+
+module _ {params names vars' : List (List ℕ)} {q : ℕ} (fs : c.Tree c.funcs) (place : ℕ) (qs : List EsValue) (new : NewNames params names vars' q) (funcs : NewFuncs params names fs) where
+  abbrev pub all : Names
+  all = bound_names fs place (with_vars vars' (with_params params qs []))
+
+  bound : (x : List ℕ) → is_some (name_value x all) ≡ (is_declared fs x || (is_among params x || is_among vars' x))
+  bound x = functions_bound fs place (with_vars vars' (with_params params qs [])) x ∙ ap (λ b. is_declared fs x || b) (call_bound x params vars' qs)
+
+  no_guest : (x : List ℕ) → is_hidden x ≡ true → (is_declared fs x ≡ false) × (is_among params x ≡ false)
+  no_guest x hidden = (
+    not_true (is_declared fs x) (λ e. cc (sym hidden ∙ (declared_name params names fs x funcs e).guest.open_name)),
+    not_true (is_among params x) (λ e. cc (sym hidden ∙ (new.params_open x e).open_name)),
+  )
+
+  -- a name that the scope hasn't is none of the body's
+  outer_names : (x : List ℕ) → is_some (name_value x all) ≡ false → (is_declared fs x ≡ false) × (is_among params x ≡ false) × (is_among names x ≡ false)
+  outer_names x e =
+      let parts = left_none (is_declared fs x) (is_among params x || is_among vars' x) (sym (bound x) ∙ e) in
+      let rest = left_none (is_among params x) (is_among vars' x) parts.1 in
+      let cases = elim (is_hidden x) as (λ b. is_hidden x ≡ b → is_among names x ≡ false) [
+        | false ↦ λ shown. sym (new.guests x shown) ∙ rest.1
+        | true ↦ λ hidden. not_true (is_among names x) (λ e. cc (sym hidden ∙ (new.names_open x e).open_name))
+      ] in (parts.0, rest.0, cases refl)
+
+  further : (x : List ℕ) (around : KnownNames) → is_some (name_value x all) ≡ false → within params names fs false around x ≡ true → around x ≡ true
+  further x around e known = let p = outer_names x e in out (is_declared fs x) (is_among params x) (is_among names x) (around x) p.0 p.1 p.2 known
+    where
+      out : (a b d r : Bool) → a ≡ false → b ≡ false → d ≡ false → ((false && true) || (a || ((b || d) || r))) ≡ true → r ≡ true
+      out true b d r ea eb ed k = cc
+      out false true d r ea eb ed k = cc
+      out false false true r ea eb ed k = cc
+      out false false false r ea eb ed k = k
+
+  pub scope_names : (vars free : KnownNames) → ScopeNames all vars free (within params names fs false vars) (within params names fs false free) q
+  scope_names vars free = record {
+    temps = λ i lt. bound (temp_name i) ∙ either_side (is_declared fs (temp_name i)) (is_among params (temp_name i) || is_among vars' (temp_name i)) (either_side (is_among params (temp_name i)) (is_among vars' (temp_name i)) (new.temps i lt));
+    runtime = let p = no_guest runtime_name refl in bound runtime_name ∙ rw (p.0, p.1, new.runtime) refl;
+    read = λ x e known. further x vars e known;
+    write = λ x e known. further x free e known;
+  }

@@ -26,7 +26,7 @@ has_ends : (o : Option Bool) → EndsPlainly (guards.has_end o)
 has_ends None = tt
 has_ends (Some b) = tt
 
-in_plain : IsPlain guards.in_pub
+pub in_plain : IsPlain guards.in_pub
 in_plain = λ k s. has_ends (pub_has s k)
 
 instance_plain : IsPlain guards.instance_of

@@ -62,21 +62,22 @@ to_same (Some l) (k ∷ ls) = elim (same_units l k) as (λ b. cond b true (Sourc
 ]
 
 -- a jump out of a turn
-jumped : (H : Here) {d : ℕ} (loop : Source.Loop) (ls : List (List ℕ)) (l : Option (List ℕ)) (acc v : Option EsValue) (w : World) (s : Store) (next : Cont) (next' : Cont') {z : List Item} {n : ℕ} {y : Kept} {m : ℕ} → M H d (next (Source.normal None) w) z n (next' (Target.normal (Target.later v acc)) s) y m → (Source.is_to l ls ≡ false → M H d (next (Source.broke l) w) z n (next' (Target.broke l v) s) y m) → (go' : Option EsValue → Target.Plan) → M H d (bind (Source.loop_next loop ls H (Source.broke l) w) next) z n (bind (Es.on_turn (Es.turned ls acc (Target.broke l v)) s go') next') y m
-jumped H {d = d} loop ls l acc v w s next next' {z = z} {n = n} {y = y} {m = m} f g go' =
+pub jumped : (H : Here) {d : ℕ} (ls : List (List ℕ)) (l : Option (List ℕ)) (acc v : Option EsValue) (w : World) (s : Store) (next : Cont) (next' : Cont') {z : List Item} {n : ℕ} {y : Kept} {m : ℕ} → M H d (next (Source.normal None) w) z n (next' (Target.normal (Target.later v acc)) s) y m → (Source.is_to l ls ≡ false → M H d (next (Source.broke l) w) z n (next' (Target.broke l v) s) y m) → (go' : Option EsValue → Target.Plan) → M H d (bind (cond (Source.is_to l ls) (ends (Source.normal None) w) (ends (Source.broke l) w)) next) z n (bind (Es.on_turn (Es.turned ls acc (Target.broke l v)) s go') next') y m
+jumped H {d = d} ls l acc v w s next next' {z = z} {n = n} {y = y} {m = m} f g go' =
     let cases = elim (Source.is_to l ls) as (λ b. Source.is_to l ls ≡ b → M H d (bind (cond b (ends (Source.normal None) w) (ends (Source.broke l) w)) next) z n (next' (cond b (Target.normal (Target.later v acc)) (Target.broke l v)) s) y m) [
       | true ↦ λ is. f
       | false ↦ λ is. g is
     ] in
     subst (λ b. M H d (bind (cond (Source.is_to l ls) (ends (Source.normal None) w) (ends (Source.broke l) w)) next) z n (next' (cond b (Target.normal (Target.later v acc)) (Target.broke l v)) s) y m) (to_same l ls) (cases refl)
 
-went_on : (H : Here) {d : ℕ} (loop : Source.Loop) (ls : List (List ℕ)) (l : Option (List ℕ)) (acc v : Option EsValue) (w : World) (s : Store) (next : Cont) (next' : Cont') {z : List Item} {n : ℕ} {y : Kept} {m : ℕ} (go' : Option EsValue → Target.Plan) → M H d (enter (Source.again loop ls H) w next) z n (bind (go' (Target.later v acc)) next') y m → (Source.is_to l ls ≡ false → M H d (next (Source.continued l) w) z n (next' (Target.continued l v) s) y m) → M H d (bind (Source.loop_next loop ls H (Source.continued l) w) next) z n (bind (Es.on_turn (Es.turned ls acc (Target.continued l v)) s go') next') y m
-went_on H {d = d} loop ls l acc v w s next next' {z = z} {n = n} {y = y} {m = m} go' f g =
-    let cases = elim (Source.is_to l ls) as (λ b. Source.is_to l ls ≡ b → M H d (bind (cond b (enter (Source.again loop ls H) w ends) (ends (Source.continued l) w)) next) z n (bind (Es.on_turn (cond b (Es.turns (Target.later v acc)) (Es.leaves (Target.continued l v))) s go') next') y m) [
+-- a `continue`, which goes on with a plan where it is to the loop
+pub went_on : (H : Here) {d : ℕ} (p : Source.Plan) (ls : List (List ℕ)) (l : Option (List ℕ)) (acc v : Option EsValue) (w : World) (s : Store) (next : Cont) (next' : Cont') {z : List Item} {n : ℕ} {y : Kept} {m : ℕ} (go' : Option EsValue → Target.Plan) → M H d (bind p next) z n (bind (go' (Target.later v acc)) next') y m → (Source.is_to l ls ≡ false → M H d (next (Source.continued l) w) z n (next' (Target.continued l v) s) y m) → M H d (bind (cond (Source.is_to l ls) p (ends (Source.continued l) w)) next) z n (bind (Es.on_turn (Es.turned ls acc (Target.continued l v)) s go') next') y m
+went_on H {d = d} p ls l acc v w s next next' {z = z} {n = n} {y = y} {m = m} go' f g =
+    let cases = elim (Source.is_to l ls) as (λ b. Source.is_to l ls ≡ b → M H d (bind (cond b p (ends (Source.continued l) w)) next) z n (bind (Es.on_turn (cond b (Es.turns (Target.later v acc)) (Es.leaves (Target.continued l v))) s go') next') y m) [
       | true ↦ λ is. f
       | false ↦ λ is. g is
     ] in
-    subst (λ b. M H d (bind (cond (Source.is_to l ls) (enter (Source.again loop ls H) w ends) (ends (Source.continued l) w)) next) z n (bind (Es.on_turn (cond b (Es.turns (Target.later v acc)) (Es.leaves (Target.continued l v))) s go') next') y m) (to_same l ls) (cases refl)
+    subst (λ b. M H d (bind (cond (Source.is_to l ls) p (ends (Source.continued l) w)) next) z n (bind (Es.on_turn (cond b (Es.turns (Target.later v acc)) (Es.leaves (Target.continued l v))) s go') next') y m) (to_same l ls) (cases refl)
 
 -- after a body
 after_body : {J : Jumps} {H : Here} {T : Temps} {d b q a k : ℕ} {e u : c.Tree c.maybe_expr} {x : c.Tree c.stmt} {e' u' : t.Tree t.maybe_expr} {x' : t.Tree t.stmt} (ls : List (List ℕ)) (acc : Option EsValue) {w : World} {g : Tags} {s : Store} {m : ℕ} (next : Cont) (next' : Cont') → Targets (in_loop ls J) [] c.stmt x → a < d → Room H T b q → LaterLaw H d b q e u x e' u' x' → NextEffect bare J H T a (suc k) w g s m next next'
@@ -84,8 +85,8 @@ after_body : {J : Jumps} {H : Here} {T : Temps} {d b q a k : ℕ} {e u : c.Tree 
 after_body {J = J} {H = H} {k = k} {e = e} {u = u} {x = x} {e' = e'} {u' = u'} {x' = x'} ls acc next next' to lt room pa y = record {
   finishes = record {
     on = λ c1 le p u1 w1 z1 n1 g1 s1 y1 m1 r1 k1. pa.on {J = J} ls (Target.later u1 acc) to (omega arith) room (rel_less {j = k} (omega arith) r1) (effect_from {j = suc k} {k = suc k} le (omega arith) (stays_trans k1 (stays_step (omega arith))) y);
-    breaks = λ c1 le l out u1 w1 z1 n1 g1 s1 y1 m1 r1 k1. jumped H (loop_of e u x) ls l acc u1 w1 s1 next next' (y.finishes.on c1 le tt (Target.later u1 acc) w1 z1 n1 g1 s1 y1 m1 r1 k1) (λ other. y.finishes.breaks c1 le l (still (J.breaks l) (Source.is_to l ls) out other) u1 w1 z1 n1 g1 s1 y1 m1 r1 k1) (λ v'. enter (Target.again (loop_of' e' u' x') v' ls (env_of H)) s1 ends);
-    continues = λ c1 le l out u1 w1 z1 n1 g1 s1 y1 m1 r1 k1. went_on H (loop_of e u x) ls l acc u1 w1 s1 next next' (λ v'. enter (Target.again (loop_of' e' u' x') v' ls (env_of H)) s1 ends) (pa.on {J = J} ls (Target.later u1 acc) to (omega arith) room (rel_less {j = k} (omega arith) r1) (effect_from {j = suc k} {k = suc k} le (omega arith) (stays_trans k1 (stays_step (omega arith))) y)) (λ other. y.finishes.continues c1 le l (still (J.continues l) (Source.is_to l ls) out other) u1 w1 z1 n1 g1 s1 y1 m1 r1 k1);
+    breaks = λ c1 le l out u1 w1 z1 n1 g1 s1 y1 m1 r1 k1. jumped H ls l acc u1 w1 s1 next next' (y.finishes.on c1 le tt (Target.later u1 acc) w1 z1 n1 g1 s1 y1 m1 r1 k1) (λ other. y.finishes.breaks c1 le l (still (J.breaks l) (Source.is_to l ls) out other) u1 w1 z1 n1 g1 s1 y1 m1 r1 k1) (λ v'. enter (Target.again (loop_of' e' u' x') v' ls (env_of H)) s1 ends);
+    continues = λ c1 le l out u1 w1 z1 n1 g1 s1 y1 m1 r1 k1. went_on H (enter (Source.again (loop_of e u x) ls H) w1 ends) ls l acc u1 w1 s1 next next' (λ v'. enter (Target.again (loop_of' e' u' x') v' ls (env_of H)) s1 ends) (pa.on {J = J} ls (Target.later u1 acc) to (omega arith) room (rel_less {j = k} (omega arith) r1) (effect_from {j = suc k} {k = suc k} le (omega arith) (stays_trans k1 (stays_step (omega arith))) y)) (λ other. y.finishes.continues c1 le l (still (J.continues l) (Source.is_to l ls) out other) u1 w1 z1 n1 g1 s1 y1 m1 r1 k1);
   };
   returns = λ out. record { on = λ c1 le p u1 w1 z1 n1 g1 s1 y1 m1 is1 r1 k1. (y.returns out).on c1 le p u1 w1 z1 n1 g1 s1 y1 m1 is1 r1 k1 };
   throws = record { on = λ c1 le p u1 w1 z1 n1 g1 s1 y1 m1 is1 r1 k1. y.throws.on c1 le p u1 w1 z1 n1 g1 s1 y1 m1 is1 r1 k1 };

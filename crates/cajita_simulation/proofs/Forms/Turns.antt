@@ -11,7 +11,7 @@ use Rattle.cajita_simulation.proofs.Doing as Source
 use Rattle.cajita_simulation.proofs.Relation.{Here}
 
 -- an ending passes
-passed : (H : Here) (p : ℕ) (at : Places Value) (e : Source.Completion) (w : World) → Source.ended_by H p at Direct.pass e w ≡ ends e w
+pub passed : (H : Here) (p : ℕ) (at : Places Value) (e : Source.Completion) (w : World) → Source.ended_by H p at Direct.pass e w ≡ ends e w
 passed H p at (Source.gave v) w = ap (λ u. ends (Source.gave u) w) (Source.first_there p v at)
 passed H p at (Source.normal None) w = refl
 passed H p at (Source.normal (Some v)) w = ap (λ u. ends (Source.normal (Some u)) w) (Source.first_there p v at)

@@ -66,6 +66,10 @@ pub in_pub-guard : IsGuard (codes "inPub") 74
 unfolding first
 in_pub-guard = record { object = 22; within = lit< tt; member = refl; callable = refl; unnamed = refl }
 
+pub keys_pub-guard : IsGuard (codes "keysPub") 75
+unfolding first
+keys_pub-guard = record { object = 23; within = lit< tt; member = refl; callable = refl; unnamed = refl }
+
 pub call_pub-guard : IsGuard (codes "callPub") 76
 unfolding first
 call_pub-guard = record { object = 24; within = lit< tt; member = refl; callable = refl; unnamed = refl }

@@ -13,10 +13,17 @@ use Rattle.cajita_rewrite.specs.Rewrite.{runtime_name, result_name, temp_name, t
 use Rattle.cajita_meaning.specs.World as world
 use Rattle.cajita_meaning.specs.World.{Value, Pairs, undefined, value_at, with_value, with_params}
 use Rattle.heap_rows.specs.Opening.{runtime_id}
-use Rattle.cajita_simulation.specs.Guest.{Names as KnownNames, is_among, GuestName, Guest}
+use Rattle.cajita_meaning.specs.World.{Object}
+use Rattle.cajita_meaning.specs.Asking.{func_name}
+use Rattle.heap_rows.specs.Opening.{first, place_of}
+use Rattle.es3_language.specs.Store.{Store}
+use Rattle.cajita_simulation.specs.Guest.{Names as KnownNames, is_among, is_declared, module_names, GuestName, NewFuncs, Guest}
 use Rattle.cajita_simulation.proofs.Heaps.Names.{name_value-with_name, name_value-with_name-other}
 use Rattle.cajita_simulation.proofs.Temporaries.{temp_hidden}
-use Rattle.cajita_simulation.proofs.Relation.{EsValue, Val, Vals, OptVal, ScopeIs}
+use Rattle.cajita_simulation.proofs.Relation.{EsValue, Val, Vals, OptVal, Tags, ObjectsAre, ScopeIs, optval_keep}
+use Rattle.cajita_simulation.proofs.Declaring.Stores.{named_store, bound_names}
+use Rattle.cajita_simulation.proofs.Declaring.Names.{declared_name, name_new, functions_bound, functions_other, pairs_other, bound_pairs, Placed}
+use Rattle.cajita_simulation.proofs.Declaring.Relation.{Few, keeps_all, declared_alike}
 use Rattle.cajita_simulation.proofs.Written.{value_at-with_value, value_at-with_value-other}
 use Rattle.cajita_simulation.proofs.Load.Names.{Module, module_vars, Declares, undefined_value, value_at-bound, value_at-unbound, own_names, own_never, vars_known, temps_known, result_known, vars_bound, hidden_there, open_there, runtime_there}
 use Rattle.cajita_simulation.proofs.Load.Entering.{module_code, first_values}
@@ -80,22 +87,24 @@ imported-bound (y ∷ xs) (e ∷ us) names x there = imported-bound xs us (with_
 
 -- the names that a module may read
 abbrev pub known : Module → List ℕ → Bool
-known q x = is_among q.imports x || is_among q.vars x
+known q x = module_names q.imports q.vars q.funcs x
 
-abbrev pub names_of : Module → List EsValue → Names
-names_of q us = imported q.imports us (first_names (module_code q) first_values)
+-- the names that its function begins with, and those when the imports are read; its first function stands at this place
+abbrev pub names_of : Module → ℕ → List EsValue → Names
+names_of q place us = imported q.imports us (bound_names q.funcs place (first_names (module_code q) first_values))
 
 -- what the names are when the statements begin
-pub record Opens (q : Module) (us : List EsValue) : Type 0 where
-  pub result : name_value result_name (names_of q us) ≡ Some es.Undefined
-  pub temps : (x : List ℕ) → is_temp (temps c.stmts q.list) x ≡ true → (e : EsValue) × (name_value x (names_of q us) ≡ Some e)
-  pub runtime : name_value runtime_name (names_of q us) ≡ Some (es.Obj runtime_id)
-  pub names : (x : List ℕ) → known q x ≡ true → is_some (name_value x (names_of q us)) ≡ true
+pub record Opens (q : Module) (place : ℕ) (us : List EsValue) : Type 0 where
+  pub result : name_value result_name (names_of q place us) ≡ Some es.Undefined
+  pub temps : (x : List ℕ) → is_temp (temps c.stmts q.list) x ≡ true → (e : EsValue) × (name_value x (names_of q place us) ≡ Some e)
+  pub runtime : name_value runtime_name (names_of q place us) ≡ Some (es.Obj runtime_id)
+  pub names : (x : List ℕ) → known q x ≡ true → is_some (name_value x (names_of q place us)) ≡ true
 
--- no import and no variable has a name of the rewriting's own
+-- no import, no variable and no function has a name of the rewriting's own
 pub record GuestNames (q : Module) : Type 0 where
   pub imports : (x : List ℕ) → is_among q.imports x ≡ true → GuestName x
   pub vars : (x : List ℕ) → is_among q.vars x ≡ true → GuestName x
+  pub funcs : NewFuncs q.imports q.vars q.funcs
 
 no_import : {q : Module} → GuestNames q → (x : List ℕ) → is_hidden x ≡ true → is_among q.imports x ≡ false
 no_import {q = q} guests x hidden =
@@ -104,25 +113,57 @@ no_import {q = q} guests x hidden =
       | false ↦ λ is. refl
     ] in cases refl
 
-pub opens : (vs free : KnownNames) (q : Module) (us : List EsValue) → Guest vs free c.stmts q.list → Declares q → GuestNames q → Opens q us
-opens vs free q us guest same guests = record {
-  result = imported-other q.imports us first result_name (no_import guests result_name refl) ∙ hidden_there (module_vars q) result_name refl refl (result_known q);
+pub no_function : {q : Module} → GuestNames q → (x : List ℕ) → is_hidden x ≡ true → is_declared q.funcs x ≡ false
+no_function {q = q} guests x hidden =
+    let cases = elim (is_declared q.funcs x) as (λ b. is_declared q.funcs x ≡ b → b ≡ false) [
+      | true ↦ λ is. cc (sym hidden ∙ (declared_name q.imports q.vars q.funcs x guests.funcs is).guest.open_name)
+      | false ↦ λ is. refl
+    ] in cases refl
+
+-- a hidden name has what it has at first
+hidden_first : {q : Module} → GuestNames q → (place : ℕ) (us : List EsValue) (x : List ℕ) → is_hidden x ≡ true → name_value x (names_of q place us) ≡ name_value x (first_names (module_code q) first_values)
+hidden_first {q = q} guests place us x hidden =
+    imported-other q.imports us (bound_names q.funcs place (first_names (module_code q) first_values)) x (no_import guests x hidden) ∙ functions_other q.funcs place (first_names (module_code q) first_values) x (no_function guests x hidden)
+
+pub opens : (vs free : KnownNames) (q : Module) (place : ℕ) (us : List EsValue) → Guest vs free c.stmts q.list → Declares q → GuestNames q → Opens q place us
+opens vs free q place us guest same guests = record {
+  result = hidden_first guests place us result_name refl ∙ hidden_there (module_vars q) result_name refl refl (result_known q);
   temps = λ x is. let p = temp_of (temps c.stmts q.list) x is in
-      subst (λ k. (e : EsValue) × (name_value k (names_of q us) ≡ Some e)) (sym p.is)
-      (es.Undefined, imported-other q.imports us first (temp_name p.number) (no_import guests (temp_name p.number) (temp_hidden p.number)) ∙ hidden_there (module_vars q) (temp_name p.number) refl refl (temps_known q p.number p.few));
-  runtime = imported-other q.imports us first runtime_name (no_import guests runtime_name refl) ∙ runtime_there (module_vars q);
-  names = λ x is. imported-bound q.imports us first x (vars_bound x (module_vars q) own_names (vars_known vs free q x guest same (name_of x is).open_name (name_of x is).own_name ∙ is));
+      subst (λ k. (e : EsValue) × (name_value k (names_of q place us) ≡ Some e)) (sym p.is)
+      (es.Undefined, hidden_first guests place us (temp_name p.number) (temp_hidden p.number) ∙ hidden_there (module_vars q) (temp_name p.number) refl refl (temps_known q p.number p.few));
+  runtime = hidden_first guests place us runtime_name refl ∙ runtime_there (module_vars q);
+  names = λ x is. imported-bound q.imports us (bound_names q.funcs place first) x (functions_bound q.funcs place first x ∙ bound x is);
 }
   where
     first : Names
     first = first_names (module_code q) first_values
 
-    name_of : (x : List ℕ) → known q x ≡ true → GuestName x
+    either : (a b : Bool) → b ≡ true → (a || b) ≡ true
+    either true b e = refl
+    either false b e = e
+
+    turned : (a b : Bool) → ((false || a) || b) ≡ true → (b || a) ≡ true
+    turned true true e = refl
+    turned true false e = refl
+    turned false true e = refl
+    turned false false e = cc
+
+    name_of : (x : List ℕ) → (is_among q.imports x || is_among q.vars x) ≡ true → GuestName x
     name_of x is =
         let cases = elim (is_among q.imports x) as (λ b. is_among q.imports x ≡ b → (b || is_among q.vars x) ≡ true → GuestName x) [
           | true ↦ λ e f. guests.imports x e
           | false ↦ λ e f. guests.vars x f
         ] in cases refl is
+
+    bound : (x : List ℕ) → known q x ≡ true → (is_declared q.funcs x || is_some (name_value x (first_names (module_code q) first_values))) ≡ true
+    bound x is =
+        let cases = elim (is_declared q.funcs x) as (λ b. (b || ((false || is_among q.vars x) || is_among q.imports x)) ≡ true → (b || is_some (name_value x (first_names (module_code q) first_values))) ≡ true) [
+          | true ↦ λ e. refl
+          | false ↦ λ e.
+              let among = turned (is_among q.vars x) (is_among q.imports x) e in
+              let guest' = name_of x among in
+              vars_bound x (module_vars q) own_names (vars_known vs free q x guest same guest'.open_name guest'.own_name ∙ among)
+        ] in cases is
 
 -- imports and variables on both sides
 
@@ -173,11 +214,11 @@ both_undefined h true = tt
 both_undefined h false = tt
 
 -- each variable and each import is bound on both sides alike
-pub bound_alike : (names free : KnownNames) (h : Objects) (q : Module) (vs : List Value) (us : List EsValue) → Guest names free c.stmts q.list → Declares q → GuestNames q → Vals h vs us → Rattle.std.specs.Prelude.length vs ≡ Rattle.std.specs.Prelude.length q.imports → ScopeIs h (world.with_vars q.vars (with_params q.imports vs [])) (names_of q us)
+pub bound_alike : (names free : KnownNames) (h : Objects) (q : Module) (vs : List Value) (us : List EsValue) → Guest names free c.stmts q.list → Declares q → GuestNames q → Vals h vs us → Rattle.std.specs.Prelude.length vs ≡ Rattle.std.specs.Prelude.length q.imports → ScopeIs h (world.with_vars q.vars (with_params q.imports vs [])) (imported q.imports us (first_names (module_code q) first_values))
 bound_alike names free h q vs us guest same guests are long x shown =
     let first = first_names (module_code q) first_values in
     let b = all_bound h x (name_value x first) q.imports vs us [] first are long (by_none refl refl) in
-    by_bound (value_at x (with_params q.imports vs [])) (name_value x (names_of q us)) refl refl b
+    by_bound (value_at x (with_params q.imports vs [])) (name_value x (imported q.imports us (first_names (module_code q) first_values))) refl refl b
   where
     unbound : is_among q.imports x ≡ false → name_value x (first_names (module_code q) first_values) ≡ undefined_value es.Undefined (is_among q.vars x)
     unbound none =
@@ -196,10 +237,45 @@ bound_alike names free h q vs us guest same guests are long x shown =
     never : is_among q.imports x ≡ true → value_at x (with_params q.imports vs []) ≡ None → ⊥
     never known none = params_bound x q.imports vs [] known long none
 
-    by_bound : (o : Option Value) (o' : Option EsValue) → value_at x (with_params q.imports vs []) ≡ o → name_value x (names_of q us) ≡ o' → Bound h (value_at x (with_params q.imports vs [])) (name_value x (names_of q us)) (name_value x (first_names (module_code q) first_values)) → OptVal h (value_at x (world.with_vars q.vars (with_params q.imports vs []))) (name_value x (names_of q us))
+    by_bound : (o : Option Value) (o' : Option EsValue) → value_at x (with_params q.imports vs []) ≡ o → name_value x (imported q.imports us (first_names (module_code q) first_values)) ≡ o' → Bound h (value_at x (with_params q.imports vs [])) (name_value x (imported q.imports us (first_names (module_code q) first_values))) (name_value x (first_names (module_code q) first_values)) → OptVal h (value_at x (world.with_vars q.vars (with_params q.imports vs []))) (name_value x (imported q.imports us (first_names (module_code q) first_values)))
     by_bound o o' eo eo' (by_import v e a b is) = rw (value_at-bound x q.vars (with_params q.imports vs []) v a, b) is
     by_bound o o' eo eo' (by_none a b) =
-        let cases = elim (is_among q.imports x) as (λ k. is_among q.imports x ≡ k → OptVal h (value_at x (world.with_vars q.vars (with_params q.imports vs []))) (name_value x (names_of q us))) [
+        let cases = elim (is_among q.imports x) as (λ k. is_among q.imports x ≡ k → OptVal h (value_at x (world.with_vars q.vars (with_params q.imports vs []))) (name_value x (imported q.imports us (first_names (module_code q) first_values)))) [
           | true ↦ λ known. absurd (never known a)
           | false ↦ λ none. rw (value_at-unbound x q.vars (with_params q.imports vs []) a, b, unbound none) (both_undefined h (is_among q.vars x))
         ] in cases refl
+
+-- a name that has the same value in both has it when imports are read
+imported-same : (xs : List (List ℕ)) (us : List EsValue) (a b : Names) (x : List ℕ) → name_value x a ≡ name_value x b → name_value x (imported xs us a) ≡ name_value x (imported xs us b)
+imported-same [] us a b x same = same
+imported-same (y ∷ xs) [] a b x same = same
+imported-same (y ∷ xs) (e ∷ us) a b x same =
+    imported-same xs us (with_name y e a) (with_name y e b) x
+    (let cases = elim (same_units x y) as (λ t. same_units x y ≡ t → name_value x (with_name y e a) ≡ name_value x (with_name y e b)) [
+      | true ↦ λ is. subst (λ k. name_value x (with_name k e a) ≡ name_value x (with_name k e b)) (same_text x y (sym is)) (name_value-with_name x e a ∙ sym (name_value-with_name x e b))
+      | false ↦ λ is. name_value-with_name-other y x e a is ∙ same ∙ sym (name_value-with_name-other y x e b is)
+    ] in cases refl)
+
+-- so is each function
+pub module_alike : (names free : KnownNames) (q : Module) (g : Tags) (s : Store) (by : ℕ) (direct chain : List ℕ) {objects : ℕ → List Object} {m : ℕ} → by < 64 → Few q.funcs m → ObjectsAre first place_of objects s.heap m → (vs : List Value) (us : List EsValue) → Guest names free c.stmts q.list → Declares q → GuestNames q → Vals s.heap vs us → Rattle.std.specs.Prelude.length vs ≡ Rattle.std.specs.Prelude.length q.imports
+    → ScopeIs (named_store q.funcs chain by s).heap (bound_pairs q.funcs direct by objects (world.with_vars q.vars (with_params q.imports vs []))) (names_of q (Rattle.std.specs.Prelude.length s.heap.list) us)
+module_alike names free q g s by direct chain {objects = objects} below few old vs us guest same guests are long x shown =
+    let place = Rattle.std.specs.Prelude.length s.heap.list in
+    let pairs = world.with_vars q.vars (with_params q.imports vs []) in
+    let firsts = first_names (module_code q) first_values in
+    let h = (named_store q.funcs chain by s).heap in
+    let cases = elim (is_declared q.funcs x) as (λ b. is_declared q.funcs x ≡ b → OptVal h (value_at x (bound_pairs q.funcs direct by objects pairs)) (name_value x (names_of q place us))) [
+      | true ↦ λ is.
+          let new = declared_name q.imports q.vars q.funcs x guests.funcs is in
+          rw (imported-other q.imports us (bound_names q.funcs place firsts) x new.no_param) (declared_alike q.funcs g s by direct chain below few old x is pairs firsts)
+      | false ↦ λ out.
+          rw (pairs_other q.funcs direct by objects pairs x out, imported-same q.imports us (bound_names q.funcs place firsts) firsts x (functions_other q.funcs place firsts x out))
+          (optval_keep {i = 0} {j = 0} (record { objects = keeps_all q.funcs g s by direct chain below few old; more = omega arith }) _ _ (bound_alike names free s.heap q vs us guest same guests are long x shown))
+    ] in cases refl
+
+-- each function's name is that of its place, when imports are read
+pub module_placed : (xs vars : List (List ℕ)) (fs : c.Tree c.funcs) (place : ℕ) (us : List EsValue) (names : Names) → NewFuncs xs vars fs → Placed fs place names → Placed fs place (imported xs us names)
+module_placed xs vars c.no_funcs place us names new p = tt
+module_placed xs vars (c.more_funcs f fs) place us names new p =
+    let n = name_new xs vars f fs new.0 in
+    (imported-other xs us names (func_name f) n.1 ∙ p.0, module_placed xs vars fs (suc (suc place)) us names new.1 p.1)

@@ -35,14 +35,16 @@ use Rattle.cajita_simulation.proofs.Heaps.Functions.{function_new, function_obje
 use Rattle.cajita_simulation.proofs.Heaps.Guards.{load_module-guard, guard_call}
 use Rattle.cajita_simulation.proofs.Doing as Source
 use Rattle.cajita_simulation.proofs.Laws.{Cont', sides}
-use Rattle.cajita_simulation.proofs.Load.Names.{Module, statements, module_body, module_vars, no_functions}
+use Rattle.cajita_simulation.proofs.Declaring.Trees.{func_list}
+use Rattle.cajita_simulation.proofs.Declaring.Stores.{bare_store, bare_before, bound_names, functions_first}
+use Rattle.cajita_simulation.proofs.Load.Names.{Module, statements, module_body, module_vars, functions_are}
 
--- the function of the module: it declares no function
+-- the function of the module
 abbrev pub module_code : Module → Code
-module_code q = record { params = runtime_name ∷ imports_name ∷ []; vars = module_vars q; functions = []; body = module_body q; chain = [] }
+module_code q = record { params = runtime_name ∷ imports_name ∷ []; vars = module_vars q; functions = func_list q.funcs; body = module_body q; chain = [] }
 
 pub code_is : (vs free : KnownNames) (q : Module) → Guest vs free c.stmts q.list → code_of (t.fun None (runtime_name ∷ imports_name ∷ []) (module_body q)) [] ≡ module_code q
-code_is vs free q guest = ap code (no_functions vs free q guest)
+code_is vs free q guest = ap code (functions_are vs free q guest)
   where
     code : List (t.Tree t.func) → Code
     code functions = record { params = runtime_name ∷ imports_name ∷ []; vars = module_vars q; functions = functions; body = module_body q; chain = [] }
@@ -50,13 +52,25 @@ code_is vs free q guest = ap code (no_functions vs free q guest)
 abbrev pub first_values : List EsValue
 first_values = es.Obj runtime_id ∷ es.Obj imports_id ∷ []
 
--- the store with the function, and then with its scope
+-- the store with the function, with those that it declares, and then with its scope
 abbrev pub made_store : ℕ → Module → Store → Store
 made_store by q s = with_code (module_code q) by s
 
+abbrev pub chain_of : Store → List ℕ
+chain_of s = length s.scopes ∷ []
+
+abbrev pub functions_store : ℕ → Module → Store → Store
+functions_store by q s = bare_store q.funcs (length s.scopes ∷ []) by (made_store by q s)
+
+abbrev pub owner_of : Module → Store → store.Owner
+owner_of q s = activation (es.Obj (length s.heap.list)) (module_code q).params first_values
+
+-- where the first of its functions stands
+abbrev pub place_first : ℕ → Module → Store → ℕ
+place_first by q s = length (made_store by q s).heap.list
+
 abbrev pub module_store : ℕ → Module → Store → Store
-module_store by q s =
-    store.with_scope (activation (es.Obj (length s.heap.list)) (module_code q).params first_values) (first_names (module_code q) first_values) (made_store by q s)
+module_store by q s = store.with_scope (owner_of q s) (bound_names q.funcs (place_first by q s) (first_names (module_code q) first_values)) (functions_store by q s)
 
 -- where its statements stand
 abbrev pub inner : ℕ → Store → Target.Env
@@ -95,6 +109,13 @@ function_before by q s i lt =
     let g = with_object s.heap f in
     ap (λ h. object_at h i) (function_new (length s.codes) 2 by s.heap) ∙ slice_get-push-other g.list i (prototype_object (length s.heap.list)) (omega (arith, lt, length-append s.heap.list (f ∷ []))) ∙ slice_get-push-other s.heap.list i f lt
 
+-- and so they stay when its own functions are made
+pub functions_before : (by : ℕ) (q : Module) (s : Store) (i : ℕ) → i < length s.heap.list → object_at (functions_store by q s).heap i ≡ object_at s.heap i
+functions_before by q s i lt =
+    let l = ap (λ (g : Objects). length g.list) (function_new (length s.codes) 2 by s.heap) ∙ length-append (with_object s.heap (function_object (length s.codes) 2 by (suc (length s.heap.list)))).list (prototype_object (length s.heap.list) ∷ []) in
+    let l1 = length-append s.heap.list (function_object (length s.codes) 2 by (suc (length s.heap.list)) ∷ []) in
+    bare_before q.funcs (length s.scopes ∷ []) by (made_store by q s).codes (made_store by q s).heap i (omega (arith, lt, l, l1)) ∙ function_before by q s i lt
+
 pub function_keeps : (by : ℕ) (q : Module) (s : Store) → rows.Keeps s.heap (made_store by q s).heap
 function_keeps by q s = subst (λ h. rows.Keeps s.heap h) (sym (function_new (length s.codes) 2 by s.heap)) (two_keep s.heap (function_object (length s.codes) 2 by (suc (length s.heap.list))) (prototype_object (length s.heap.list)) (function_is_new (length s.codes) 2 by (suc (length s.heap.list))) (prototype_is_new (length s.heap.list)))
 
@@ -111,7 +132,8 @@ load_is by q s y knows =
     let turn : ℕ → ℕ → Option Object → Target.Plan = λ a b o. let d = load_by (class_of o) a b by f made.heap in Target.reply_plan d.reply env (with_heap made d.heap) in
     let entered : (o : Option Object) → Target.Plan = λ o. apply_callable (callable_of o) (es.Obj f) es.Undefined first_values env made in
     let opened : (o : Option Code) → Target.Plan = λ o. Target.open_code o by (es.Obj f) s.globals first_values 0 made Target.body_end in
-    ap (λ a. turn a y.imports (object_at made.heap f)) knows.runtime ∙ ap (λ b. turn runtime_id b (object_at made.heap f)) knows.imports ∙ ap (turn runtime_id imports_id) (function_at by q s) ∙ ap entered (function_at by q s) ∙ ap opened (slice_get-push s.codes (module_code q))
+    let begun : Store → Target.Plan = λ s1. Target.list true (module_body q) None (inner by s) s1 Target.body_end in
+    ap (λ a. turn a y.imports (object_at made.heap f)) knows.runtime ∙ ap (λ b. turn runtime_id b (object_at made.heap f)) knows.imports ∙ ap (turn runtime_id imports_id) (function_at by q s) ∙ ap entered (function_at by q s) ∙ ap opened (slice_get-push s.codes (module_code q)) ∙ ap begun (functions_first q.funcs (owner_of q s) (first_names (module_code q) first_values) (length s.scopes ∷ []) by made)
 
 load_keeps : (by : ℕ) (q : Module) (s : Store) (y : Kept) → Target.task_state page_table (load_task by s) (made_store by q s) y ≡ y
 load_keeps by q s y = refl

@@ -13,10 +13,11 @@ use Rattle.es3_language.specs.Arguments.{is_arguments}
 use Rattle.cajita_tree.specs.Tree as c
 use Rattle.cajita_meaning.specs.World as world
 use Rattle.cajita_meaning.specs.World.{undefined, value_at}
-use Rattle.cajita_rewrite.specs.Rewrite.{runtime_name, imports_name, result_name, temp_name, temps, declared, others, name_items, temp_items, head_items, import_stmts, rewritten, joined, result_stmts}
+use Rattle.cajita_rewrite.specs.Rewrite.{runtime_name, imports_name, result_name, temp_name, temps, declared, others, name_items, temp_items, head_items, import_stmts, rewritten, joined, marks, result_stmts}
 use Rattle.heap_rows.specs.Opening.{runtime_id, imports_id}
 use Rattle.cajita_simulation.specs.Guest.{Names as KnownNames, is_among, inner, Guest}
 use Rattle.cajita_simulation.proofs.Temporaries.{temp_hidden}
+use Rattle.cajita_simulation.proofs.Declaring.Trees.{func_list, declared_vars, declared_functions}
 use Rattle.es3_heap.proofs.Keys.{same_key-refl}
 use Rattle.row_simulation.proofs.Changes.{by_number}
 use Rattle.row_simulation.specs.Correspond.{EsValue}
@@ -229,6 +230,10 @@ KeepsNames m c.cases b x = vars_in t.cases (rewritten m c.cases b x) ≡ declare
 KeepsNames m c.handler b x = vars_in t.handler (rewritten m c.handler b x) ≡ declared c.handler x
 KeepsNames m s b x = Unit {0}
 
+-- a loop over keys declares what its body does
+turn_names : (xs : List (List ℕ)) → (((xs ++ []) ++ []) ++ []) ≡ xs
+turn_names xs = append-nil ((xs ++ []) ++ []) ∙ append-nil (xs ++ []) ∙ append-nil xs
+
 both : {xs ys us vs : List (List ℕ)} → xs ≡ us → ys ≡ vs → (xs ++ ys) ≡ (us ++ vs)
 both p q = cc
 
@@ -243,7 +248,9 @@ names_kept vars free m _ b (c.branch e x y) g = both (names_kept vars free false
 names_kept vars free m _ b (c.while_loop e x) g = names_kept vars free false _ (b + temps c.expr e) x g.1
 names_kept vars free m _ b (c.do_loop x e) g = names_kept vars free false _ b x g.0
 names_kept vars free m _ b (c.for_loop i e u x) g = both (names_kept vars free false _ b i g.0) (names_kept vars free false _ (b + (temps c.first i + (temps c.maybe_expr e + temps c.maybe_expr u))) x g.3)
-names_kept vars free m _ b (c.for_in x e s) g = absurd g
+names_kept vars free m _ b (c.for_in (c.variable x) e s) g = turn_names (vars_in t.stmt (rewritten false c.stmt (b + 3 + temps c.expr e) s)) ∙ names_kept vars free false _ (b + 3 + temps c.expr e) s g.2
+names_kept vars free m _ b (c.for_in (c.member o k) e s) g =
+    turn_names (vars_in t.stmt (rewritten false c.stmt (b + 3 + (temps c.expr o + (temps c.key k + temps c.expr e))) s)) ∙ names_kept vars free false _ (b + 3 + (temps c.expr o + (temps c.key k + temps c.expr e))) s g.2
 names_kept vars free m _ b (c.continue l) g = refl
 names_kept vars free m _ b (c.break l) g = refl
 names_kept vars free m _ b (c.return e) g = refl
@@ -281,15 +288,22 @@ imports_kept : (xs : List (List ℕ)) (rest : t.Tree t.stmts) → vars_of (impor
 imports_kept [] rest = refl
 imports_kept (x ∷ xs) rest = ap (λ (l : List (List ℕ)). x ∷ l) (imports_kept xs rest)
 
--- a module that declares no function: what it imports, its variables, and its statements
+-- a module: what it imports, its variables, the functions that it declares, and its statements
 pub record Module : Type 0 where
   pub imports : List (List ℕ)
   pub vars : List (List ℕ)
+  pub funcs : c.Tree c.funcs
   pub list : c.Tree c.stmts
 
--- the statements of its function behind the head, and all of them
+-- its own statements in its function, its functions and their marks before them, what it imports before these, and all behind the head
+abbrev pub own_stmts : Module → t.Tree t.stmts
+own_stmts q = joined (rewritten true c.stmts 0 q.list) result_stmts
+
+abbrev pub behind_imports : Module → t.Tree t.stmts
+behind_imports q = joined (rewritten false c.funcs 0 q.funcs) (marks q.funcs (joined (rewritten true c.stmts 0 q.list) result_stmts))
+
 abbrev pub statements : Module → t.Tree t.stmts
-statements q = import_stmts q.imports (joined (rewritten true c.stmts 0 q.list) result_stmts)
+statements q = import_stmts q.imports (joined (rewritten false c.funcs 0 q.funcs) (marks q.funcs (joined (rewritten true c.stmts 0 q.list) result_stmts)))
 
 abbrev pub module_body : Module → t.Tree t.stmts
 module_body q = t.more_stmts (t.var (t.more_items result_name t.no_expr (head_items (c.a_body c.no_funcs q.vars q.list)))) (statements q)
@@ -297,16 +311,16 @@ module_body q = t.more_stmts (t.var (t.more_items result_name t.no_expr (head_it
 abbrev pub module_vars : Module → List (List ℕ)
 module_vars q = own_vars (vars_of (module_body q))
 
--- its variables are those that its statements declare
+-- what its statements declare are variables of it
 abbrev pub Declares : Module → Type 0
-Declares q = (x : List ℕ) → is_among q.vars x ≡ is_among (declared c.stmts q.list) x
+Declares q = (x : List ℕ) → is_among (declared c.stmts q.list) x ≡ true → is_among q.vars x ≡ true
 
 abbrev heads : Module → List (List ℕ)
 heads q = vars_in t.items (head_items (c.a_body c.no_funcs q.vars q.list))
 
 statements_among : (vars free : KnownNames) (q : Module) (x : List ℕ) → Guest vars free c.stmts q.list → is_among (vars_of (statements q)) x ≡ (is_among q.imports x || is_among (declared c.stmts q.list) x)
 statements_among vars free q x g =
-    ap (λ l. is_among l x) (imports_kept q.imports (joined (rewritten true c.stmts 0 q.list) result_stmts) ∙ ap (λ l. q.imports ++ l) (vars_joined vars free 0 q.list result_stmts g ∙ append-nil (declared c.stmts q.list)))
+    ap (λ l. is_among l x) (imports_kept q.imports (behind_imports q) ∙ ap (λ l. q.imports ++ l) (declared_vars q.funcs (own_stmts q) ∙ vars_joined vars free 0 q.list result_stmts g ∙ append-nil (declared c.stmts q.list)))
     ∙ among_append q.imports (declared c.stmts q.list) x
 
 all_among : (q : Module) (x : List ℕ) → is_among (vars_of (module_body q)) x ≡ (same_units x result_name || (is_among (heads q) x || is_among (vars_of (statements q)) x))
@@ -318,9 +332,10 @@ or_turn true false c = refl
 or_turn false true c = refl
 or_turn false false c = refl
 
-or_twice : (a : Bool) → (a || a) ≡ a
-or_twice true = refl
-or_twice false = refl
+pub absorbed : (a b : Bool) → (b ≡ true → a ≡ true) → (a || b) ≡ a
+absorbed true b f = refl
+absorbed false true f = sym (f refl)
+absorbed false false f = refl
 
 -- of names that aren't hidden, it declares the imports and the variables
 pub vars_known : (vs free : KnownNames) (q : Module) (x : List ℕ) → Guest vs free c.stmts q.list → Declares q → is_hidden x ≡ false → is_arguments x ≡ false → is_among (module_vars q) x ≡ (is_among q.imports x || is_among q.vars x)
@@ -332,7 +347,7 @@ vars_known vs free q x g same guest own =
     ∙ ap (λ b. b || is_among (vars_of (statements q)) x) (temps_hidden 0 (temps c.stmts q.list) (name_items (others q.vars d) t.no_items) x guest ∙ loops_among (others q.vars d) x)
     ∙ ap (λ b. is_among (others q.vars d) x || b) (statements_among vs free q x g)
     ∙ or_turn (is_among (others q.vars d) x) (is_among q.imports x) (is_among d x)
-    ∙ ap (λ b. is_among q.imports x || b) (others_among q.vars d x ∙ ap (λ b. is_among q.vars x || b) (sym (same x)) ∙ or_twice (is_among q.vars x))
+    ∙ ap (λ b. is_among q.imports x || b) (others_among q.vars d x ∙ absorbed (is_among q.vars x) (is_among d x) (same x))
 
 -- the temporaries and the module's result are declared
 
@@ -349,7 +364,8 @@ result_known q = own_among (vars_of (module_body q)) result_name refl ∙ all_am
 
 no_function : (vars free : KnownNames) (b : ℕ) (x : c.Tree c.stmt) (rest : t.Tree t.stmts) → Guest vars free c.stmt x → functions_of (t.more_stmts (rewritten true c.stmt b x) rest) ≡ functions_of rest
 unfolding rewritten
-no_function vars free b (c.for_in x e s) rest g = absurd g
+no_function vars free b (c.for_in (c.variable x) e s) rest g = refl
+no_function vars free b (c.for_in (c.member o k) e s) rest g = refl
 no_function vars free b x rest g = refl
 
 functions_joined : (vars free : KnownNames) (b : ℕ) (ss : c.Tree c.stmts) (rest : t.Tree t.stmts) → Guest vars free c.stmts ss → functions_of (joined (rewritten true c.stmts b ss) rest) ≡ functions_of rest
@@ -361,8 +377,8 @@ functions_imported : (xs : List (List ℕ)) (rest : t.Tree t.stmts) → function
 functions_imported [] rest = refl
 functions_imported (x ∷ xs) rest = functions_imported xs rest
 
-pub no_functions : (vars free : KnownNames) (q : Module) → Guest vars free c.stmts q.list → functions_of (module_body q) ≡ []
-no_functions vars free q g = functions_imported q.imports (joined (rewritten true c.stmts 0 q.list) result_stmts) ∙ functions_joined vars free 0 q.list result_stmts g
+pub functions_are : (vars free : KnownNames) (q : Module) → Guest vars free c.stmts q.list → functions_of (module_body q) ≡ func_list q.funcs
+functions_are vars free q g = functions_imported q.imports (behind_imports q) ∙ declared_functions q.funcs (own_stmts q) (functions_joined vars free 0 q.list result_stmts g)
 
 -- the names of the function, with the runtime's object and the imports
 

@@ -6,26 +6,30 @@ use Rattle.std.proofs.lemmas.List.{length-append}
 use Rattle.std.proofs.lemmas.Bool.Decides.{nat_tests}
 use Rattle.caja_units.specs.Units.{same_units}
 use Rattle.es3_heap.specs.declared.value.Value.TheVariants as es
-use Rattle.es3_heap.specs.Objects.{Objects}
 use Rattle.es3_language.specs.Store as store
-use Rattle.es3_language.specs.Store.{Store, activation, name_value}
+use Rattle.es3_language.specs.Store.{Store, name_value}
 use Rattle.es3_language.specs.Arguments.{is_fixed}
 use Rattle.es3_language.specs.References.{slot, resolve}
 use Rattle.cajita_tree.specs.Tree as c
 use Rattle.rows.specs.Nodes.{Rules}
 use Rattle.cajita_rewrite.specs.Rewrite.{runtime_name, result_name, temps}
-use Rattle.cajita_meaning.specs.World.{Value, World, undefined, with_scope, with_vars, with_params, next_scope}
+use Rattle.cajita_meaning.specs.World.{Value, Pairs, World, undefined, with_scope, with_vars, with_params, next_scope}
 use Rattle.cajita_meaning.specs.Direct.{Item}
 use Rattle.heap_rows.specs.Opening.{globals_id, runtime_id}
 use Rattle.page_natives.specs.Natives.{Kept}
-use Rattle.cajita_simulation.specs.Guest.{is_among}
+use Rattle.cajita_simulation.specs.Guest.{module_free, Guest}
 use Rattle.cajita_simulation.proofs.Heaps.Lists.{slice_get-push}
-use Rattle.cajita_simulation.proofs.Relation.{EsValue, tag_of_scope, Tags, ScopeIs, names_at, declared, unknown, holds, Temps, no_temps, SlotIs, Here, In, Related, Between, Rel, related_steps}
+use Rattle.row_simulation.proofs.Changes.{by_number}
+use Rattle.cajita_simulation.proofs.Relation.{EsValue, Vals, tag_of_scope, Tags, ScopeIs, names_at, declared, unknown, holds, Temps, no_temps, SlotIs, Here, In, Related, Between, Rel, related_steps}
 use Rattle.cajita_simulation.proofs.Laws.{hold}
-use Rattle.cajita_simulation.proofs.Entering.{names_new, NewScopes, related_scope, related_function}
-use Rattle.cajita_simulation.proofs.Load.Names.{Module}
-use Rattle.cajita_simulation.proofs.Load.Bound.{is_temp, known, names_of, Opens}
-use Rattle.cajita_simulation.proofs.Load.Entering.{module_code, first_values, made_store}
+use Rattle.cajita_simulation.proofs.Scopes.{in_stays}
+use Rattle.cajita_simulation.proofs.Entering.{names_new, names_other, scopes_are, NewScopes, related_function}
+use Rattle.cajita_simulation.proofs.Declaring.Stores.{named_store}
+use Rattle.cajita_simulation.proofs.Declaring.Names.{bound_pairs, objects_world}
+use Rattle.cajita_simulation.proofs.Declaring.Relation.{one_each, Few, shaped_named, related_declared}
+use Rattle.cajita_simulation.proofs.Load.Names.{Module, Declares}
+use Rattle.cajita_simulation.proofs.Load.Bound.{is_temp, known, names_of, Opens, opens, GuestNames, module_alike}
+use Rattle.cajita_simulation.proofs.Load.Entering.{module_code, made_store, functions_store, owner_of, place_first}
 
 -- where the statements of the module stand: it may read what it imports too
 abbrev pub here : Rules → ℕ → Module → World → Store → Here
@@ -35,7 +39,7 @@ here rules by q w s = record {
   by = by;
   chain = length s.scopes ∷ [];
   vars = known q;
-  free = is_among q.vars;
+  free = module_free q.vars q.funcs;
   act = length s.scopes;
   this = globals_id;
 }
@@ -47,22 +51,34 @@ temps_only act count c x = cond (nat_eq c act) (cond (is_temp count x) declared 
 abbrev pub first_temps : Module → Store → Temps
 first_temps q s = hold (length s.scopes) result_name undefined (temps_only (length s.scopes) (temps c.stmts q.list))
 
--- the world when the imports and the variables are bound, and the tags with that of the new scope
+-- the world when the imports, the variables and the functions are bound, and the tags with that of the new scope
+abbrev pub outer : ℕ → World → List ℕ
+outer by w = next_scope by w ∷ []
+
+abbrev pub first_pairs : Module → List Value → Pairs
+first_pairs q vs = with_vars q.vars (with_params q.imports vs [])
+
+abbrev pub module_pairs : ℕ → Module → List Value → World → Pairs
+module_pairs by q vs w = bound_pairs q.funcs (next_scope by w ∷ []) by w.objects (with_vars q.vars (with_params q.imports vs []))
+
 abbrev pub bound_world : ℕ → Module → List Value → World → World
-bound_world by q vs w = with_scope by (with_vars q.vars (with_params q.imports vs [])) w
+bound_world by q vs w = with_scope by (module_pairs by q vs w) (objects_world q.funcs (next_scope by w ∷ []) by w)
 
 abbrev pub bound_tags : ℕ → World → Tags → Tags
 bound_tags by w g = g ++ tag_of_scope by (next_scope by w) ∷ []
 
--- imports and variables are alike on both sides
-abbrev pub Imports : Objects → Module → List Value → List EsValue → Type 0
-Imports h q vs us = ScopeIs h (with_vars q.vars (with_params q.imports vs [])) (names_of q us)
+-- the scope when the imports are read; before the marks, the functions are those of the interpreter alone
+abbrev pub scope_names : ℕ → Module → List EsValue → Store → store.Names
+scope_names by q us s = names_of q (place_first by q s) us
 
-abbrev pub owner_of : Module → Store → store.Owner
-owner_of q s = activation (es.Obj (length s.heap.list)) (module_code q).params first_values
+abbrev pub scoped_store : ℕ → Module → List EsValue → Store → Store
+scoped_store by q us s = store.with_scope (owner_of q s) (scope_names by q us s) (made_store by q s)
+
+abbrev pub read_store : ℕ → Module → List EsValue → Store → Store
+read_store by q us s = store.with_scope (owner_of q s) (scope_names by q us s) (functions_store by q s)
 
 abbrev pub begun_store : ℕ → Module → List EsValue → Store → Store
-begun_store by q us s = store.with_scope (owner_of q s) (names_of q us) (made_store by q s)
+begun_store by q us s = named_store q.funcs (length s.scopes ∷ []) by (scoped_store by q us s)
 
 same_number : (n : ℕ) → nat_eq n n ≡ true
 same_number n = grind (arith, nat_tests)
@@ -74,8 +90,8 @@ other_number c n ne = elim (nat_eq c n) as (λ b. nat_eq c n ≡ b → b ≡ fal
 ] refl
 
 -- the module's result is undefined, temporaries are declared, and nothing is known of other hidden names
-temps_begin : (q : Module) (us : List EsValue) (s : Store) (n : ℕ) (x : List ℕ) → names_at s n ≡ names_of q us → Opens q us → SlotIs s n x (hold n result_name undefined (temps_only n (temps c.stmts q.list)) n x)
-temps_begin q us s n x at opens =
+temps_begin : (q : Module) (place : ℕ) (us : List EsValue) (s : Store) (n : ℕ) (x : List ℕ) → names_at s n ≡ names_of q place us → Opens q place us → SlotIs s n x (hold n result_name undefined (temps_only n (temps c.stmts q.list)) n x)
+temps_begin q place us s n x at opens =
     let known : (b : Bool) → is_temp (temps c.stmts q.list) x ≡ b → SlotIs s n x (cond b declared unknown) = by_temp in
     let cases = elim (same_units x result_name) as (λ b. same_units x result_name ≡ b → SlotIs s n x (cond b (holds undefined) (cond (is_temp (temps c.stmts q.list) x) declared unknown))) [
       | true ↦ λ is. subst (λ k. SlotIs s n k (holds undefined)) (sym (same_text x result_name (sym is))) (es.Undefined, ap (name_value result_name) at ∙ opens.result, tt)
@@ -90,20 +106,21 @@ temps_begin q us s n x at opens =
 is_runtime : (o : EsValue) (e : EsValue) → Some o ≡ Some e → e ≡ o
 is_runtime o e is = cc
 
-new_scopes : (q : Module) (vs : List Value) (us : List EsValue) (by : ℕ) (s : Store) → Imports (made_store by q s).heap q vs us → Opens q us → NewScopes no_temps (first_temps q s) (with_vars q.vars (with_params q.imports vs [])) (owner_of q s) (names_of q us) (made_store by q s)
-new_scopes q vs us by s imports opens = record {
-  same = imports;
+new_scopes : (q : Module) (pairs : Pairs) (us : List EsValue) (by : ℕ) (s s1 : Store) → ScopeIs s1.heap pairs (scope_names by q us s) → Opens q (place_first by q s) us → NewScopes no_temps (first_temps q s1) pairs (owner_of q s) (scope_names by q us s) s1
+new_scopes q pairs us by s s1 alike opens = record {
+  same = alike;
   own = tt;
   runtime = λ e is. is_runtime (es.Obj runtime_id) e (sym opens.runtime ∙ is);
-  here = λ x hidden. temps_begin q us (begun_store by q us s) (length s.scopes) x (names_new (owner_of q s) (names_of q us) (made_store by q s)) opens;
-  others = λ k x ne. ap (λ b. cond b (cond (same_units x result_name) (holds undefined) (cond b (cond (is_temp (temps c.stmts q.list) x) declared unknown) unknown)) (cond b (cond (is_temp (temps c.stmts q.list) x) declared unknown) unknown)) (other_number k (length s.scopes) ne);
+  here = λ x hidden. temps_begin q (place_first by q s) us (store.with_scope (owner_of q s) (scope_names by q us s) s1) (length s1.scopes) x (names_new (owner_of q s) (scope_names by q us s) s1) opens;
+  others = λ k x ne. ap (λ b. cond b (cond (same_units x result_name) (holds undefined) (cond b (cond (is_temp (temps c.stmts q.list) x) declared unknown) unknown)) (cond b (cond (is_temp (temps c.stmts q.list) x) declared unknown) unknown)) (other_number k (length s1.scopes) ne);
 }
 
 -- a name of the innermost scope is found there
 resolve_first : (chain : List ℕ) (s : Store) (c : ℕ) (x : List ℕ) → is_some (name_value x (names_at s c)) ≡ true → resolve (c ∷ chain) s x ≡ slot c x
 resolve_first chain s c x there = rw there refl
 
-in_begins : (rules : Rules) (by : ℕ) (q : Module) (us : List EsValue) (w : World) (g : Tags) (s : Store) → length g ≡ length s.scopes → Opens q us → In (here rules by q w s) (bound_tags by w g) (begun_store by q us s)
+-- where the names are found, before the marks and behind them
+pub in_begins : (rules : Rules) (by : ℕ) (q : Module) (us : List EsValue) (w : World) (g : Tags) (s : Store) → length g ≡ length s.scopes → Opens q (place_first by q s) us → In (here rules by q w s) (bound_tags by w g) (scoped_store by q us s)
 in_begins rules by q us w g s count opens = record {
   captured = record {
     chained = (ap (slice_get (bound_tags by w g)) (sym count) ∙ slice_get-push g (tag_of_scope by (next_scope by w)), tt);
@@ -120,26 +137,40 @@ in_begins rules by q us w g s count opens = record {
 }
   where
     after : Store
-    after = begun_store by q us s
+    after = scoped_store by q us s
 
-    names_are : names_at (begun_store by q us s) (length s.scopes) ≡ names_of q us
-    names_are = names_new (owner_of q s) (names_of q us) (made_store by q s)
+    names_are : names_at (scoped_store by q us s) (length s.scopes) ≡ scope_names by q us s
+    names_are = names_new (owner_of q s) (scope_names by q us s) (made_store by q s)
 
-    below : length s.scopes < length (begun_store by q us s).scopes
-    below = omega (arith, length-append s.scopes (record { owner = owner_of q s; names = names_of q us } ∷ []))
+    below : length s.scopes < length (scoped_store by q us s).scopes
+    below = omega (arith, length-append s.scopes (record { owner = owner_of q s; names = scope_names by q us s } ∷ []))
 
-    runtime_bound : is_some (name_value runtime_name (names_at (begun_store by q us s) (length s.scopes))) ≡ true
+    runtime_bound : is_some (name_value runtime_name (names_at (scoped_store by q us s) (length s.scopes))) ≡ true
     runtime_bound = ap (λ l. is_some (name_value runtime_name l)) names_are ∙ ap is_some opens.runtime
 
-    written : is_fixed (slice_get (begun_store by q us s).scopes (length s.scopes)) ≡ false
-    written = ap is_fixed (slice_get-push s.scopes (record { owner = owner_of q s; names = names_of q us }))
+    written : is_fixed (slice_get (scoped_store by q us s).scopes (length s.scopes)) ≡ false
+    written = ap is_fixed (slice_get-push s.scopes (record { owner = owner_of q s; names = scope_names by q us s }))
 
--- the relation, when the direct meaning took a step for each import and one more at least, and the interpreter seven, and seven for each import
-pub opening : (rules : Rules) (by : ℕ) (q : Module) (vs : List Value) (us : List EsValue) {w : World} {z : List Item} {n : ℕ} {g : Tags} {s : Store} {y : Kept} {m : ℕ} (n' m' : ℕ) → Opens q us → Imports (made_store by q s).heap q vs us → m + 2 ≤ m' → m' + 40 ≤ 64 * n' → 64 * n + 2 ≤ 64 * n' → Between w z n g s y m → Rel (here rules by q w s) (first_temps q s) 40 (bound_world by q vs w) z n' (bound_tags by w g) (begun_store by q us s) y m'
-opening rules by q vs us {w = w} {z = z} {n = n} {g = g} {s = s} {y = y} {m = m} n' m' opens imports some fits more r =
+pub begins_runtime : (by : ℕ) (q : Module) (us : List EsValue) (s : Store) → Opens q (place_first by q s) us → ((k : ℕ) (e : EsValue) → name_value runtime_name (names_at s k) ≡ Some e → e ≡ es.Obj runtime_id) → (k : ℕ) (e : EsValue) → name_value runtime_name (names_at (scoped_store by q us s) k) ≡ Some e → e ≡ es.Obj runtime_id
+begins_runtime by q us s opens was k e is =
+    by_number k (length s.scopes) (e ≡ es.Obj runtime_id)
+    (λ same. is_runtime (es.Obj runtime_id) e (sym (ap (name_value runtime_name) (ap (names_at (scoped_store by q us s)) same ∙ names_new (owner_of q s) (scope_names by q us s) (made_store by q s)) ∙ opens.runtime) ∙ is))
+    (λ other. was k e (sym (ap (name_value runtime_name) (names_other (owner_of q s) (scope_names by q us s) (made_store by q s) k other)) ∙ is))
+
+-- the relation behind the marks, when the direct meaning took a step for each import, each function and one more at least, and the interpreter as many as it takes
+pub opening : (rules : Rules) (by : ℕ) → by < 64 → (q : Module) (vs : List Value) (us : List EsValue) {w : World} {z : List Item} {n : ℕ} {g : Tags} {s : Store} {y : Kept} {m : ℕ} (n' m' : ℕ) → Guest (known q) (module_free q.vars q.funcs) c.stmts q.list → Declares q → GuestNames q → Guest (known q) (module_free q.vars q.funcs) c.funcs q.funcs → Vals (made_store by q s).heap vs us → length vs ≡ length q.imports → Few q.funcs (suc (suc m)) → one_each q.funcs (suc (suc m)) ≤ m' → m' + 40 ≤ 64 * n' → 64 * n + 2 ≤ 64 * n' → Between w z n g s y m
+    → Rel (here rules by q w s) (first_temps q s) 40 (bound_world by q vs w) z n' (bound_tags by w g) (begun_store by q us s) y m'
+opening rules by below q vs us {w = w} {z = z} {n = n} {g = g} {s = s} {y = y} {m = m} n' m' guest same guests functions are long few some fits more r =
+    let open_names = opens (known q) (module_free q.vars q.funcs) q (place_first by q s) us guest same guests in
     let begun : Related no_temps 0 w z n' g s y m = related_steps (omega arith) (omega (arith, more, r.steps)) r in
     let with_function : Related no_temps 0 w z n' g (made_store by q s) y (suc (suc m)) = related_function (module_code q) by (omega (arith, more, r.steps)) begun in
+    let direct = next_scope by w ∷ [] in
+    let chain = length s.scopes ∷ [] in
+    let stands = in_begins rules by q us w g s r.scopes.count open_names in
+    let alike = module_alike (known q) (module_free q.vars q.funcs) q g (made_store by q s) by direct chain below few with_function.objects vs us guest same guests are long in
+    let scopes = new_scopes q (module_pairs by q vs w) us by s (named_store q.funcs chain by (made_store by q s)) alike open_names in
+    let all = related_declared {k = 0} q.funcs by direct chain below few (omega (arith, some, fits)) scopes stands.captured functions with_function in
     record {
-      all = related_steps (omega (arith, some)) fits (related_scope by (new_scopes q vs us by s imports opens) with_function);
-      here = in_begins rules by q us w g s r.scopes.count opens;
+      all = related_steps some fits all;
+      here = in_stays (shaped_named q.funcs chain by (bound_tags by w g) (scoped_store by q us s)) (scopes_are (owner_of q s) (scope_names by q us s) (made_store by q s) tt r.scopes.are) all.scopes.are stands;
     }

@@ -1,19 +1,20 @@
 -- The load of a module and the run of its program are matched, at any related state.
-use Rattle.std.proofs.Common.{◌≡◌, ℕ, zero, suc, ◌+◌, ◌*◌, ◌<◌, true, List, [], ◌∷◌, length, Option, Some, None, cond, refl, sym, ap, ◌∙◌, subst, arith}
-use Rattle.std.specs.Prelude.{is_some, false, nat_eq, map, ◌||◌}
+use Rattle.std.proofs.Common.{◌≡◌, ℕ, zero, suc, ◌+◌, ◌*◌, ◌<◌, Bool, true, List, [], ◌∷◌, length, Option, Some, None, cond, refl, sym, ap, ◌∙◌, subst, arith}
+use Rattle.std.specs.Prelude.{is_some, false, nat_eq, map, codes, ◌||◌}
 use Rattle.std.proofs.lemmas.Bool.Decides.{nat_tests}
 use Rattle.plans.specs.Plans.{ends, enter, bind}
-use Rattle.acts.specs.Acts.{Places, plan_of, given_at}
+use Rattle.acts.specs.Acts.{Places, plan_of, given_at, keep, put, answer, replied}
 use Rattle.matching.specs.Sides.{Match}
 use Rattle.matching.proofs.Rules.{both_end, both_cut, both_enter, right_enter, left_tick}
 use Rattle.es3_tree.specs.Tree as t
-use Rattle.es3_language.specs.Store.{Store, name_value, first_names}
+use Rattle.caja_units.specs.Units.{is_hidden}
+use Rattle.es3_language.specs.Store.{Store, Names, name_value, first_names}
 use Rattle.es3_language.specs.Meaning as Target
 use Rattle.cajita_tree.specs.Tree as c
 use Rattle.rows.specs.Nodes.{Rules}
-use Rattle.cajita_rewrite.specs.Rewrite.{rewritten, joined, temps, temp_name, program_of, load_stmt, result_name, result_stmts}
-use Rattle.cajita_meaning.specs.World.{Value, World, undefined}
-use Rattle.cajita_meaning.specs.Asking.{first, count_of}
+use Rattle.cajita_rewrite.specs.Rewrite.{rewritten, joined, marks, temps, temp_name, runtime_name, imports_name, runtime_call, single, head_items, import_stmts, program_of, load_stmt, result_name, result_stmts}
+use Rattle.cajita_meaning.specs.World.{Value, World, undefined, with_scope, next_scope}
+use Rattle.cajita_meaning.specs.Asking.{Reply, good, first, count_of, functions_made}
 use Rattle.cajita_meaning.specs.Direct as Direct
 use Rattle.cajita_meaning.specs.Direct.{Item}
 use Rattle.heap_rows.specs.Opening.{globals_id, imports_id}
@@ -21,17 +22,24 @@ use Rattle.es3_heap.specs.Properties.{own, value_of}
 use Rattle.cajita_simulation.proofs.Heaps.Opened.{IsOpened}
 use Rattle.cajita_simulation.proofs.Heaps.Functions.{opened_kept-function}
 use Rattle.page_natives.specs.Natives.{Kept}
-use Rattle.cajita_simulation.specs.Guest.{is_among, Guest}
+use Rattle.cajita_simulation.specs.Guest.{is_among, is_declared, module_free, Guest}
 use Rattle.cajita_simulation.proofs.Doing as Source
-use Rattle.cajita_simulation.proofs.Relation.{EsValue, Vals, Here, env_of, Tags, Temps, declared, holds, SlotIs, Between, In, names_at, related_steps, related_between}
+use Rattle.cajita_simulation.proofs.Relation.{EsValue, Vals, Here, env_of, Tags, Temps, declared, holds, SlotIs, Between, In, Rel, names_at, related_steps, related_between}
 use Rattle.cajita_simulation.proofs.Calls.{opened_of}
 use Rattle.cajita_simulation.proofs.Slots.{slot_plan}
 use Rattle.cajita_simulation.proofs.Laws.{no_jumps, Targets, Cont', sides, after, HasResult, Room}
 use Rattle.cajita_simulation.proofs.Forms.Own.{Owns, last_of, ListEnd, own_match}
-use Rattle.cajita_simulation.proofs.Load.Names.{Module, Declares, module_body, module_vars, statements, own_names, vars_known, vars_bound, runtime_there, imports_there}
-use Rattle.cajita_simulation.proofs.Load.Bound.{temp_is, known, GuestNames, opens, bound_alike}
-use Rattle.cajita_simulation.proofs.Load.Entering.{module_code, first_values, made_store, module_store, inner, after_load, enters}
-use Rattle.cajita_simulation.proofs.Load.Opening.{here, first_temps, bound_world, owner_of, begun_store, opening}
+use Rattle.cajita_simulation.proofs.Changes.{related_told}
+use Rattle.cajita_simulation.proofs.Rows.{Going}
+use Rattle.cajita_simulation.proofs.Entering.{names_new, scopes_are}
+use Rattle.cajita_simulation.proofs.Declaring.Stores.{bound_names}
+use Rattle.cajita_simulation.proofs.Declaring.Names.{Placed, placed, functions_bound, functions_other, world_is}
+use Rattle.cajita_simulation.proofs.Declaring.Relation.{one_each, one_each_is, Few, opened_bare}
+use Rattle.cajita_simulation.proofs.Declaring.Marks.{Entered, six, six_is, marks_match, declares_match}
+use Rattle.cajita_simulation.proofs.Load.Names.{Module, Declares, own_stmts, behind_imports, module_body, module_vars, statements, own_names, vars_known, vars_bound, runtime_there, imports_there}
+use Rattle.cajita_simulation.proofs.Load.Bound.{temp_is, known, GuestNames, no_function, opens, module_placed}
+use Rattle.cajita_simulation.proofs.Load.Entering.{module_code, first_values, made_store, functions_store, owner_of, place_first, module_store, inner, after_load, enters}
+use Rattle.cajita_simulation.proofs.Load.Opening.{here, first_temps, first_pairs, bound_world, bound_tags, scope_names, scoped_store, read_store, begun_store, in_begins, begins_runtime, opening}
 use Rattle.cajita_simulation.proofs.Load.Imports.{read_all}
 
 -- a step for each name that is bound
@@ -63,13 +71,26 @@ module_ends H T by s0 is = record {
   throws = λ acc. record { on = λ a le v e w z n g s y m is r keep. both_end (omega (arith, r.all.steps)) (is, (g, related_between r.all)) };
 }
 
-program_is : (q : Module) → program_of (c.a_module q.imports (c.a_body c.no_funcs q.vars q.list)) ≡ t.script (t.more_stmts (load_stmt (module_body q)) t.no_stmts)
+-- statements behind statements behind statements
+joined_twice : (xs ys zs : t.Tree t.stmts) → joined (joined xs ys) zs ≡ joined xs (joined ys zs)
+joined_twice t.no_stmts ys zs = refl
+joined_twice (t.more_stmts x xs) ys zs = ap (λ l. t.more_stmts x l) (joined_twice xs ys zs)
+
+marks_joined : (fs : c.Tree c.funcs) (ys zs : t.Tree t.stmts) → joined (marks fs ys) zs ≡ marks fs (joined ys zs)
+marks_joined c.no_funcs ys zs = refl
+marks_joined (c.more_funcs (c.fun None params args body) fs) ys zs = marks_joined fs ys zs
+marks_joined (c.more_funcs (c.fun (Some x) params args body) fs) ys zs = ap (λ l. t.more_stmts (t.expression (runtime_call (codes "func") (single (t.name x)))) l) (marks_joined fs ys zs)
+
+module_is : (q : Module) → joined (joined (rewritten false c.funcs 0 q.funcs) (marks q.funcs (rewritten true c.stmts 0 q.list))) result_stmts ≡ behind_imports q
+module_is q = joined_twice (rewritten false c.funcs 0 q.funcs) (marks q.funcs (rewritten true c.stmts 0 q.list)) result_stmts ∙ ap (λ l. joined (rewritten false c.funcs 0 q.funcs) l) (marks_joined q.funcs (rewritten true c.stmts 0 q.list) result_stmts)
+
+program_is : (q : Module) → program_of (c.a_module q.imports (c.a_body q.funcs q.vars q.list)) ≡ t.script (t.more_stmts (load_stmt (module_body q)) t.no_stmts)
 unfolding rewritten
-program_is q = refl
+program_is q = ap (λ l. t.script (t.more_stmts (load_stmt (t.more_stmts (t.var (t.more_items result_name t.no_expr (head_items (c.a_body q.funcs q.vars q.list)))) (import_stmts q.imports l))) t.no_stmts)) (module_is q)
 
 -- the module of these parts
 abbrev pub module_of : Module → c.Tree c.program
-module_of q = c.a_module q.imports (c.a_body c.no_funcs q.vars q.list)
+module_of q = c.a_module q.imports (c.a_body q.funcs q.vars q.list)
 
 -- the laws of all statements directly in a module
 abbrev pub Laws : Type 0
@@ -80,7 +101,8 @@ pub record IsGuest (q : Module) : Type 0 where
   pub same : Declares q
   pub names : GuestNames q
   pub few : temps c.stmts q.list < 18446744073709551616
-  pub list : Guest (known q) (is_among q.vars) c.stmts q.list
+  pub funcs : Guest (known q) (module_free q.vars q.funcs) c.funcs q.funcs
+  pub list : Guest (known q) (module_free q.vars q.funcs) c.stmts q.list
   pub targets : Targets no_jumps [] c.stmts q.list
 
 undefined_first : (q : Module) (s : Store) → first_temps q s (length s.scopes) result_name ≡ holds undefined
@@ -100,22 +122,52 @@ inner_is rules by q w s is = ap (λ o. let env : Target.Env = record { chain = l
 
 -- the statements that read imports, from the store where the function was entered to that where its imports are there
 pub record ImportsRead (rules : Rules) (by : ℕ) (q : Module) (us : List EsValue) (s : Store) : Type 0 where
-  pub on : {d : ℕ} {p : Source.Plan} {z : List Item} {n : ℕ} {y : Kept} {m : ℕ} (next' : Cont') → ((m' : ℕ) → m' ≡ m + 7 * length q.imports → Match (sides rules) d p z n (bind (Target.list true (joined (rewritten true c.stmts 0 q.list) result_stmts) None (inner by s) (begun_store by q us s) Target.body_end) next') y m')
+  pub on : {d : ℕ} {p : Source.Plan} {z : List Item} {n : ℕ} {y : Kept} {m : ℕ} (next' : Cont') → ((m' : ℕ) → m' ≡ m + 7 * length q.imports → Match (sides rules) d p z n (bind (Target.list true (behind_imports q) None (inner by s) (read_store by q us s) Target.body_end) next') y m')
       → Match (sides rules) d p z n (bind (Target.list true (statements q) None (inner by s) (module_store by q s) Target.body_end) next') y m
+
+-- what follows the functions of a module: its statements
+abbrev own_going : Rules → ℕ → Module → List Value → World → Going
+own_going rules by q vs w a us w' = plan_of (Source.forms rules) by 3 (put 2 us (put 1 [] (given_at vs))) (keep [] (Direct.own_list q.list (record { chain = next_scope by w ∷ []; calls = 1 }))) w'
+
+abbrev all_made : World → Reply
+all_made w = answer good [] w
 
 loaded : (rules : Rules) (by : ℕ) → by < 64 → (q : Module) → IsGuest q → (vs : List Value) (us : List EsValue) → Laws → (d : ℕ) {w : World} {z : List Item} {n : ℕ} {g : Tags} {s : Store} {y : Kept} {m : ℕ} → ImportsRead rules by q us s → Vals (made_store by q s).heap vs us → length vs ≡ length q.imports → Between w z n g s y m → Match (sides rules) d (enter (Source.load_of (module_of q) by vs) w ends) z n (Target.program_plan (t.script (t.more_stmts (load_stmt (module_body q)) t.no_stmts)) by s) y m
 loaded rules by few q guest vs us laws zero reads are long r = both_cut (omega (arith, r.steps)) r.items
 loaded rules by few q guest vs us laws (suc d) {w = w} {z = z} {n = n} {g = g} {s = s} {y = y} {m = m} reads are long r =
     let H = here rules by q w s in
+    let fs = q.funcs in
+    let direct = next_scope by w ∷ [] in
+    let chain = length s.scopes ∷ [] in
+    let waits = after_load (waiting by s) in
     let begins = undefined_first q s in
     let has : HasResult H (first_temps q s) = record { value = undefined; is = begins } in
-    let begun = opens (known q) (is_among q.vars) q us guest.list guest.same guest.names in
-    let imports = bound_alike (known q) (is_among q.vars) (made_store by q s).heap q vs us guest.list guest.same guest.names are long in
-    both_enter (enters rules (known q) (is_among q.vars) q s (waiting by s) guest.list r.kept (opened_of r.objects) r.globals
-    (ticked rules by (length q.imports + (length q.vars + count_of c.no_funcs)) _ (given_at vs) w ends (suc n) (λ n' same.
-    reads.on (after_load (waiting by s)) (λ m' at.
-    subst (λ env. Match (sides rules) d (bind (Source.own_list q.list H [] (bound_world by q vs w)) ends) z n' (bind (Target.list true (joined (rewritten true c.stmts 0 q.list) result_stmts) None env (begun_store by q us s) Target.body_end) (after_load (waiting by s))) y m') (inner_is rules by q w s r.globals)
-    (own_match (laws H few (suc d)) q.list guest.list guest.targets None None result_stmts d 0 40 Target.body_end ends (after_load (waiting by s)) (omega arith) has (room_first q rules by w s guest.few) (opening rules by q vs us n' m' begun imports (omega (arith, at)) (omega (arith, at, same, r.steps)) (omega (arith, same)) r) (module_ends H (first_temps q s) by s begins))))))
+    let names = opens (known q) (module_free q.vars fs) q (place_first by q s) us guest.list guest.same guest.names in
+    let scoped = scoped_store by q us s in
+    let stands : Entered H (bound_tags by w g) scoped = record {
+      here = in_begins rules by q us w g s r.scopes.count names;
+      are = scopes_are (owner_of q s) (scope_names by q us s) (made_store by q s) tt r.scopes.are;
+      runtime = begins_runtime by q us s names r.scopes.runtime;
+      opened = opened_kept-function (length s.codes) 2 by s.heap (opened_of r.objects);
+    } in
+    let there : Placed fs (place_first by q s) (names_at scoped (length s.scopes)) =
+    subst (λ l. Placed fs (place_first by q s) l) (sym (names_new (owner_of q s) (scope_names by q us s) (made_store by q s)))
+    (module_placed q.imports q.vars fs (place_first by q s) us (bound_names fs (place_first by q s) (first_names (module_code q) first_values)) guest.names.funcs (placed q.imports q.vars fs (place_first by q s) (first_names (module_code q) first_values) guest.names.funcs)) in
+    let first = with_scope by (first_pairs q vs) w in
+    both_enter (enters rules (known q) (module_free q.vars fs) q s (waiting by s) guest.list r.kept (opened_of r.objects) r.globals
+    (ticked rules by (length q.imports + (length q.vars + count_of fs)) _ (given_at vs) w ends (suc n) (λ n' same.
+    reads.on waits (λ m' at.
+    let ones = one_each_is fs m' in
+    let ones0 = one_each_is fs (suc (suc m)) in
+    let sixes = six_is fs (one_each fs m') in
+    subst (λ env. Match (sides rules) d (bind (replied (functions_made fs (next_scope by w) direct by first all_made) (own_going rules by q vs w)) ends) z n' (bind (Target.list true (behind_imports q) None env (read_store by q us s) Target.body_end) waits) y m') (inner_is rules by q w s r.globals)
+    (declares_match rules (env_of H) fs (marks fs (own_stmts q)) None (read_store by q us s) Target.body_end waits
+    (marks_match {J = H} q.imports q.vars fs (own_stmts q) None (next_scope by w) direct chain [] first all_made (own_going rules by q vs w) ends Target.body_end waits refl guest.names.funcs stands there (omega (arith, at, same, r.steps, ones, sixes)) r.items (λ acc z1 told room.
+    let room0 : Few fs (suc (suc m)) = λ j lt. let h = room j lt in omega (arith, h, ones, at) in
+    let r1 = opening rules by few q vs us n' (six fs (one_each fs m')) guest.list guest.same guest.names guest.funcs are long room0 (omega (arith, ones0, ones, sixes, at)) (omega (arith, at, same, r.steps, ones, sixes)) (omega (arith, same)) r in
+    let r2 : Rel H (first_temps q s) 40 (bound_world by q vs w) z1 n' (bound_tags by w g) (begun_store by q us s) y (six fs (one_each fs m')) = record { all = related_told told r1.all; here = r1.here } in
+    subst (λ v. Match (sides rules) d (bind (Source.own_list q.list H [] v) ends) z1 n' (bind (Target.list true (own_stmts q) acc (env_of H) (begun_store by q us s) Target.body_end) waits) y (six fs (one_each fs m'))) (sym (world_is fs direct by (first_pairs q vs) w))
+    (own_match (laws H few (suc d)) q.list guest.list guest.targets None acc result_stmts d 0 40 Target.body_end ends waits (omega arith) has (room_first q rules by w s guest.few) r2 (module_ends H (first_temps q s) by s begins)))))))))
 
 -- the law of the load of a module
 pub whole : (rules : Rules) (by : ℕ) → by < 64 → (q : Module) → IsGuest q → (vs : List Value) (us : List EsValue) → Laws → (d : ℕ) {w : World} {z : List Item} {n : ℕ} {g : Tags} {s : Store} {y : Kept} {m : ℕ} → ImportsRead rules by q us s → Vals (made_store by q s).heap vs us → length vs ≡ length q.imports → Between w z n g s y m → Match (sides rules) d (enter (Source.load_of (module_of q) by vs) w ends) z n (Target.program_plan (program_of (module_of q)) by s) y m
@@ -124,13 +176,26 @@ whole rules by few q guest vs us laws d {w = w} {z = z} {n = n} {g = g} {s = s} 
     (loaded rules by few q guest vs us laws d reads are long r)
 
 -- each import is read in turn
-pub imports_read : (rules : Rules) (by : ℕ) (q : Module) (s : Store) → IsGuest q → IsOpened s.heap → s.shared ≡ [] → ImportsRead rules by q (map (λ k. value_of (own (made_store by q s).heap imports_id k)) q.imports) s
+pub imports_read : (rules : Rules) (by : ℕ) (q : Module) (s : Store) → IsGuest q → IsOpened s.heap → s.shared ≡ [] → ImportsRead rules by q (map (λ k. value_of (own (functions_store by q s).heap imports_id k)) q.imports) s
 imports_read rules by q s guest is unshared = record {
-  on = λ next' f. read_all rules by 1 s.globals (owner_of q s) (made_store by q s) q.imports (first_names (module_code q) first_values) (joined (rewritten true c.stmts 0 q.list) result_stmts) Target.body_end next' (record {
-    is = opened_kept-function (length s.codes) 2 by s.heap is;
+  on = λ next' f. read_all rules by 1 s.globals (owner_of q s) (functions_store by q s) q.imports names (behind_imports q) Target.body_end next' (record {
+    is = opened_bare q.funcs (length s.scopes ∷ []) by (made_store by q s).codes (made_store by q s).heap (opened_kept-function (length s.codes) 2 by s.heap is);
     free = refl;
     unshared = unshared;
-    runtime = runtime_there (module_vars q);
-    imports = imports_there (module_vars q);
-  }) guest.names.imports (λ x known. vars_bound x (module_vars q) own_names (vars_known (Rattle.cajita_simulation.proofs.Load.Bound.known q) (is_among q.vars) q x guest.list guest.same (guest.names.imports x known).open_name (guest.names.imports x known).own_name ∙ ap (λ b. b || is_among q.vars x) known)) f;
+    runtime = first_there runtime_name refl ∙ runtime_there (module_vars q);
+    imports = first_there imports_name refl ∙ imports_there (module_vars q);
+  }) guest.names.imports (λ x among. functions_bound q.funcs (place_first by q s) firsts x ∙ either (is_declared q.funcs x) (vars_bound x (module_vars q) own_names (vars_known (known q) (module_free q.vars q.funcs) q x guest.list guest.same (guest.names.imports x among).open_name (guest.names.imports x among).own_name ∙ ap (λ b. b || is_among q.vars x) among))) f;
 }
+  where
+    firsts : Names
+    firsts = first_names (module_code q) first_values
+
+    names : Names
+    names = bound_names q.funcs (place_first by q s) (first_names (module_code q) first_values)
+
+    first_there : (x : List ℕ) → is_hidden x ≡ true → name_value x (bound_names q.funcs (place_first by q s) (first_names (module_code q) first_values)) ≡ name_value x (first_names (module_code q) first_values)
+    first_there x hidden = functions_other q.funcs (place_first by q s) (first_names (module_code q) first_values) x (no_function guest.names x hidden)
+
+    either : (a : Bool) {b : Bool} → b ≡ true → (a || b) ≡ true
+    either true e = refl
+    either false e = e

@@ -1,0 +1,5 @@
+pub mod Trees
+pub mod Stores
+pub mod Names
+pub mod Relation
+pub mod Marks
