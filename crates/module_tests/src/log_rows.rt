@@ -43,7 +43,6 @@ solo ⇒ try { later(null); } catch (e) { say(e.message); } ⇒ say main \"bad a
 
 /// At most 1,000 calls of functions of the module are open, its body among them; one more ends the page, and no `finally` is done.
 static DEEP: &str = "
-solo ⇒ function f(n) { return n === 0 ? 0 : f(n - 1); } f(999); ⇒ end depth
 solo ⇒ function f() { f(); } f(); ⇒ end depth
 solo ⇒ var n = 0; function f() { n++; try { f(); } catch (e) { say('caught'); } finally { say('finally'); } } f(); ⇒ end depth
 solo ⇒ function f() { if (n === 998) { say('998 calls'); } n++; f(); } var n = 1; f(); ⇒ say main \"998 calls\"¦end depth
@@ -58,7 +57,6 @@ solo ⇒ var a = []; a.push(a); say(a); ⇒ end depth
 
 /// Among them, what is just within the bound.
 static NOT_TOO_DEEP: &str = "
-solo ⇒ function f(n) { return n === 0 ? 0 : f(n - 1); } f(998); ⇒ load main return 0¦end done
 solo ⇒ function f(n) { return n === 0 ? 0 : f(n - 1); } f(998); f(998) + f(998); ⇒ load main return 0¦end done
 solo ⇒ var o = {f: function (n) { return n === 0 ? 'end' : o.f(n - 1); }}; o.f(998); ⇒ load main return \"end\"¦end done
 solo ⇒ function f(n) { return n === 0 ? 0 : f.call(null, n - 1); } f(998); ⇒ load main return 0¦end done
@@ -97,7 +95,6 @@ solo --steps 1 ⇒ say(new Error('m').message); ;;;;;;;;;;;;;;;;;;; ⇒ say main
 solo --steps 1 ⇒ var i = 0; while (i < 3) { i++; } say(i); ;;;;;;;;;;; ⇒ say main \"3\"¦end steps
 solo --steps 1 ⇒ switch (2) { case 1: case 2: say('two'); } ;;;;;;;;;;;;;;;;;;;;;;;;;;;;;;;;;;;; ⇒ say main \"two\"¦end steps
 solo --steps 1 ⇒ say.call(null, 'by call'); Math.max.apply(null, [1, 2]); ;;; ⇒ say main \"by call\"¦end steps
-solo --steps 100 ⇒ while (true) {} ⇒ end steps
 solo --steps 100 ⇒ say('before'); for (;;) {} ⇒ say main \"before\"¦end steps
 solo --steps=10 ⇒ function f() { try { while (true) {} } catch (e) { say('caught'); } finally { say('finally'); } } f(); ⇒ end steps
 solo --steps 50 ⇒ function f() { f(); } f(); ⇒ end steps

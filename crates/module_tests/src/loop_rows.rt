@@ -5,7 +5,6 @@ use std::test::Fail;
 
 /// The keys of each kind of value, in order (12.6.4, and the table of public interfaces).
 static KEYS: &str = "
-var t = ''; for (var k in {a: 1, b: 2}) { t += k; } t; ⇒ return \"ab\"
 var t = ''; for (var k in {}) { t += k; } t; ⇒ return \"\"
 var t = ''; for (var k in {b: 1, a: 2, 1: 3, 0: 4}) { t += k; } t; ⇒ return \"ba10\"
 var t = ''; for (var k in ['x', 'y', 'z']) { t += k + ' '; } t; ⇒ return \"0 1 2 \"

@@ -53,7 +53,6 @@ function f() { return new Date(); } ⇒ refused main rule 10 26
 
 /// Jumps that leave their function, and labels within statements of the same label.
 static JUMPS: &str = "
-while (1) { (function () { break; }); } ⇒ refused main rule 11 27
 while (1) { (function () { continue; }); } ⇒ refused main rule 11 27
 a: while (1) { (function () { break a; }); } ⇒ refused main rule 11 30
 function f() { switch (1) { case 1: continue; } } ⇒ refused main rule 11 36
@@ -69,7 +68,6 @@ function f() { try { break; } finally { return; } } ⇒ refused main rule 11 21
 static ARGUMENTS: &str = "
 function f() { arguments = []; } ⇒ refused main rule 13 15
 function f() { var arguments; } ⇒ refused main rule 13 19
-function f(arguments) {} ⇒ refused main rule 13 11
 function f() { function arguments() {} } ⇒ refused main rule 13 24
 var f = function arguments() {}; ⇒ refused main rule 13 17
 function f() { try {} catch (arguments) {} } ⇒ refused main rule 13 29
