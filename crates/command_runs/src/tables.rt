@@ -146,7 +146,11 @@ fn is_logged(alloc: Global, row: &str, ended: &Status) -> Result<bool, Memory> {
         Some(log) => behind_lines(log, wanted),
         None => None,
     };
-    Ok(status == *ended && rest == Some(b""))
+    let is_all = match rest {
+        Some(rest) => rest.is_empty(),
+        None => false,
+    };
+    Ok(status == *ended && is_all)
 }
 
 /// The first row of a table of words, sources and logs that gives something else, or another status, is the failure.
