@@ -124,3 +124,41 @@ pub fn check_loads(alloc: Global, table: &'static str) -> Result<(), Fail> {
     }
     Ok(())
 }
+
+/// What stands behind these lines of an output, which the row tells with a bar between them.
+fn behind_lines<'a>(output: &'a [u8], lines: &str) -> Option<&'a [u8]> {
+    let mut rest = output;
+    for line in lines.split('¦') {
+        rest = behind(behind(rest, line)?, "\n")?;
+    }
+    Some(rest)
+}
+
+/// Whether the words and the source of a module give this log behind the cajoled text, and this status.
+fn is_logged(alloc: Global, row: &str, ended: &Status) -> Result<bool, Memory> {
+    let (words, source, wanted) = parts(row);
+    let (status, output) = run(alloc, words, source.as_bytes())?;
+    let log = match behind_line(&output) {
+        Some(text) => behind_line(text),
+        None => None,
+    };
+    let rest = match log {
+        Some(log) => behind_lines(log, wanted),
+        None => None,
+    };
+    let is_all = match rest {
+        Some(rest) => rest.is_empty(),
+        None => false,
+    };
+    Ok(status == *ended && is_all)
+}
+
+/// The first row of a table of words, sources and logs that gives something else, or another status, is the failure.
+pub fn check_logs(alloc: Global, table: &'static str, ended: Status) -> Result<(), Fail> {
+    for row in table.lines() {
+        if !row.is_empty() && !is_logged(alloc, row, &ended)? {
+            return Err(row.into());
+        }
+    }
+    Ok(())
+}
