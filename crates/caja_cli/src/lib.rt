@@ -7,7 +7,10 @@ ghost use Rattle.caja_io.specs.Source.{TakesUpTo};
 ghost use Rattle.caja_io.specs.Sink.{Appends, AppendsPart};
 ghost use Rattle.caja_cli.specs.Output.{is_command, command_output, most_read};
 ghost use Rattle.page_cajole.specs.Formatted.{IsFormatted};
-ghost use Rattle.page_meaning.specs.Meant.{IsMeant};
+ghost use Rattle.page_meaning.specs.Meant.{IsMeant, IsCajoled};
+ghost use Rattle.page_meaning.specs.Causes.{IsCaused};
+ghost use Rattle.es3_tree.specs.Tree.{Tree, program};
+ghost use Rattle.caja_cli.specs.Words.{most_steps};
 ghost use Rattle.caja_cli.specs.Answered.{IsAnswer, Wrote, WrotePart};
 ghost use Rattle.caja_cli.specs.Run.{IsRun};
 ghost use Rattle.caja_cli.specs.Solo.{IsSolo, IsCajole};
@@ -33,7 +36,7 @@ use std::alloc::Global;
 /// text and the log of its load. With `cajole` the output is the cajoled text alone, and a line end. With `format` the input is a source of ECMAScript 3, and the output its printed text and a line
 /// end. With `run` it is a text of ECMAScript 3 that runs as it stands, and the output its log. Where the words are no command, nothing is read, and the
 /// line `usage` is written.
-#[tactic(auto, using(page_meaning::proofs::Meant::is_meant, crate::proofs::Solos::is_solo, crate::proofs::Solos::is_cajole, page_cajole::proofs::Formats::is_formatted, crate::proofs::Runs::is_run))]
+#[tactic(auto, using(page_meaning::proofs::Meant::is_meant, page_meaning::proofs::Causes::is_caused, crate::proofs::Solos::is_solo, crate::proofs::Solos::is_cajole, page_cajole::proofs::Formats::is_formatted, crate::proofs::Runs::is_run))]
 pub fn caja<S: Source, K: Sink>(
     words: &[String],
     source: &mut S,
@@ -51,6 +54,9 @@ pub fn caja<S: Source, K: Sink>(
     // What `solo` with so many steps, and `cajole`, write for each of these.
     ensures solo { (n : ℕ) (input : List ℕ) → IsSolo n input }
     ensures cajole { (input : List ℕ) → IsCajole input }
+
+    // How `solo` ends, and why, in both meanings.
+    ensures causes { (n : ℕ) (input : List ℕ) (p : Tree program) → n ≤ most_steps → IsCajoled input p → IsCaused n input p }
 
     // What is formatted is the one program that the input spells, and the text is read as it again; each refusal comes just where it is so.
     ensures formatted { (input : List ℕ) → IsFormatted input }

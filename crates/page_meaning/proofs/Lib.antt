@@ -1,3 +1,4 @@
 pub mod Shown
 pub mod Theorem
 pub mod Meant
+pub mod Causes

@@ -1,3 +1,4 @@
 pub mod DirectLog
 pub mod Means
 pub mod Meant
+pub mod Causes
