@@ -1,5 +1,5 @@
 -- The causes of a page's ends follow from what its source means.
-use Rattle.std.proofs.Common.{◌≡◌, ◌≢◌, ◌≤◌, ℕ, zero, suc, ◌+◌, ◌-◌, ◌*◌, List, refl, sym, ◌∙◌, subst, arith}
+use Rattle.std.proofs.Common.{◌≡◌, ◌≢◌, ◌≤◌, ℕ, zero, suc, ◌-◌, ◌*◌, List, refl, sym, ◌∙◌, arith}
 use Rattle.plans.specs.Plans.{Plan, ends, stops, enter, tick, told, Language, bind, run, count_of}
 use Rattle.es3_tree.specs.Tree as t
 use Rattle.cajita_tree.specs.Tree as c

@@ -3,7 +3,6 @@ use Rattle.std.proofs.Common.{◌≡◌, ℕ, ◌+◌, ◌*◌, ◌/◌, ◌%◌
 use Rattle.std.specs.Prelude.{nat_lt}
 use Rattle.std.proofs.lemmas.Bool.Decides.{nat_tests}
 use Rattle.rows.specs.Rows as r
-use Rattle.rows.specs.Rows.{Native}
 use Rattle.heap_rows.specs.Natives.{own_number, cell_number}
 use Rattle.page_natives.specs.declared.natives.Callee.TheVariants as c
 use Rattle.page_natives.specs.Natives.{own_callee, callee_of}
