@@ -115,31 +115,31 @@ module _ {H : Here} {T : Temps} {d k : ℕ} (below : H.by < 64) (closures : Clos
   abbrev Called : Name → Native → Type 0
   Called o f = M H a (bind (replied (native_call H.around.calls recorded (Some f) o receiver us H.by w) go) next) z n (bind (applied H recorded (es.Obj i) this qs s) next') y m
 
-  simple_called : (o : Name) (f : Native) (number : ℕ) → heap.callable_of (heap.object_at s.heap i) ≡ Some (record { kind = kind.Simple number; maker = 0 }) → Target.apply (es.Obj i) this qs (env_of H) s ≡ enter (Target.native_call number this qs (env_of H)) s ends
-  simple_called o f number callable = applied_native i (kind.Simple number) number this qs (env_of H) s callable refl
+  simple_called : (number : ℕ) → heap.callable_of (heap.object_at s.heap i) ≡ Some (record { kind = kind.Simple number; maker = 0 }) → Target.apply (es.Obj i) this qs (env_of H) s ≡ enter (Target.native_call number this qs (env_of H)) s ends
+  simple_called number callable = applied_native i (kind.Simple number) number this qs (env_of H) s callable refl
 
   say_called : (o : ℕ) → Named s.heap (own_name o 0) i → Called (own_name o 0) r.say
   say_called o named =
       let there = all.all.objects.each (own_name o 0) i named in
-      native_enters a k recorded (own_name o 0) r.say i (own_number o 0) receiver this us qs go next next' all (simple_called (own_name o 0) r.say (own_number o 0) (callable_there s.heap i there.there there.is.1)) (λ b z1 less few r1.
+      native_enters a k recorded (own_name o 0) r.say i (own_number o 0) receiver this us qs go next next' all (simple_called (own_number o 0) (callable_there s.heap i there.there there.is.1)) (λ b z1 less few r1.
       own_row {k = k} below b (callee.Say o) r.say (own_number o 0) (own_name o 0) i this us qs (say_does_its_row o) (say_has_its_number o) (tables.built_ins no_rules no_answers r.say (suc (length us))) go next next' few (say_settled H.by (suc (length us)) o us w) named args r1 (value_from {j = k} {k = k} (omega (arith, less)) (omega arith) stays_refl x))
 
   later_called : (o : ℕ) → Named s.heap (own_name o 1) i → Called (own_name o 1) r.later
   later_called o named =
       let there = all.all.objects.each (own_name o 1) i named in
-      native_enters a k recorded (own_name o 1) r.later i (own_number o 1) receiver this us qs go next next' all (simple_called (own_name o 1) r.later (own_number o 1) (callable_there s.heap i there.there there.is.1)) (λ b z1 less few r1.
+      native_enters a k recorded (own_name o 1) r.later i (own_number o 1) receiver this us qs go next next' all (simple_called (own_number o 1) (callable_there s.heap i there.there there.is.1)) (λ b z1 less few r1.
       own_row {k = k} below b (callee.Later o) r.later (own_number o 1) (own_name o 1) i this us qs (later_does_its_row o) (later_has_its_number o) (tables.built_ins no_rules no_answers r.later (suc (length us))) go next next' few (later_settled H.by (suc (length us)) o us w) named args r1 (value_from {j = k} {k = k} (omega (arith, less)) (omega arith) stays_refl x))
 
   get_called : (c : ℕ) → Named s.heap (cell_name c 1) i → Called (cell_name c 1) r.get
   get_called c named =
       let there = all.all.objects.each (cell_name c 1) i named in
-      native_enters a k recorded (cell_name c 1) r.get i (cell_number c 1) receiver this us qs go next next' all (simple_called (cell_name c 1) r.get (cell_number c 1) (callable_there s.heap i there.there there.is.1)) (λ b z1 less few r1.
+      native_enters a k recorded (cell_name c 1) r.get i (cell_number c 1) receiver this us qs go next next' all (simple_called (cell_number c 1) (callable_there s.heap i there.there there.is.1)) (λ b z1 less few r1.
       own_row {k = k} below b (callee.Get c) r.get (cell_number c 1) (cell_name c 1) i this us qs (get_does_its_row c) (get_has_its_number c) (tables.built_ins no_rules no_answers r.get (suc (length us))) go next next' few (get_settled H.by c us w) named args r1 (value_from {j = k} {k = k} (omega (arith, less)) (omega arith) stays_refl x))
 
   set_called : (c : ℕ) → Named s.heap (cell_name c 2) i → Called (cell_name c 2) r.set
   set_called c named =
       let there = all.all.objects.each (cell_name c 2) i named in
-      native_enters a k recorded (cell_name c 2) r.set i (cell_number c 2) receiver this us qs go next next' all (simple_called (cell_name c 2) r.set (cell_number c 2) (callable_there s.heap i there.there there.is.1)) (λ b z1 less few r1.
+      native_enters a k recorded (cell_name c 2) r.set i (cell_number c 2) receiver this us qs go next next' all (simple_called (cell_number c 2) (callable_there s.heap i there.there there.is.1)) (λ b z1 less few r1.
       own_row {k = k} below b (callee.Set c) r.set (cell_number c 2) (cell_name c 2) i this us qs (set_does_its_row c) (set_has_its_number c) (tables.built_ins no_rules no_answers r.set (suc (length us))) go next next' few (set_settled H.by (suc (length us)) c us w) named args r1 (value_from {j = k} {k = k} (omega (arith, less)) (omega arith) stays_refl x))
 
   built_called : (f : Native) → Named s.heap (built_name f) i → Called (built_name f) f
