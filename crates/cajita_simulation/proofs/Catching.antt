@@ -11,10 +11,11 @@ use Rattle.cajita_rewrite.specs.Rewrite.{runtime_name}
 use Rattle.cajita_meaning.specs.World.{Value, World, with_scope, next_scope, value_at}
 use Rattle.cajita_meaning.specs.Direct.{Item}
 use Rattle.page_natives.specs.Natives.{Kept}
-use Rattle.cajita_simulation.specs.Guest.{inner}
+use Rattle.cajita_simulation.specs.Guest.{GuestName, inner}
+use Rattle.cajita_simulation.specs.Scopes.{stored_name}
 use Rattle.cajita_simulation.proofs.Heaps.Lists.{slice_get-push}
 use Rattle.cajita_simulation.proofs.Relation.{EsValue, Val, OptVal, tag_of_scope, Tags, Here, Temps, Slot, unknown, declared, holds, keys, SlotIs, names_at, AreScopes, Place, In, Rel, Stays, keeps_refl}
-use Rattle.cajita_simulation.proofs.Scopes.{passes, in_stays}
+use Rattle.cajita_simulation.proofs.Scopes.{passes, stored_same, in_stays}
 use Rattle.cajita_simulation.proofs.Writes.{differs}
 use Rattle.cajita_simulation.proofs.Entering.{NewScopes, names_new, shaped_scope, scopes_are, related_scope}
 
@@ -74,26 +75,29 @@ outer : (b c : Bool) → b ≡ false → ((false || (b || false)) || c) ≡ true
 outer true c e f = cc
 outer false c e f = f
 
-new_scopes : {T : Temps} (s : Store) (x : List ℕ) (v : Value) (e : EsValue) → is_hidden x ≡ false → Val s.heap v e → ((y : List ℕ) → is_hidden y ≡ true → SlotIs s (length s.scopes) y (T (length s.scopes) y)) → NewScopes T T ((x, v) ∷ []) caught ((x, e) ∷ []) s
+new_scopes : {T : Temps} (s : Store) (x : List ℕ) (v : Value) (e : EsValue) → GuestName x → Val s.heap v e → ((y : List ℕ) → is_hidden y ≡ true → SlotIs s (length s.scopes) y (T (length s.scopes) y)) → NewScopes T T ((x, v) ∷ []) caught ((x, e) ∷ []) s
 new_scopes {T = T} s x v e open_name is temps = record {
   same = λ y guest. one_name y;
   own = tt;
-  runtime = λ u at. absurd (none_of (same_units runtime_name x) u (differs x runtime_name refl open_name) at);
+  runtime = λ u at. absurd (none_of (same_units runtime_name x) u (differs x runtime_name refl open_name.open_name) at);
   here = λ y hidden. subst (λ q. SlotIs (catch_store x e s) (length s.scopes) y q) (sym (no_slot s (length s.scopes) y (T (length s.scopes) y) (ap store.scope_at (past_end s.scopes)) (temps y hidden))) tt;
   others = λ c y ne. refl;
 }
   where
-    one_name : (y : List ℕ) → OptVal s.heap (value_at y ((x, v) ∷ [])) (name_value y ((x, e) ∷ []))
-    one_name y = elim (same_units y x) as (λ b. OptVal s.heap (cond b (Some v) None) (cond b (Some e) None)) [
+    alike : (y : List ℕ) → OptVal s.heap (cond (same_units y x) (Some v) None) (cond (same_units y x) (Some e) None)
+    alike y = elim (same_units y x) as (λ b. OptVal s.heap (cond b (Some v) None) (cond b (Some e) None)) [
       | true ↦ is
       | false ↦ tt
     ]
+
+    one_name : (y : List ℕ) → OptVal s.heap (value_at y ((x, v) ∷ [])) (name_value (stored_name y) ((x, e) ∷ []))
+    one_name y = rw (stored_same x y open_name) (alike y)
 
     none_of : (b : Bool) (u : EsValue) → b ≡ false → (let o : Option EsValue = cond b (Some e) None in o) ≡ Some u → ⊥
     none_of true u b is = cc
     none_of false u b is = cc
 
-pub rel_catch : {H : Here} {T : Temps} {k : ℕ} {w : World} {z : List Item} {n : ℕ} {g : Tags} {s : Store} {y : Kept} {m : ℕ} (x : List ℕ) (v : Value) (e : EsValue) → is_hidden x ≡ false → Val s.heap v e → Rel H T k w z n g s y m → Rel (catching H w s x) T k (catch_world H.by x v w) z n (catch_tags H.by w g) (catch_store x e s) y m
+pub rel_catch : {H : Here} {T : Temps} {k : ℕ} {w : World} {z : List Item} {n : ℕ} {g : Tags} {s : Store} {y : Kept} {m : ℕ} (x : List ℕ) (v : Value) (e : EsValue) → GuestName x → Val s.heap v e → Rel H T k w z n g s y m → Rel (catching H w s x) T k (catch_world H.by x v w) z n (catch_tags H.by w g) (catch_store x e s) y m
 rel_catch {H = H} {T = T} {w = w} {g = g} {s = s} x v e open_name is r =
     let tag = tag_of_scope H.by (next_scope H.by w) in
     let shaped = shaped_scope g tag caught ((x, e) ∷ []) s in
@@ -101,7 +105,7 @@ rel_catch {H = H} {T = T} {w = w} {g = g} {s = s} x v e open_name is r =
     let old = in_stays shaped r.all.scopes.are are r.here in
     let longer = length-append s.scopes (record { owner = caught; names = (x, e) ∷ [] } ∷ []) in
     let below : length s.scopes < length (catch_store x e s).scopes = omega (arith, longer) in
-    let hidden_out : (y : List ℕ) → is_hidden y ≡ true → is_some (name_value y (names_at (catch_store x e s) (length s.scopes))) ≡ false = λ y hidden. has_name s x e y false (differs x y hidden open_name) in
+    let hidden_out : (y : List ℕ) → is_hidden y ≡ true → is_some (name_value y (names_at (catch_store x e s) (length s.scopes))) ≡ false = λ y hidden. has_name s x e y false (differs x y hidden open_name.open_name) in
     record {
       all = related_scope H.by (new_scopes s x v e open_name is (λ y hidden. r.all.scopes.temps (length s.scopes) y hidden)) r.all;
       here = record {

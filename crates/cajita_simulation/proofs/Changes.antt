@@ -22,6 +22,8 @@ use Rattle.row_simulation.proofs.Relation as row_relation
 use Rattle.cajita_simulation.specs.Alike.{shown}
 use Rattle.cajita_simulation.specs.Related.{KnowsPage}
 use Rattle.cajita_simulation.proofs.Relation.{Named, ObjectsAre, Tags, AreScopes, Temps, Slot, unknown, declared, holds, keys, SlotIs, ScopesAre, Here, CodeIs, ClosuresAre, Related, Rel, Closed, Shaped, Stays, optval_keep, list_keep}
+use Rattle.row_simulation.proofs.Quiet.{Quiet, quiet_keeps, objects_quiet}
+use Rattle.cajita_simulation.proofs.Shared.{shared_keep}
 use Rattle.cajita_simulation.proofs.Scopes.{captured_stays, in_stays}
 
 -- objects changed on both sides, and correspond again when m' steps are taken, with a page that keeps this; no closure of a module came or went, and no scope of the world changed
@@ -99,7 +101,7 @@ scopes_keep {T = T} {s = s} {h' = h'} k r = record {
   temps = λ c x hidden. slot_keep s h' c x (T c x) k (r.temps c x hidden);
   runtime = r.runtime;
   are = r.are;
-  unshared = r.unshared;
+  shared = shared_keep k (omega arith) s.shared r.shared;
 }
 
 pub stays_changed : {p : Page} {w w' : World} {h' : Objects} {s : Store} {m m' : ℕ} (g : Tags) → Changes p w s w' h' m' → m ≤ m' → Stays w g s m w' g (with_heap s h') m'
@@ -129,6 +131,25 @@ related_changed x le fits r = related_settled x r.kept r.items le fits r
 
 pub rel_changed : {H : Here} {T : Temps} {j k : ℕ} {w w' : World} {h' : Objects} {z : List Item} {n : ℕ} {g : Tags} {s : Store} {y : Kept} {m m' : ℕ} → Changes (page_of y) w s w' h' m' → m ≤ m' → m' + k ≤ 64 * n → Rel H T j w z n g s y m → Rel H T k w' z n g (with_heap s h') y m'
 rel_changed x le fits r = rel_settled x r.all.kept r.all.items le fits r
+
+-- objects without names change
+quiet_changes : {T : Temps} {k : ℕ} {w : World} {z : List Item} {n : ℕ} {g : Tags} {s : Store} {y : Kept} {m : ℕ} {h' : Objects} → Quiet first s.heap h' → Related T k w z n g s y m → Changes (page_of y) w s w h' m
+quiet_changes {w = w} q r =
+    let keeps = quiet_keeps q in
+    record {
+      objects = objects_quiet q r.objects;
+      pages = record { cells = λ c. row_relation.val_keep keeps (w.cells c) _ (r.pages.cells c); queues = λ c. row_relation.vals_keep keeps (w.queues c) _ (r.pages.queues c) };
+      keeps = keeps;
+      scopes = refl;
+      older = λ m n f chain e. e;
+      closed = Rattle.cajita_simulation.proofs.Relation.closed_refl;
+    }
+
+pub rel_quiet : {H : Here} {T : Temps} {k : ℕ} {w : World} {z : List Item} {n : ℕ} {g : Tags} {s : Store} {y : Kept} {m : ℕ} {h' : Objects} → Quiet first s.heap h' → Rel H T k w z n g s y m → Rel H T k w z n g (with_heap s h') y m
+rel_quiet q r = rel_changed (quiet_changes q r.all) (omega arith) r.all.steps r
+
+pub stays_quiet : {w : World} {s : Store} {m : ℕ} {h' : Objects} (g : Tags) → Quiet first s.heap h' → Stays w g s m w g (with_heap s h') m
+stays_quiet {s = s} {h' = h'} g q = record { heap = record { objects = quiet_keeps q; more = omega arith }; shaped = shaped_heap g s h'; closed = Rattle.cajita_simulation.proofs.Relation.closed_refl }
 
 -- what is told that the log doesn't print
 

@@ -26,6 +26,7 @@ use Rattle.row_simulation.proofs.Added.{added_keeps, objects_added}
 use Rattle.cajita_simulation.proofs.Heaps.Lists.{slice_get-push, slice_get-push-other}
 use Rattle.cajita_simulation.proofs.Heaps.Functions.{function_object, prototype_object, function_new}
 use Rattle.cajita_simulation.proofs.Relation.{EsValue, ScopeTag, tag_of_scope, Tags, Temps, ScopeIs, names_at, OwnNames, IsScope, AreScopes, Slot, unknown, declared, holds, keys, SlotIs, ScopesAre, Related, Shaped, Keeps, keeps_trans, closed_refl}
+use Rattle.cajita_simulation.proofs.Shared.{shared_more}
 use Rattle.cajita_simulation.proofs.Changes.{Changes, related_changed, closures_shaped}
 
 -- what is past the end stays so where another one is last
@@ -172,7 +173,7 @@ module _ {T T' : Temps} {pairs : Pairs} {owner : store.Owner} {names : store.Nam
     temps = temps_more;
     runtime = runtime_more;
     are = scopes_are owner names s new.own old.are;
-    unshared = old.unshared;
+    shared = let l = length-append s.scopes (record { owner = owner; names = names } ∷ []) in shared_more s.heap (omega (arith, l)) s.shared old.shared;
   }
 
 -- the relation with a scope more
@@ -247,7 +248,7 @@ slot_coded l s c x (keys ks) p = p
 
 -- other codes
 pub scopes_coded : {T : Temps} {g : Tags} {scopes : ℕ → List Pairs} {s : Store} (l : List Code) → ScopesAre T g scopes s → ScopesAre T g scopes (record s { codes = l })
-scopes_coded {s = s} l r = record { same = r.same; once = r.once; known = r.known; count = r.count; temps = λ c x hidden. slot_coded l s c x _ (r.temps c x hidden); runtime = r.runtime; are = λ c. r.are c; unshared = r.unshared }
+scopes_coded {s = s} l r = record { same = r.same; once = r.once; known = r.known; count = r.count; temps = λ c x hidden. slot_coded l s c x _ (r.temps c x hidden); runtime = r.runtime; are = λ c. r.are c; shared = r.shared }
 
 -- a code more
 pub related_code : {T : Temps} {k : ℕ} {w : World} {z : List Item} {n : ℕ} {g : Tags} {s : Store} {y : Kept} {m : ℕ} (code : Code) → Related T k w z n g s y m → Related T k w z n g (record s { codes = s.codes ++ code ∷ [] }) y m

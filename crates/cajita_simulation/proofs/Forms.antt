@@ -7,6 +7,7 @@ pub mod Statement
 pub mod Var
 pub mod Read
 pub mod Function
+pub mod Arguments
 pub mod OwnName
 pub mod Call
 pub mod Method

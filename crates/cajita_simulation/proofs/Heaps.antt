@@ -9,3 +9,4 @@ pub mod Arrays
 pub mod Pairs
 pub mod Records
 pub mod Keys
+pub mod Arguments

@@ -1,5 +1,6 @@
 pub mod Heaps
 pub mod Relation
+pub mod Shared
 pub mod Doing
 pub mod Scopes
 pub mod Written

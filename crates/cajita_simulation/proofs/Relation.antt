@@ -18,7 +18,7 @@ use Rattle.row_simulation.specs.RowLaw.{IsList}
 use Rattle.row_simulation.proofs.Relation as row_relation
 use Rattle.row_simulation.proofs.Row as row_laws
 pub use Rattle.cajita_simulation.specs.Guest.{Names}
-pub use Rattle.cajita_simulation.specs.Scopes.{ScopeTag, tag_of_scope, Tags, Chained, OptVal, names_at, ScopeIs, OwnNames, IsScope, AreScopes, Slot, unknown, declared, holds, keys, Temps, no_temps, SlotIs, ScopesAre}
+pub use Rattle.cajita_simulation.specs.Scopes.{ScopeTag, tag_of_scope, Tags, Chained, OptVal, names_at, ScopeIs, OwnNames, IsScope, AreScopes, Slot, unknown, declared, holds, keys, Temps, no_temps, SlotIs, SharedAre, ScopesAre}
 pub use Rattle.cajita_simulation.specs.Related.{Here, env_of, Within, Place, Captured, In, CodeIs, ClosuresAre, Related, Between, Rel}
 
 -- of the objects: what a row leaves, and steps that only grow
@@ -90,7 +90,7 @@ val_keep k v e p = row_relation.val_keep k.objects v e p
 
 -- an array of texts that has no name stays as it is
 pub list_keep : {a b : Objects} → rows.Keeps a b → (ks : List (List ℕ)) (e : EsValue) → IsList a ks e → IsList b ks e
-list_keep {a = a} k ks (es.Obj i) p = k.bare i (slice_get_within a.list i _ p) (ap heap.tag_of p) ∙ p
+list_keep {a = a} k ks (es.Obj i) p = k.bare i (slice_get_within a.list i _ p) (ap heap.tag_of p) (ap heap.class_of p) ∙ p
 list_keep k ks _ p = absurd p
 
 pub optval_keep : {a b : Objects} {i j : ℕ} → Keeps a i b j → (v : Option Value) (e : Option EsValue) → OptVal a v e → OptVal b v e
@@ -120,7 +120,7 @@ related_between r = record {
   objects = r.objects;
   pages = r.pages;
   closures = r.closures;
-  scopes = record { same = r.scopes.same; once = r.scopes.once; known = r.scopes.known; count = r.scopes.count; temps = λ c x hidden. tt; runtime = r.scopes.runtime; are = r.scopes.are; unshared = r.scopes.unshared };
+  scopes = record { same = r.scopes.same; once = r.scopes.once; known = r.scopes.known; count = r.scopes.count; temps = λ c x hidden. tt; runtime = r.scopes.runtime; are = r.scopes.are; shared = r.scopes.shared };
   globals = r.globals;
   kept = r.kept;
 }

@@ -14,8 +14,9 @@ use Rattle.cajita_simulation.proofs.Forms.Own.{Owns}
 use Rattle.cajita_simulation.proofs.Forms.List.{Effects}
 use Rattle.cajita_simulation.proofs.Forms.Literal.{null_body, truth_body, number_body, text_body}
 use Rattle.cajita_simulation.proofs.Forms.Name.{name_body}
+use Rattle.cajita_simulation.proofs.Forms.Arguments.{args_body}
 use Rattle.cajita_simulation.proofs.Forms.Binary.{binary_body}
-use Rattle.cajita_simulation.proofs.Forms.Unary.{unary_body, typeof_body, TypeLaw, type_zero, type_law, type_of_name}
+use Rattle.cajita_simulation.proofs.Forms.Unary.{unary_body, typeof_body, TypeLaw, type_zero, type_law, type_of_name, type_of_args}
 use Rattle.cajita_simulation.proofs.Forms.Update.{compound_body, step_before_body, step_behind_body}
 use Rattle.cajita_simulation.proofs.Forms.Compound.{compound_member_body, compound_key_body}
 use Rattle.cajita_simulation.proofs.Forms.Step.{before_body, before_key_body}
@@ -55,6 +56,7 @@ value_body few closures natives law types b (c.bool a) g = truth_body a
 value_body few closures natives law types b (c.num n) g = number_body n
 value_body few closures natives law types b (c.text us) g = text_body us
 value_body few closures natives law types b (c.name x) g = name_body x g.0 g.1
+value_body few closures natives law types b c.args g = args_body g
 value_body few closures natives law types b (c.array es) g = array_body few law es g
 value_body few closures natives law types b (c.record_of fs) g = record_body few law fs g
 value_body few closures natives law types b (c.function (c.fun None params args body)) g = function_body few params args body g
@@ -85,10 +87,10 @@ value_body few closures natives law types b (c.and x y) g = and_body (law b x g.
 value_body few closures natives law types b (c.or x y) g = or_body (law b x g.0) (law _ y g.1)
 value_body few closures natives law types b (c.choice x y z) g = choice_body (law b x g.0) (law _ y g.1) (law _ z g.2)
 value_body few closures natives law types b (c.comma x y) g = comma_body (law b x g.0) (law _ y g.1)
-value_body few closures natives law types b _ g = absurd g
 
 abbrev IsNoName : c.Tree c.expr → Type 0
 IsNoName (c.name x) = ⊥
+IsNoName c.args = ⊥
 IsNoName e = Unit {0}
 
 -- only a name is entered as a reference otherwise than for its value
@@ -114,6 +116,7 @@ target_is H b (c.assign (Some op) (c.variable x) e) g other env s = refl
 target_is H b (c.assign (Some op) (c.member e (c.fixed k)) v) g other env s = refl
 target_is H b (c.assign (Some op) (c.member e (c.computed f)) v) g other env s = refl
 target_is H b c.null g other env s = refl
+target_is H b c.args g other env s = absurd other
 target_is H b (c.bool a) g other env s = refl
 target_is H b (c.num n) g other env s = refl
 target_is H b (c.text us) g other env s = refl
@@ -126,11 +129,11 @@ target_is H b (c.and x y) g other env s = refl
 target_is H b (c.or x y) g other env s = refl
 target_is H b (c.choice x y z) g other env s = refl
 target_is H b (c.comma x y) g other env s = refl
-target_is H b _ g other env s = absurd g
 
 type_body : {H : Here} {d : ℕ} → (b : ℕ) (e : c.Tree c.expr) → Guest H.vars H.free c.expr e → ValueBody H d b (temps c.expr e) e (rewritten false c.expr b e) → TypeLaw H (suc d) b (temps c.expr e) e (rewritten false c.expr b e)
 unfolding rewritten
 type_body {H = H} b (c.name x) g go = type_of_name x g.0 g.1
+type_body {H = H} b c.args g go = type_of_args g
 type_body {H = H} b e g go = type_law (target_is H b e g tt) go
 
 -- a statement that has no value

@@ -21,10 +21,10 @@ use Rattle.cajita_meaning.specs.World.{Value, World}
 use Rattle.cajita_meaning.specs.Direct.{Item}
 use Rattle.page_natives.specs.Natives.{Kept}
 use Rattle.cajita_simulation.proofs.Doing as Source
-use Rattle.cajita_simulation.proofs.Relation.{EsValue, Val, Here, env_of, Tags, Temps, Slot, declared, holds, SlotIs, names_at, Rel, Stays, rel_pay}
+use Rattle.cajita_simulation.proofs.Relation.{EsValue, Val, Here, env_of, Tags, Temps, Slot, declared, holds, SlotIs, names_at, Rel, Stays, stays_trans, rel_pay}
 use Rattle.cajita_simulation.proofs.Slots.{slot_plan}
-use Rattle.cajita_simulation.proofs.Written.{slot_written}
-use Rattle.cajita_simulation.proofs.Writes.{Fits, rel_put, stays_held, Covers, rel_covers}
+use Rattle.cajita_simulation.proofs.Written.{slot_written, shared_store}
+use Rattle.cajita_simulation.proofs.Writes.{Fits, fits_keep, rel_put, rel_shared, stays_shared, stays_held, Covers, rel_covers}
 use Rattle.cajita_simulation.proofs.Laws.{Cont, Cont', M, Room, Throws, NextValue, puts, hold}
 
 pub temp_hidden : (i : ℕ) → is_hidden (temp_name i) ≡ true
@@ -115,8 +115,9 @@ pub put_match : {H : Here} {T : Temps} {d k : ℕ} (i : ℕ) (q : Slot) (e f u :
     → ((s1 : Store) → Rel H (puts H.act (temp_name i) q T) k w z n g s1 y m → Stays w g s m w g s1 m → M H d p z n (next' (Target.gave f) s1) y m)
     → M H d p z n (bind (write_plan (slot H.act (temp_name i)) e f (env_of H) s) next') y m
 put_match {H = H} {d = d} i q e f u {p = p} {z = z} {n = n} {g = g} {s = s} {y = y} {m = m} next' there is r go =
-    subst (λ s2. M H d p z n (next' (Target.gave f) s2) y m) (sym (slot_written s H.act (temp_name i) e r.here.written r.all.scopes.unshared))
-    (go (with_slot H.act (temp_name i) e s) (rel_put H.act (temp_name i) q e u there (temp_hidden i) (temp_other i) is r) (stays_held H.act (temp_name i) e u there))
+    let keep = stays_shared H.act (temp_name i) e r in
+    subst (λ s2. M H d p z n (next' (Target.gave f) s2) y m) (sym (slot_written s H.act (temp_name i) e r.here.written))
+    (go (with_slot H.act (temp_name i) e (shared_store s H.act (temp_name i) e)) (rel_put H.act (temp_name i) q e u there (temp_hidden i) (temp_other i) refl (fits_keep keep.heap q e is) (rel_shared H.act (temp_name i) e r)) (stays_trans keep (stays_held H.act (temp_name i) e u there)))
 
 -- it takes a value
 pub temp_match : {H : Here} {T : Temps} {d k : ℕ} (i : ℕ) (v : Value) (e : EsValue) {p : Source.Plan} {w : World} {z : List Item} {n : ℕ} {g : Tags} {s : Store} {y : Kept} {m : ℕ} (next' : Cont') → T H.act (temp_name i) ≡ declared → Val s.heap v e → Rel H T k w z n g s y m

@@ -66,7 +66,7 @@ load_simulated rules by few _ (a_guest imports vars fs list same names names' sm
     let is : IsGuest q = record { same = same; names = record { imports = names; vars = names'; funcs = new }; few = small; funcs = functions; list = guest; targets = targets } in
     let values : Vals (made_store by q s).heap vs us = subst (λ l. Vals (made_store by q s).heap vs l) (sym (values_there q by s imports are.there)) (vals_keep (function_keeps by q s) vs (map (λ k. value_of (own s.heap imports_id k)) imports) are.values) in
     let long : length vs ≡ length imports = values_long s.heap vs _ are.values ∙ map_long (λ k. value_of (own s.heap imports_id k)) imports in
-    turn_simulated (sides rules) n i _ _ _ _ (λ d. whole rules by few q is vs us owns d (imports_read rules by q s is (opened_of r.objects) r.scopes.unshared) values long r)
+    turn_simulated (sides rules) n i _ _ _ _ (λ d. whole rules by few q is vs us owns d (imports_read rules by q s is (opened_of r.objects) r.scopes.shared) values long r)
 
 -- the sentences of a load
 

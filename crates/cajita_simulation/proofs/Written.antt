@@ -111,10 +111,12 @@ fixed_written s c n x v =
     let names = with_name x v (names_at s c) in
     written_at s.scopes c n (store.renamed (slice_get s.scopes c) names) (λ scope. is_fixed scope ≡ is_fixed (slice_get s.scopes n)) (λ e. renamed_fixed (slice_get s.scopes c) names ∙ ap (λ k. is_fixed (slice_get s.scopes k)) (sym e)) refl
 
--- 8.7.2: a name of a scope is written there alone
-pub slot_written : (s : Store) (c : ℕ) (x : List ℕ) (v : EsValue) → is_fixed (slice_get s.scopes c) ≡ false → s.shared ≡ [] → write_slot c x v s ≡ with_slot c x v s
-slot_written s c x v free unshared =
-    ap (λ b. cond b s (with_slot c x v (with_heap s (put_shared s.shared c x v s.heap)))) free ∙ ap (λ shared. with_slot c x v (with_heap s (put_shared shared c x v s.heap))) unshared
+-- 8.7.2, 10.1.8: a name of a scope is written there, and the items of arguments objects that have its value
+abbrev pub shared_store : Store → ℕ → List ℕ → EsValue → Store
+shared_store s c x v = with_heap s (put_shared s.shared c x v s.heap)
+
+pub slot_written : (s : Store) (c : ℕ) (x : List ℕ) (v : EsValue) → is_fixed (slice_get s.scopes c) ≡ false → write_slot c x v s ≡ with_slot c x v (shared_store s c x v)
+slot_written s c x v free = ap (λ b. cond b s (with_slot c x v (with_heap s (put_shared s.shared c x v s.heap)))) free
 
 -- each scope has the names that it had, after a name that it has was written
 pub written_same : (s : Store) (c n : ℕ) (x y : List ℕ) (e v : EsValue) → name_value x (names_at s c) ≡ Some e → is_some (name_value y (names_at (with_slot c x v s) n)) ≡ is_some (name_value y (names_at s n))

@@ -77,6 +77,7 @@ Guest vars free _ (c.bool b) = Unit {0}
 Guest vars free _ (c.num n) = Unit {0}
 Guest vars free _ (c.text us) = Unit {0}
 Guest vars free _ (c.name x) = (vars x ≡ true) × GuestName x
+Guest vars free _ c.args = vars arguments_copy ≡ true
 Guest vars free _ (c.array es) = Guest vars free _ es
 Guest vars free _ (c.record_of fs) = Guest vars free _ fs
 Guest vars free _ (c.function (c.fun None params args body)) = Guest vars free _ (c.fun None params args body)

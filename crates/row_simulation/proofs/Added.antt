@@ -18,7 +18,8 @@ use Rattle.row_simulation.proofs.Changes.{IsNew, cases_at, get-push-other, named
 pub added_keeps : (h : Objects) (x : heap.Object) → ((m k : ℕ) → x.tag ≡ tag.Made m k → ⊥) → Keeps h (with_object h x)
 added_keeps h x unmade = record {
   named = λ n i p. ap heap.tag_of (get-push-other h.list i x (named_within h n i p)) ∙ p;
-  bare = λ i lt e. get-push-other h.list i x lt;
+  bare = λ i lt e k. get-push-other h.list i x lt;
+  plain = λ i lt e k. (ap heap.tag_of (get-push-other h.list i x lt) ∙ e, ap heap.class_of (get-push-other h.list i x lt) ∙ k);
   functions = λ i lt e. get-push-other h.list i x lt;
   long = let l = length-append h.list (x ∷ []) in omega (arith, l);
   counted = λ m. omega arith;

@@ -20,12 +20,12 @@ use Rattle.row_simulation.proofs.Relation.{Named, tag_of_name, Is, IsNamed, Stan
 
 -- lists
 
-get-set : {X : Type 0} (xs : List X) (i : ℕ) (x y : X) → slice_get xs i ≡ Some x → slice_get (slice_set xs i y) i ≡ Some y
+pub get-set : {X : Type 0} (xs : List X) (i : ℕ) (x y : X) → slice_get xs i ≡ Some x → slice_get (slice_set xs i y) i ≡ Some y
 get-set [] i x y there = cc
 get-set (z ∷ zs) zero x y there = refl
 get-set (z ∷ zs) (suc i) x y there = get-set zs i x y there
 
-get-set-other : {X : Type 0} (xs : List X) (i j : ℕ) (y : X) → j ≢ i → slice_get (slice_set xs i y) j ≡ slice_get xs j
+pub get-set-other : {X : Type 0} (xs : List X) (i j : ℕ) (y : X) → j ≢ i → slice_get (slice_set xs i y) j ≡ slice_get xs j
 get-set-other [] i j y ne = refl
 get-set-other (z ∷ zs) zero zero y ne = absurd (ne refl)
 get-set-other (z ∷ zs) (suc i) zero y ne = refl
@@ -80,7 +80,8 @@ revised_tag h i j o ps there = revised_part heap.tag_of (λ o ps. refl) h i j o 
 pub revised_keeps : (h : Objects) (n : Name) (i : ℕ) (o : heap.Object) (ps : List Property) → Named h n i → object_at h i ≡ Some o → (o.class ≡ class.Function → ⊥) → Keeps h (revised h i o ps)
 revised_keeps h n i o ps name there no_function = record {
   named = λ k j p. revised_tag h i j o ps there ∙ p;
-  bare = λ j lt e. revised_other h i j o ps (λ same. name_there n (sym e ∙ ap (λ l. heap.tag_of (object_at h l)) same ∙ name));
+  bare = λ j lt e k. revised_other h i j o ps (λ same. name_there n (sym e ∙ ap (λ l. heap.tag_of (object_at h l)) same ∙ name));
+  plain = λ j lt e k. (revised_tag h i j o ps there ∙ e, revised_part heap.class_of (λ o ps. refl) h i j o ps there ∙ k);
   functions = λ j lt e. revised_other h i j o ps (λ same. no_function (sym (ap (λ l. heap.class_of (object_at h l)) same ∙ ap heap.class_of there) ∙ e));
   long = let l = length-of-set h.list i (with_properties o ps) in omega (arith, l);
   counted = λ m. omega arith;
@@ -256,7 +257,8 @@ grown h by m few =
 pub named_keeps : (h : Objects) (x : heap.Object) (by : ℕ) → count_at (slice_get h.counts by) < 4294967295 → Keeps h (with_named h x by)
 named_keeps h x by few = record {
   named = λ n i p. ap heap.tag_of (get-push-other h.list i _ (named_within h n i p)) ∙ p;
-  bare = λ i lt e. get-push-other h.list i _ lt;
+  bare = λ i lt e k. get-push-other h.list i _ lt;
+  plain = λ i lt e k. (ap heap.tag_of (get-push-other h.list i _ lt) ∙ e, ap heap.class_of (get-push-other h.list i _ lt) ∙ k);
   functions = λ i lt e. get-push-other h.list i _ lt;
   long = let l = length-append h.list (tagged x (tag.Made by (count_at (slice_get h.counts by))) ∷ []) in omega (arith, l);
   counted = λ m. grown h by m few;

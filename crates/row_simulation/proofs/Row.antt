@@ -52,12 +52,13 @@ shown-append (direct.said m us ∷ a) b = ap (λ l. es3.said m us ∷ l) (shown-
 shown-append (i ∷ a) b = shown-append a b
 
 pub keeps_refl : {h : Objects} → Keeps h h
-keeps_refl = record { named = λ n i p. p; bare = λ i lt e. refl; functions = λ i lt e. refl; long = omega arith; counted = λ m. omega arith; older = λ m k i t lt. t }
+keeps_refl = record { named = λ n i p. p; bare = λ i lt e k. refl; plain = λ i lt e k. (e, k); functions = λ i lt e. refl; long = omega arith; counted = λ m. omega arith; older = λ m k i t lt. t }
 
 pub keeps_trans : {a b c : Objects} → Keeps a b → Keeps b c → Keeps a c
 keeps_trans p q = record {
   named = λ n i t. q.named n i (p.named n i t);
-  bare = λ i lt e. q.bare i (omega (arith, lt, p.long)) (ap heap.tag_of (p.bare i lt e) ∙ e) ∙ p.bare i lt e;
+  bare = λ i lt e k. q.bare i (omega (arith, lt, p.long)) (ap heap.tag_of (p.bare i lt e k) ∙ e) (ap heap.class_of (p.bare i lt e k) ∙ k) ∙ p.bare i lt e k;
+  plain = λ i lt e k. let o = p.plain i lt e k in q.plain i (omega (arith, lt, p.long)) o.0 o.1;
   functions = λ i lt e. q.functions i (omega (arith, lt, p.long)) (ap heap.class_of (p.functions i lt e) ∙ e) ∙ p.functions i lt e;
   long = omega (arith, p.long, q.long);
   counted = λ m. let x = p.counted m in let y = q.counted m in omega (arith, x, y);

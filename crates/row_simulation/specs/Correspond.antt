@@ -173,11 +173,21 @@ pub record ObjectsAre (first : Objects) (places : r.Native → ℕ) (objects : �
   pub unnamed : (i : ℕ) (n : Name) → i < length first.list → Named h n i → ⊥
   pub large : length first.list ≤ length h.list
 
--- what persists: the names of objects; an object without a name, and a function, stay as they are; none goes away, no count falls, and no older name of a module comes to another object
+-- what persists: the names of objects; an array without a name, and a function, stay as they are, and another object without a name stays one of its class; none goes
+-- away, no count falls, and no older name of a module comes to another object
 pub record Keeps (a b : Objects) : Type 0 where
   pub named : (n : Name) (i : ℕ) → Named a n i → Named b n i
-  pub bare : (i : ℕ) → i < length a.list → heap.tag_of (heap.object_at a i) ≡ tag.None → heap.object_at b i ≡ heap.object_at a i
+  pub bare : (i : ℕ) → i < length a.list → heap.tag_of (heap.object_at a i) ≡ tag.None → heap.class_of (heap.object_at a i) ≡ class.Array → heap.object_at b i ≡ heap.object_at a i
+  pub plain : (i : ℕ) → i < length a.list → heap.tag_of (heap.object_at a i) ≡ tag.None → heap.class_of (heap.object_at a i) ≡ class.Object → (heap.tag_of (heap.object_at b i) ≡ tag.None) × (heap.class_of (heap.object_at b i) ≡ class.Object)
   pub functions : (i : ℕ) → i < length a.list → heap.class_of (heap.object_at a i) ≡ class.Function → heap.object_at b i ≡ heap.object_at a i
   pub long : length a.list ≤ length b.list
   pub counted : (m : ℕ) → count_at (slice_get a.counts m) ≤ count_at (slice_get b.counts m)
   pub older : (m k i : ℕ) → Named b (made_name m k) i → k < count_at (slice_get a.counts m) → Named a (made_name m k) i
+
+-- an object without a name, of the class Object, behind the first ones
+pub record IsPlain (first h : Objects) (i : ℕ) : Type 0 where
+  pub object : heap.Object
+  pub there : heap.object_at h i ≡ Some object
+  pub tag : object.tag ≡ tag.None
+  pub class : object.class ≡ class.Object
+  pub large : length first.list ≤ i

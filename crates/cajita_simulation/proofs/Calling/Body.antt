@@ -36,7 +36,7 @@ use Rattle.cajita_simulation.proofs.Declaring.Stores.{bare_store, named_store, b
 use Rattle.cajita_simulation.proofs.Declaring.Names.{Placed, placed, bound_pairs, objects_world, declared_world, world_is}
 use Rattle.cajita_simulation.proofs.Declaring.Relation.{one_each, one_each_is, Few, shaped_named, scope_alike, related_declared, stays_declared}
 use Rattle.cajita_simulation.proofs.Declaring.Marks.{Entered, six, six_is, marks_match, declares_match}
-use Rattle.cajita_simulation.proofs.Calling.Names.{NewNames, ScopeNames, heads, behind_head, statements, own_names, new_names, functions_are, scope_names, call_names}
+use Rattle.cajita_simulation.proofs.Calling.Names.{NewNames, ScopeNames, heads, behind_head, statements, own_names, new_names, functions_are, scope_names, call_alike}
 use Rattle.cajita_simulation.proofs.Calling.Entering.{inside, declares, declares_room, declares_covers, captured_enter, in_enter, new_scopes, rel_back}
 use Rattle.cajita_simulation.proofs.Calling.Laws.{ClosureLaw}
 
@@ -164,7 +164,7 @@ closure_match {H = H} {T = T} {k = k} effects a by i (c.fun name params false (c
     let ones1 = one_each_is fs m1 in
     let sixes = six_is fs (one_each fs m1) in
     let few0 : Few fs m = λ j lt. let h = few j lt in omega (arith, h, ones1, from) in
-    let alike : ScopeIs (named_store fs chain by s).heap pairs all = λ x shown. scope_alike fs g s by outer chain below few0 r.all.objects x first_pairs firsts (call_names s.heap x params names vars' us qs is (sym (news.guests x shown))) in
+    let alike : ScopeIs (named_store fs chain by s).heap pairs all = λ x shown. scope_alike params names fs g s by outer chain below few0 r.all.objects guest.6 x first_pairs firsts (call_alike s.heap us qs news is x shown) in
     let scopes = new_scopes by number g (named_store fs chain by s) (es.Obj i) params qs new T pairs alike in
     let begun : Related T 0 w z' n' g s y m = related_steps (omega arith) (omega (arith, r0.all.steps, same)) r0.all in
     let both = related_declared {k = 0} fs by outer chain below few0 (omega (arith, r0.all.steps, same, ones)) scopes captured guest.7 begun in

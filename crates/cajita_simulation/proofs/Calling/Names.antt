@@ -1,5 +1,5 @@
 -- The names that a call begins with, beside those of the direct meaning.
-use Rattle.std.proofs.Common.{◌≡◌, ℕ, zero, suc, ◌+◌, ◌<◌, Bool, true, false, List, [], ◌∷◌, ◌++◌, Option, Some, None, refl, sym, ap, ◌∙◌, subst, arith}
+use Rattle.std.proofs.Common.{◌≡◌, ℕ, zero, suc, ◌+◌, ◌<◌, Bool, true, false, List, [], ◌∷◌, ◌++◌, Option, Some, None, cond, refl, sym, ap, ◌∙◌, subst, arith}
 use Rattle.std.specs.Prelude.{is_some, ◌||◌, ◌&&◌}
 use Rattle.std.specs.Cmp.Lexicographic.{same_text}
 use Rattle.caja_units.specs.Units.{same_units, is_hidden}
@@ -10,12 +10,12 @@ use Rattle.es3_language.specs.Store.{Names, name_value, with_name, with_vars, wi
 use Rattle.es3_language.specs.Hoisting.{vars_in, vars_of, functions_of, own_vars}
 use Rattle.es3_language.specs.Arguments.{is_arguments}
 use Rattle.cajita_tree.specs.Tree as c
-use Rattle.cajita_rewrite.specs.Rewrite.{runtime_name, temp_name, temps, declared, others, name_items, temp_items, head_items, var_stmts, joined, marks, rewritten}
+use Rattle.cajita_rewrite.specs.Rewrite.{runtime_name, arguments_copy, temp_name, temps, declared, others, name_items, temp_items, head_items, var_stmts, joined, marks, rewritten}
 use Rattle.cajita_meaning.specs.World as World
 use Rattle.cajita_meaning.specs.World.{Value, Pairs, value_at, with_value}
 use Rattle.cajita_simulation.specs.Guest.{Names as KnownNames, is_among, is_declared, within, GuestName, NewFuncs, Guest}
 use Rattle.cajita_simulation.proofs.Heaps.Names.{name_value-with_name, name_value-with_name-other}
-use Rattle.cajita_simulation.proofs.Relation.{EsValue, Val, Vals, OptVal}
+use Rattle.cajita_simulation.proofs.Relation.{EsValue, Val, Vals, OptVal, ScopeIs}
 use Rattle.cajita_simulation.proofs.Written.{value_at-with_value, value_at-with_value-other}
 use Rattle.cajita_simulation.proofs.Declaring.Trees.{func_list, declared_vars, declared_functions}
 use Rattle.cajita_simulation.proofs.Declaring.Stores.{bound_names}
@@ -69,6 +69,7 @@ pub record NewNames (params names vars' : List (List ℕ)) (q : ℕ) : Type 0 wh
   pub guests : (x : List ℕ) → is_hidden x ≡ false → is_among vars' x ≡ is_among names x
   pub temps : (i : ℕ) → i < q → is_among vars' (temp_name i) ≡ true
   pub runtime : is_among vars' runtime_name ≡ false
+  pub copy : is_among vars' arguments_copy ≡ false
   pub params_open : (x : List ℕ) → is_among params x ≡ true → GuestName x
   pub names_open : (x : List ℕ) → is_among names x ≡ true → GuestName x
 
@@ -120,8 +121,22 @@ module _ (vars free : KnownNames) (fs : c.Tree c.funcs) (names : List (List ℕ)
       no_open : is_hidden runtime_name ≡ false → ⊥
       no_open e = cc
 
+  temps_apart : (i n : ℕ) (is : t.Tree t.items) → is_among (vars_in t.items (temp_items i n is)) arguments_copy ≡ is_among (vars_in t.items is) arguments_copy
+  temps_apart i zero is = refl
+  temps_apart i (suc n) is = temps_apart (suc i) n is
+
+  copy_unknown : is_among (own_names fs names list) arguments_copy ≡ false
+  copy_unknown =
+      let hidden : is_among names arguments_copy ≡ false = not_true (is_among names arguments_copy) (λ e. no_open (open_names arguments_copy e).open_name) in
+      own_among (vars_of (statements fs names list)) arguments_copy refl ∙ all_names arguments_copy
+      ∙ ap (λ b. b || is_among (declared c.stmts list) arguments_copy) (temps_apart 0 (temps c.stmts list) (name_items others_here t.no_items) ∙ loops_among others_here arguments_copy)
+      ∙ others_among names (declared c.stmts list) arguments_copy ∙ known_among arguments_copy ∙ hidden
+    where
+      no_open : is_hidden arguments_copy ≡ false → ⊥
+      no_open e = cc
+
   pub new_names : (params : List (List ℕ)) → ((x : List ℕ) → is_among params x ≡ true → GuestName x) → NewNames params names (own_names fs names list) (temps c.stmts list)
-  new_names params open_params = record { guests = open_known; temps = temps_known; runtime = runtime_unknown; params_open = open_params; names_open = open_names }
+  new_names params open_params = record { guests = open_known; temps = temps_known; runtime = runtime_unknown; copy = copy_unknown; params_open = open_params; names_open = open_names }
 
 -- which names are bound
 
@@ -183,6 +198,32 @@ vars_are h x xs ys a b (Some v) None is is' same p = absurd p
 
 pub call_names : (h : Objects) (x : List ℕ) (params xs ys : List (List ℕ)) (vs : List Value) (qs : List EsValue) → Vals h vs qs → is_among xs x ≡ is_among ys x → OptVal h (value_at x (World.with_vars xs (World.with_params params vs []))) (name_value x (with_vars ys (with_params params qs [])))
 call_names h x params xs ys vs qs is same = vars_are h x xs ys (World.with_params params vs []) (with_params params qs []) _ _ refl refl same (params_are h x params vs qs [] [] is tt)
+
+-- and each variable is where the interpreter has it
+pub call_alike : {params names vars' : List (List ℕ)} {q : ℕ} (h : Objects) (vs : List Value) (qs : List EsValue) → NewNames params names vars' q → Vals h vs qs → ScopeIs h (World.with_vars names (World.with_params params vs [])) (with_vars vars' (with_params params qs []))
+call_alike {params = params} {names = names} {vars' = vars'} h vs qs new is x shown =
+    let all = with_vars vars' (with_params params qs []) in
+    let same = call_names h x params names vars' vs qs is (sym (new.guests x shown)) in
+    let cases = elim (is_arguments x) as (λ b. is_arguments x ≡ b → OptVal h (value_at x (World.with_vars names (World.with_params params vs []))) (name_value (cond b arguments_copy x) (with_vars vars' (with_params params qs [])))) [
+      | false ↦ λ own. same
+      | true ↦ λ own.
+          let no_param : is_among params x ≡ false = not_true (is_among params x) (λ e. cc (sym own ∙ (new.params_open x e).own_name)) in
+          let no_name : is_among names x ≡ false = not_true (is_among names x) (λ e. cc (sym own ∙ (new.names_open x e).own_name)) in
+          let no_copy : is_among params arguments_copy ≡ false = not_true (is_among params arguments_copy) (λ e. no_open (new.params_open arguments_copy e).open_name) in
+          none_too (value_at x (World.with_vars names (World.with_params params vs []))) (name_value x all) (name_value arguments_copy all) same
+          (call_bound x params vars' qs ∙ ap (λ b. b || is_among vars' x) no_param ∙ new.guests x shown ∙ no_name)
+          (call_bound arguments_copy params vars' qs ∙ ap (λ b. b || is_among vars' arguments_copy) no_copy ∙ new.copy)
+    ] in cases refl
+  where
+    no_open : is_hidden arguments_copy ≡ false → ⊥
+    no_open e = cc
+
+    none_too : (o : Option Value) (a b : Option EsValue) → OptVal h o a → is_some a ≡ false → is_some b ≡ false → OptVal h o b
+    none_too None None None p e f = tt
+    none_too None None (Some u) p e f = cc
+    none_too None (Some u) b p e f = absurd p
+    none_too (Some v) None b p e f = absurd p
+    none_too (Some v) (Some u) b p e f = cc
 
 -- the names of a new scope, beside those around it: its temporaries, and that a name which it hasn't is found further out
 pub record ScopeNames (all : Names) (vars free vars1 free1 : KnownNames) (q : ℕ) : Type 0 where

@@ -1,8 +1,8 @@
 -- The relation when the functions that a body declares have their marks and names, and their scope stands last.
-use Rattle.std.proofs.Common.{◌≡◌, ℕ, suc, ◌+◌, ◌*◌, ◌≤◌, ◌<◌, Bool, true, false, List, [], ◌∷◌, ◌++◌, length, Some, refl, sym, ◌∙◌, subst, arith}
+use Rattle.std.proofs.Common.{◌≡◌, ℕ, suc, ◌+◌, ◌*◌, ◌≤◌, ◌<◌, Bool, true, false, List, [], ◌∷◌, ◌++◌, length, Some, cond, refl, sym, ◌∙◌, subst, arith}
 use Rattle.std.specs.Prelude.{slice_get, ◌||◌}
 use Rattle.std.specs.Cmp.Lexicographic.{same_text}
-use Rattle.caja_units.specs.Units.{same_units}
+use Rattle.caja_units.specs.Units.{same_units, is_hidden}
 use Rattle.es3_heap.specs.declared.value.Value.TheVariants as es
 use Rattle.es3_heap.specs.Objects.{Objects}
 use Rattle.es3_language.specs.Store as store
@@ -18,7 +18,10 @@ use Rattle.row_simulation.specs.Correspond as rows
 use Rattle.row_simulation.proofs.Relation as row_relation
 use Rattle.row_simulation.proofs.Row as row_laws
 use Rattle.row_simulation.proofs.Changes.{room, last_kept}
-use Rattle.cajita_simulation.specs.Guest.{Names, Guest, is_declared}
+use Rattle.cajita_rewrite.specs.Rewrite.{arguments_copy}
+use Rattle.es3_language.specs.Arguments.{is_arguments}
+use Rattle.cajita_simulation.specs.Guest.{Names, Guest, NewFuncs, is_declared}
+use Rattle.cajita_simulation.specs.Scopes.{stored_name}
 use Rattle.cajita_simulation.proofs.Heaps.Lists.{slice_get-push-other}
 use Rattle.std.proofs.lemmas.Option.{slice_get_within}
 use Rattle.cajita_simulation.proofs.Heaps.Names.{name_value-with_name}
@@ -26,13 +29,13 @@ use Rattle.cajita_simulation.proofs.Heaps.Opened.{IsOpened, opened_kept, opened_
 use Rattle.cajita_simulation.proofs.Heaps.Functions.{marked_object, prototype_object, opened_kept-function}
 use Rattle.cajita_simulation.proofs.Heaps.Made.{with_named}
 use Rattle.cajita_simulation.proofs.Relation.{ObjectsAre, tag_of_scope, Tags, Temps, OptVal, AreScopes, ClosuresAre, Captured, Related, Shaped, shaped_trans, Stays}
-use Rattle.cajita_simulation.proofs.Scopes.{captured_stays}
+use Rattle.cajita_simulation.proofs.Scopes.{stored_is, captured_stays}
 use Rattle.cajita_simulation.proofs.Written.{value_at-with_value}
 use Rattle.cajita_simulation.proofs.Changes.{closures_shaped, scopes_keep}
 use Rattle.cajita_simulation.proofs.Entering.{NewScopes, scopes_more, scopes_are, shaped_scope, shaped_code, scopes_coded}
 use Rattle.cajita_simulation.proofs.Closures.{marked_heap, closed_store, closure_keeps, closure_objects, closure_named, closures_with, shaped_closure}
 use Rattle.cajita_simulation.proofs.Declaring.Stores.{declared_code, all_codes, bare_heap, bare_store, named_store, bound_names, length-marked}
-use Rattle.cajita_simulation.proofs.Declaring.Names.{all_objects, bound_pairs, objects_world, functions_other, pairs_other}
+use Rattle.cajita_simulation.proofs.Declaring.Names.{all_objects, bound_pairs, objects_world, declared_name, functions_other, pairs_other}
 
 -- a step more for each function
 abbrev pub one_each : c.Tree c.funcs → ℕ → ℕ
@@ -124,12 +127,26 @@ declared_alike (c.more_funcs f fs) g s by direct chain {objects = objects} {m = 
     this_one true e = refl
     this_one false e = cc
 
+-- no function has the name that `arguments` has in the interpreter
+pub stored_out : (params vars : List (List ℕ)) (fs : c.Tree c.funcs) (x : List ℕ) → NewFuncs params vars fs → is_declared fs x ≡ false → is_declared fs (stored_name x) ≡ false
+stored_out params vars fs x new out = elim (is_arguments x) as (λ b. is_declared fs (cond b arguments_copy x) ≡ false) [
+  | true ↦
+      let cases = elim (is_declared fs arguments_copy) as (λ b. is_declared fs arguments_copy ≡ b → b ≡ false) [
+        | true ↦ λ is. absurd (no_open (declared_name params vars fs arguments_copy new is).guest.open_name)
+        | false ↦ λ is. refl
+      ] in cases refl
+  | false ↦ out
+]
+  where
+    no_open : is_hidden arguments_copy ≡ false → ⊥
+    no_open e = cc
+
 -- names that both scopes have alike, when the functions are bound in both
-pub scope_alike : (fs : c.Tree c.funcs) (g : Tags) (s : Store) (by : ℕ) (direct chain : List ℕ) {objects : ℕ → List Object} {m : ℕ} → by < 64 → Few fs m → ObjectsAre first place_of objects s.heap m → (x : List ℕ) (pairs : Pairs) (names : store.Names) → OptVal s.heap (value_at x pairs) (name_value x names) → OptVal (named_store fs chain by s).heap (value_at x (bound_pairs fs direct by objects pairs)) (name_value x (bound_names fs (length s.heap.list) names))
-scope_alike fs g s by direct chain {objects = objects} below few old x pairs names was =
-    let cases = elim (is_declared fs x) as (λ b. is_declared fs x ≡ b → OptVal (named_store fs chain by s).heap (value_at x (bound_pairs fs direct by objects pairs)) (name_value x (bound_names fs (length s.heap.list) names))) [
-      | true ↦ λ is. declared_alike fs g s by direct chain below few old x is pairs names
-      | false ↦ λ out. rw (pairs_other fs direct by objects pairs x out, functions_other fs (length s.heap.list) names x out) (Rattle.cajita_simulation.proofs.Relation.optval_keep {i = 0} {j = 0} (record { objects = keeps_all fs g s by direct chain below few old; more = omega arith }) _ _ was)
+pub scope_alike : (params vars : List (List ℕ)) (fs : c.Tree c.funcs) (g : Tags) (s : Store) (by : ℕ) (direct chain : List ℕ) {objects : ℕ → List Object} {m : ℕ} → by < 64 → Few fs m → ObjectsAre first place_of objects s.heap m → NewFuncs params vars fs → (x : List ℕ) (pairs : Pairs) (names : store.Names) → OptVal s.heap (value_at x pairs) (name_value (stored_name x) names) → OptVal (named_store fs chain by s).heap (value_at x (bound_pairs fs direct by objects pairs)) (name_value (stored_name x) (bound_names fs (length s.heap.list) names))
+scope_alike params vars fs g s by direct chain {objects = objects} below few old new x pairs names was =
+    let cases = elim (is_declared fs x) as (λ b. is_declared fs x ≡ b → OptVal (named_store fs chain by s).heap (value_at x (bound_pairs fs direct by objects pairs)) (name_value (stored_name x) (bound_names fs (length s.heap.list) names))) [
+      | true ↦ λ is. subst (λ q. OptVal (named_store fs chain by s).heap (value_at x (bound_pairs fs direct by objects pairs)) (name_value q (bound_names fs (length s.heap.list) names))) (sym (stored_is x (declared_name params vars fs x new is).guest)) (declared_alike fs g s by direct chain below few old x is pairs names)
+      | false ↦ λ out. rw (pairs_other fs direct by objects pairs x out, functions_other fs (length s.heap.list) names (stored_name x) (stored_out params vars fs x new out)) (Rattle.cajita_simulation.proofs.Relation.optval_keep {i = 0} {j = 0} (record { objects = keeps_all fs g s by direct chain below few old; more = omega arith }) _ _ was)
     ] in cases refl
 
 -- the relation

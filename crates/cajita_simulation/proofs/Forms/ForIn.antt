@@ -35,7 +35,7 @@ use Rattle.cajita_simulation.proofs.Heaps.Guards.{set_pub-guard, keys_pub-guard}
 use Rattle.cajita_simulation.proofs.Relation.{EsValue, Val, Here, env_of, Tags, Temps, declared, holds, keys, Rel, Stays, val_keep, stays_trans, stays_step, rel_less, rel_steps}
 use Rattle.cajita_simulation.proofs.Slots.{slot_target}
 use Rattle.cajita_simulation.proofs.Written.{slot_written}
-use Rattle.cajita_simulation.proofs.Writes.{find, rel_assigned, stays_assigned, Covers, rel_covers, covers_trans, put_covers}
+use Rattle.cajita_simulation.proofs.Writes.{find, rel_assigned, stays_assigned, rel_shared, stays_shared, Covers, rel_covers, covers_trans, put_covers}
 use Rattle.cajita_simulation.proofs.Temporaries.{put_other, put_match, temp_at, temp_read, hold_there}
 use Rattle.cajita_simulation.proofs.Laws.{ValueLaw, EffectLaw, BareBody, effect_from, throws_from, Cont, Cont', M, Room, puts, hold, with_part, room_part, steps_hold}
 use Rattle.cajita_simulation.proofs.Calls.{callee_match, guard_match}
@@ -44,6 +44,7 @@ use Rattle.cajita_simulation.proofs.Guarded.{asks, guarded_on}
 use Rattle.cajita_simulation.proofs.Forms.Values.{Values}
 use Rattle.cajita_simulation.proofs.Forms.Key.{key_match}
 use Rattle.cajita_simulation.proofs.Forms.Put.{set_plain}
+use Rattle.cajita_simulation.proofs.Forms.Assign.{found_shared}
 use Rattle.cajita_simulation.proofs.Forms.Member.{set_enter, set_match}
 use Rattle.cajita_simulation.proofs.Forms.Keys.{KeyLoop, keys_is}
 use Rattle.cajita_simulation.proofs.Forms.KeyTurns.{held3, slots_of, item_steps, asked_at, WriteLaw, loop_of, keys_match}
@@ -98,11 +99,13 @@ variable_write {H = H} {T = T} {b = b} x body ls o all few known may guest = rec
       let L : KeyLoop = record { target = c.variable x; body = body; labels = ls; object = o } in
       let left = bind (Source.act_plan H 5 (put 4 [] (asked_at o k v)) (Direct.key_body ks (c.variable x) body ls H.around 0) (Source.assign H x (text k) w)) next in
       let r5 = rel_steps {k = 12 + j} {m' = suc (suc (suc (suc m)))} (omega arith) (omega (arith, r.all.steps)) r in
-      let found = find x p.scope p.at guest.open_name r5 in
+      let shared = rel_shared p.scope x (es.Text k) r5 in
+      let kept = stays_shared p.scope x (es.Text k) r5 in
+      let found = find x p.scope (found_shared x p.scope p.at r5 shared kept) guest shared in
       right_enter (subst (λ u. M H a left z n (bind u (λ e1 s1. bind (Target.on_target_of (assign_to (key_of b) (env_of H)) e1 s1) K)) y (suc m)) (sym (slot_target x (env_of H) s p.scope guest.own_name p.at))
       (right_enter (item_steps H g s b o all i k (λ e1 s1. bind (Target.on_value_of (assign_value (slot p.scope x) (env_of H)) e1 s1) K) r.here q small is
-      (subst (λ s2. M H a left z n (K (Target.gave (es.Text k)) s2) y (suc (suc (suc (suc m))))) (sym (slot_written s p.scope x (es.Text k) (p.written may) r.all.scopes.unshared))
-      (go a (omega arith) 4 (put 4 [] (asked_at o k v)) refl (es.Text k) _ _ _ _ _ _ _ (rel_assigned x p.scope (text k) (es.Text k) guest.open_name found refl r5) (stays_trans (stays_step (omega arith)) (stays_assigned H x p.scope (text k) (es.Text k) found.value found.there)))))));
+      (subst (λ s2. M H a left z n (K (Target.gave (es.Text k)) s2) y (suc (suc (suc (suc m))))) (sym (slot_written s p.scope x (es.Text k) (p.written may)))
+      (go a (omega arith) 4 (put 4 [] (asked_at o k v)) refl (es.Text k) _ _ _ _ _ _ _ (rel_assigned x p.scope (text k) (es.Text k) guest found refl shared) (stays_trans (stays_step (omega arith)) (stays_trans kept (stays_assigned H x p.scope (text k) (es.Text k) found.value found.there))))))));
 }
 
 -- the key is written to a member

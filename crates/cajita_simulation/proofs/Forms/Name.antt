@@ -26,5 +26,5 @@ pub name_body : {H : Here} {d b : ℕ} (x : List ℕ) → H.vars x ≡ true → 
 name_body x known guest = record {
   on = λ lt room r next.
       let p = r.here.captured.names x known in
-      name_end x p.scope guest (omega arith) (omega arith) p.at (find x p.scope p.at guest.open_name r) r next;
+      name_end x p.scope guest (omega arith) (omega arith) p.at (find x p.scope p.at guest r) r next;
 }

@@ -29,7 +29,7 @@ use Rattle.cajita_simulation.proofs.Heaps.Lists.{slice_get-push}
 use Rattle.cajita_simulation.proofs.Heaps.Guards.{func-guard}
 use Rattle.cajita_simulation.proofs.Heaps.Functions.{opened_kept-function}
 use Rattle.cajita_simulation.proofs.Relation.{EsValue, Named, tag_of_scope, Tags, Temps, OptVal, SlotIs, names_at, AreScopes, Here, env_of, Place, Captured, CodeIs, Related, Rel, Shaped, shaped_trans, Stays, stays_trans, stays_step, rel_pay}
-use Rattle.cajita_simulation.proofs.Scopes.{captured_stays, in_stays}
+use Rattle.cajita_simulation.proofs.Scopes.{stored_same, captured_stays, in_stays}
 use Rattle.cajita_simulation.proofs.Changes.{rel_told, closures_shaped, closures_kept, scopes_keep}
 use Rattle.cajita_simulation.proofs.Entering.{names_new, shaped_scope, scopes_are, NewScopes, scopes_more, related_code}
 use Rattle.cajita_simulation.proofs.Closures.{coded, closed_store, func_plan, closures_last, shaped_closure, function_there, closure_keeps, closure_objects, closure_named}
@@ -86,7 +86,7 @@ module _ {g : Tags} {s : Store} {T : Temps} {j : ℕ} {w : State} {z : List Item
   -- the name stands for the closure on both sides, and nothing was known of the scope
   new : NewScopes T T (own_pairs x by w) own_name (own_names x (length s.heap.list)) closed
   new = record {
-    same = λ k shown. alike (same_units k x);
+    same = λ k shown. rw (stored_same x k guest) (alike (same_units k x));
     own = tt;
     runtime = λ e at. absurd (no_runtime e at);
     here = λ k hidden. subst (SlotIs after (length s.scopes) k) (sym (no_slot s (length s.scopes) k (T (length s.scopes) k) (ap store.scope_at (past_end s.scopes)) (r.scopes.temps (length s.scopes) k hidden))) tt;

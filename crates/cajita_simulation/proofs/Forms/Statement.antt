@@ -15,9 +15,9 @@ use Rattle.cajita_meaning.specs.World.{undefined, World}
 use Rattle.cajita_meaning.specs.Direct.{Item}
 use Rattle.page_natives.specs.Natives.{Kept}
 use Rattle.cajita_simulation.proofs.Doing as Source
-use Rattle.cajita_simulation.proofs.Relation.{EsValue, Here, env_of, names_at, Tags, Temps, holds, SlotIs, Rel, stays_refl, stays_step, stays_trans, stays_before, rel_pay, rel_less}
+use Rattle.cajita_simulation.proofs.Relation.{EsValue, Here, env_of, names_at, Tags, Temps, holds, SlotIs, Rel, val_keep, stays_refl, stays_step, stays_trans, stays_before, rel_pay, rel_less}
 use Rattle.cajita_simulation.proofs.Written.{slot_written}
-use Rattle.cajita_simulation.proofs.Writes.{rel_put, stays_held}
+use Rattle.cajita_simulation.proofs.Writes.{rel_put, rel_shared, stays_shared, stays_held}
 use Rattle.cajita_simulation.proofs.Slots.{slot_target}
 use Rattle.cajita_simulation.proofs.Laws.{ValueLaw, EffectBody, OwnBody, BareBody, M, with_part, HasResult}
 
@@ -38,8 +38,9 @@ own_expression_body {H = H} {e = e} {e' = e'} pe = record {
       right_enter (right_enter (subst (λ q. M H a (bind (Source.stmt_plan (c.expression e) [] H w) next) z n (bind q (λ e1 s1. bind (Target.on_target_of (assign_to e' (env_of H)) e1 s1) (λ e1 s1. bind (Target.on_value_of Target.to_normal e1 s1) next'))) y (suc (suc m))) (sym (slot_target result_name (env_of H) s H.act refl (result_at has r).at))
       (with_part {H = H} {go = Source.to_normal} lt room (omega arith) (omega arith) pe (rel_pay (rel_pay r)) (record { on = λ b le v u w1 z1 n1 g1 s1 y1 m1 is r1 k1. x.throws.on b le v u w1 z1 n1 g1 s1 y1 m1 is r1 k1 }) (λ c1 le1 v1 e1 w1 z1 n1 g1 s1 y1 m1 is1 r1 k1.
       let p = result_at has r1 in
-      subst (λ s2. M H c1 (next (Source.normal (Some v1)) w1) z1 n1 (next' (Target.normal (Some e1)) s2) y1 m1) (sym (slot_written s1 H.act result_name e1 r1.here.written r1.all.scopes.unshared))
-      (x.finishes.on c1 le1 (Some v1) (Some e1) _ _ _ _ _ _ _ (rel_less (omega arith) (rel_put H.act result_name (holds v1) e1 p.value p.there refl refl is1 r1)) (stays_trans (stays_step (omega arith)) (stays_trans k1 (stays_held H.act result_name e1 p.value p.there))))))));
+      let kept = stays_shared H.act result_name e1 r1 in
+      subst (λ s2. M H c1 (next (Source.normal (Some v1)) w1) z1 n1 (next' (Target.normal (Some e1)) s2) y1 m1) (sym (slot_written s1 H.act result_name e1 r1.here.written))
+      (x.finishes.on c1 le1 (Some v1) (Some e1) _ _ _ _ _ _ _ (rel_less (omega arith) (rel_put H.act result_name (holds v1) e1 p.value p.there refl refl refl (val_keep kept.heap v1 e1 is1) (rel_shared H.act result_name e1 r1))) (stays_trans (stays_step (omega arith)) (stays_trans k1 (stays_trans kept (stays_held H.act result_name e1 p.value p.there)))))))));
 }
 
 pub expression_body : {H : Here} {d b q : ℕ} {e : c.Tree c.expr} {e' : t.Tree t.expr} → ValueLaw H d b q e e' → EffectBody H d b q (c.expression e) (t.expression e')

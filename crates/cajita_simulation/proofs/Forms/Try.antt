@@ -82,7 +82,7 @@ try_body {H = H} {d = d} {b = b} few law xs (c.some_handler u ys) f gx gh gf = r
         → M H a (bind (Source.list ys [] (catching H w s u) (Direct.finally_act f H.around) (catch_world H.by u v w)) next) z n (bind (Target.list true (rewritten false c.stmts (b + temps c.stmts xs) ys) None (env_of (catching H w s u)) (catch_store u e s) (Es.finally_plan (rewritten false c.maybe_block (b + (temps c.stmts xs + temps c.stmts ys)) f) (env_of H))) next') y m
     catch_match {J = J} {T = T} {k = k} {next = next} {next' = next'} a v e w z n g s y m ty tf lt room x is r =
         let C = catching H w s u in
-        list_match {H = C} {J = J} (law C few) ys gh.1 ty (b + temps c.stmts xs) [] None a k (Direct.finally_act f H.around) (Es.finally_plan (rewritten false c.maybe_block (b + (temps c.stmts xs + temps c.stmts ys)) f) (env_of H)) next next' lt (same_room room) (rel_catch u v e gh.0.open_name is r) (each (record {
+        list_match {H = C} {J = J} (law C few) ys gh.1 ty (b + temps c.stmts xs) [] None a k (Direct.finally_act f H.around) (Es.finally_plan (rewritten false c.maybe_block (b + (temps c.stmts xs + temps c.stmts ys)) f) (env_of H)) next next' lt (same_room room) (rel_catch u v e gh.0 is r) (each (record {
           on = λ c1 le1 e1 e1' w1 z1 n1 g1 s1 y1 m1 is1 r1 k1.
               let keep = stays_trans (stays_catch H.by u v e) k1 in
               finally_match {J = J} (law H few) f gf tf lt (room_part (omega arith) (omega arith) room) x c1 le1 e1 e1' w1 z1 n1 g1 s1 y1 m1 is1 (rel_back {J = C} {T = T} r.all.scopes.are r.here keep r1) keep;

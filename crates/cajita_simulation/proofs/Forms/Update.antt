@@ -33,7 +33,7 @@ read_match : {H : Here} {T : Temps} {d k : ℕ} (x : List ℕ) → H.vars x ≡ 
     → M H d (bind (Source.act_plan H 1 Source.start (Direct.asked (Rattle.cajita_meaning.specs.Asking.variable H.around.chain x) [] act) w) next) z n (bind (Target.with_target (t.name x) (env_of H) s go') next') y m
 read_match {H = H} {d = d} x known guest act {w = w} {z = z} {n = n} {s = s} {y = y} {m = m} go' read next next' is r f =
     let p = r.here.captured.names x known in
-    let q = find x p.scope p.at guest.open_name r in
+    let q = find x p.scope p.at guest r in
     let left : Source.Plan = bind (Source.act_plan H 1 Source.start (Direct.asked (Rattle.cajita_meaning.specs.Asking.variable H.around.chain x) [] act) w) next in
     right_enter (subst (λ o. M H d left z n (bind o (λ e1 s1. bind (Target.on_target_of go' e1 s1) next')) y (suc m)) (sym (slot_target x (env_of H) s p.scope guest.own_name p.at))
     (subst (λ o. M H d left z n (bind o next') y (suc m)) (sym (is (slot p.scope x) s))

@@ -18,17 +18,18 @@ use Rattle.cajita_meaning.specs.Direct.{Item}
 use Rattle.page_natives.specs.Natives.{Kept}
 use Rattle.cajita_simulation.specs.Guest.{GuestName, Guest}
 use Rattle.cajita_simulation.proofs.Doing as Source
-use Rattle.cajita_simulation.proofs.Relation.{EsValue, Here, env_of, Tags, Temps, Rel, Stays, stays_refl, stays_trans, stays_before, rel_less}
+use Rattle.cajita_simulation.proofs.Relation.{EsValue, Here, env_of, Tags, Temps, Rel, Stays, val_keep, stays_refl, stays_trans, stays_before, rel_less}
 use Rattle.cajita_simulation.proofs.Scopes.{resolve_stays}
-use Rattle.cajita_simulation.proofs.Written.{slot_written}
-use Rattle.cajita_simulation.proofs.Writes.{find, rel_assigned, stays_assigned}
+use Rattle.cajita_simulation.proofs.Written.{slot_written, shared_store}
+use Rattle.cajita_simulation.proofs.Writes.{find, rel_assigned, stays_assigned, rel_shared, stays_shared}
+use Rattle.cajita_simulation.proofs.Forms.Assign.{found_shared}
 use Rattle.cajita_simulation.proofs.Laws.{BareBody, Throws, throws_from, Cont, Cont', M, Room, room_part, with_part}
 use Rattle.cajita_simulation.proofs.Forms.Values.{Values}
 
 -- a guest's variable is written where it was found
-pub name_written : (chain : List ℕ) (s s' : Store) (x : List ℕ) (c : ℕ) (v : EsValue) → GuestName x → resolve chain s x ≡ slot c x → is_fixed (slice_get s'.scopes c) ≡ false → s'.shared ≡ [] → write (reference chain s x) v s' ≡ with_slot c x v s'
-name_written chain s s' x c v guest at free unshared =
-    ap (λ b. write (cond b (resolve_arguments chain s) (resolve chain s x)) v s') guest.own_name ∙ ap (λ r. write r v s') at ∙ slot_written s' c x v free unshared
+pub name_written : (chain : List ℕ) (s s' : Store) (x : List ℕ) (c : ℕ) (v : EsValue) → GuestName x → resolve chain s x ≡ slot c x → is_fixed (slice_get s'.scopes c) ≡ false → write (reference chain s x) v s' ≡ with_slot c x v (shared_store s' c x v)
+name_written chain s s' x c v guest at free =
+    ap (λ b. write (cond b (resolve_arguments chain s) (resolve chain s x)) v s') guest.own_name ∙ ap (λ r. write r v s') at ∙ slot_written s' c x v free
 
 -- what follows the items, at whatever places, and what was thrown
 pub record ItemsEnd (H : Here) (T : Temps) (d k : ℕ) (w0 : World) (g0 : Tags) (s0 : Store) (i : ℕ) (end : Source.Act) (end' : Store → Target.Plan) (next : Cont) (next' : Cont') : Type 0 where
@@ -50,11 +51,13 @@ items_match {H = H} law end end' (c.more_items x (c.some_expr e) rest) guest a b
     let place = r.here.captured.names x guest.0 in
     with_part {e' = rewritten false c.expr b e} {go = λ v w1. Source.items rest H end (suc (suc p)) (put (suc p) [] (put p (v ∷ []) at)) (Source.assign H x (first (put p (v ∷ []) at p)) w1)} {go' = λ v s1. Target.var_list (rewritten false c.items c2 rest) (env_of H) (write (reference H.chain s x) v s1) end'} lt (room_part (omega arith) (omega arith) room) (omega arith) (omega arith) (law b e guest.3) r x1.throws (λ c1 le1 v1 e1 w1 z1 n1 g1 s1 y1 m1 is1 r1 k1.
     let there = resolve_stays H.chain s s1 x place.scope r.here.captured.within r.all.scopes.are r1.all.scopes.are (λ n lt. k1.shaped.shape n x lt) place.at in
-    let f = find x place.scope there guest.2.open_name r1 in
+    let shared = rel_shared place.scope x e1 r1 in
+    let kept = stays_shared place.scope x e1 r1 in
+    let f = find x place.scope (found_shared x place.scope there r1 shared kept) guest.2 shared in
     let at2 = put (suc p) [] (put p (v1 ∷ []) at) in
-    subst (λ s2. M H c1 (bind (Source.items rest H end (suc (suc p)) at2 (Source.assign H x (first (put p (v1 ∷ []) at p)) w1)) next) z1 n1 (bind (Target.var_list (rewritten false c.items c2 rest) (env_of H) s2 end') next') y1 m1) (sym (name_written H.chain s s1 x place.scope e1 guest.2 place.at (k1.shaped.fixed place.scope place.below ∙ place.written guest.1) r1.all.scopes.unshared))
-    (subst (λ u. M H c1 (bind (Source.items rest H end (suc (suc p)) at2 (Source.assign H x u w1)) next) z1 n1 (bind (Target.var_list (rewritten false c.items c2 rest) (env_of H) (with_slot place.scope x e1 s1) end') next') y1 m1) (sym (Source.first_there p v1 at))
-    (items_match law end end' rest guest.4 c1 c2 k (suc (suc p)) at2 next next' (omega arith) (room_part (omega arith) (omega arith) room) (rel_less (omega arith) (rel_assigned x place.scope v1 e1 guest.2.open_name f is1 r1)) (items_since le1 (stays_trans k1 (stays_assigned H x place.scope v1 e1 f.value f.there)) x1))))
+    subst (λ s2. M H c1 (bind (Source.items rest H end (suc (suc p)) at2 (Source.assign H x (first (put p (v1 ∷ []) at p)) w1)) next) z1 n1 (bind (Target.var_list (rewritten false c.items c2 rest) (env_of H) s2 end') next') y1 m1) (sym (name_written H.chain s s1 x place.scope e1 guest.2 place.at (k1.shaped.fixed place.scope place.below ∙ place.written guest.1)))
+    (subst (λ u. M H c1 (bind (Source.items rest H end (suc (suc p)) at2 (Source.assign H x u w1)) next) z1 n1 (bind (Target.var_list (rewritten false c.items c2 rest) (env_of H) (with_slot place.scope x e1 (shared_store s1 place.scope x e1)) end') next') y1 m1) (sym (Source.first_there p v1 at))
+    (items_match law end end' rest guest.4 c1 c2 k (suc (suc p)) at2 next next' (omega arith) (room_part (omega arith) (omega arith) room) (rel_less (omega arith) (rel_assigned x place.scope v1 e1 guest.2 f (val_keep kept.heap v1 e1 is1) shared)) (items_since le1 (stays_trans k1 (stays_trans kept (stays_assigned H x place.scope v1 e1 f.value f.there))) x1))))
 
 pub var_body : {H : Here} {d b : ℕ} (law : Values H d) (is : c.Tree c.items) → Guest H.vars H.free c.items is → BareBody H d b (temps c.items is) (c.var is) (t.var (rewritten false c.items b is))
 var_body {H = H} {b = b} law is guest = record {

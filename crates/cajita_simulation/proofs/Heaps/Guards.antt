@@ -38,6 +38,10 @@ pub func-guard : IsGuard (codes "func") 66
 unfolding first
 func-guard = record { object = 14; within = lit< tt; member = refl; callable = refl; unnamed = refl }
 
+pub args-guard : IsGuard (codes "args") 67
+unfolding first
+args-guard = record { object = 15; within = lit< tt; member = refl; callable = refl; unnamed = refl }
+
 pub initialize_array-guard : IsGuard (codes "initializeArray") 68
 unfolding first
 initialize_array-guard = record { object = 16; within = lit< tt; member = refl; callable = refl; unnamed = refl }

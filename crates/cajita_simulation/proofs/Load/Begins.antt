@@ -31,7 +31,7 @@ begins_with h objects page = record {
     temps = λ c x hidden. tt;
     runtime = λ c e there. absurd (none-some _ there);
     are = λ c. tt;
-    unshared = refl;
+    shared = tt;
   };
   globals = refl;
   kept = record { runtime = refl; imports = refl };

@@ -1,5 +1,5 @@
 -- The names of a module's function when its imports are there, beside those of the direct meaning.
-use Rattle.std.proofs.Common.{◌≡◌, ℕ, zero, suc, ◌<◌, Bool, true, false, List, [], ◌∷◌, Option, Some, None, refl, sym, ap, ◌∙◌, subst, arith}
+use Rattle.std.proofs.Common.{◌≡◌, ℕ, zero, suc, ◌<◌, Bool, true, false, List, [], ◌∷◌, Option, Some, None, cond, refl, sym, ap, ◌∙◌, subst, arith}
 use Rattle.std.specs.Prelude.{is_some, ◌||◌}
 use Rattle.std.specs.Cmp.Lexicographic.{same_text}
 use Rattle.caja_units.specs.Units.{same_units, is_hidden}
@@ -9,7 +9,7 @@ use Rattle.es3_heap.specs.Objects.{Objects}
 use Rattle.es3_language.specs.Store.{Names, name_value, with_name, first_names}
 use Rattle.es3_language.specs.Arguments.{is_arguments}
 use Rattle.cajita_tree.specs.Tree as c
-use Rattle.cajita_rewrite.specs.Rewrite.{runtime_name, result_name, temp_name, temps}
+use Rattle.cajita_rewrite.specs.Rewrite.{runtime_name, arguments_copy, result_name, temp_name, temps}
 use Rattle.cajita_meaning.specs.World as world
 use Rattle.cajita_meaning.specs.World.{Value, Pairs, undefined, value_at, with_value, with_params}
 use Rattle.heap_rows.specs.Opening.{runtime_id}
@@ -23,9 +23,12 @@ use Rattle.cajita_simulation.proofs.Temporaries.{temp_hidden}
 use Rattle.cajita_simulation.proofs.Relation.{EsValue, Val, Vals, OptVal, Tags, ObjectsAre, ScopeIs, optval_keep}
 use Rattle.cajita_simulation.proofs.Declaring.Stores.{named_store, bound_names}
 use Rattle.cajita_simulation.proofs.Declaring.Names.{declared_name, name_new, functions_bound, functions_other, pairs_other, bound_pairs, Placed}
-use Rattle.cajita_simulation.proofs.Declaring.Relation.{Few, keeps_all, declared_alike}
+use Rattle.cajita_simulation.proofs.Declaring.Relation.{Few, keeps_all, declared_alike, stored_out}
+use Rattle.cajita_simulation.specs.Scopes.{stored_name}
+use Rattle.cajita_simulation.proofs.Scopes.{stored_is}
+use Rattle.es3_language.specs.Hoisting.{vars_of}
 use Rattle.cajita_simulation.proofs.Written.{value_at-with_value, value_at-with_value-other}
-use Rattle.cajita_simulation.proofs.Load.Names.{Module, module_vars, Declares, undefined_value, value_at-bound, value_at-unbound, own_names, own_never, vars_known, temps_known, result_known, vars_bound, hidden_there, open_there, runtime_there}
+use Rattle.cajita_simulation.proofs.Load.Names.{Module, module_body, module_vars, with_vars-unbound, copy_unknown, Declares, undefined_value, value_at-bound, value_at-unbound, own_names, own_never, vars_known, temps_known, result_known, vars_bound, hidden_there, open_there, runtime_there}
 use Rattle.cajita_simulation.proofs.Load.Entering.{module_code, first_values}
 
 -- one of so many temporaries
@@ -214,7 +217,7 @@ both_undefined h true = tt
 both_undefined h false = tt
 
 -- each variable and each import is bound on both sides alike
-pub bound_alike : (names free : KnownNames) (h : Objects) (q : Module) (vs : List Value) (us : List EsValue) → Guest names free c.stmts q.list → Declares q → GuestNames q → Vals h vs us → Rattle.std.specs.Prelude.length vs ≡ Rattle.std.specs.Prelude.length q.imports → ScopeIs h (world.with_vars q.vars (with_params q.imports vs [])) (imported q.imports us (first_names (module_code q) first_values))
+pub bound_alike : (names free : KnownNames) (h : Objects) (q : Module) (vs : List Value) (us : List EsValue) → Guest names free c.stmts q.list → Declares q → GuestNames q → Vals h vs us → Rattle.std.specs.Prelude.length vs ≡ Rattle.std.specs.Prelude.length q.imports → (x : List ℕ) → is_hidden x ≡ false → OptVal h (value_at x (world.with_vars q.vars (with_params q.imports vs []))) (name_value x (imported q.imports us (first_names (module_code q) first_values)))
 bound_alike names free h q vs us guest same guests are long x shown =
     let first = first_names (module_code q) first_values in
     let b = all_bound h x (name_value x first) q.imports vs us [] first are long (by_none refl refl) in
@@ -256,6 +259,29 @@ imported-same (y ∷ xs) (e ∷ us) a b x same =
       | false ↦ λ is. name_value-with_name-other y x e a is ∙ same ∙ sym (name_value-with_name-other y x e b is)
     ] in cases refl)
 
+-- each is where the interpreter has it
+stored_alike : (names free : KnownNames) (h : Objects) (q : Module) (vs : List Value) (us : List EsValue) → Guest names free c.stmts q.list → Declares q → GuestNames q → Vals h vs us → Rattle.std.specs.Prelude.length vs ≡ Rattle.std.specs.Prelude.length q.imports → ScopeIs h (world.with_vars q.vars (with_params q.imports vs [])) (imported q.imports us (first_names (module_code q) first_values))
+stored_alike names free h q vs us guest same guests are long x shown =
+    let first = first_names (module_code q) first_values in
+    let pairs = world.with_vars q.vars (with_params q.imports vs []) in
+    let alike = bound_alike names free h q vs us guest same guests are long x shown in
+    let cases = elim (is_arguments x) as (λ b. is_arguments x ≡ b → OptVal h (value_at x (world.with_vars q.vars (with_params q.imports vs []))) (name_value (cond b arguments_copy x) (imported q.imports us (first_names (module_code q) first_values)))) [
+      | false ↦ λ own. alike
+      | true ↦ λ own.
+          let no_import_too : is_among q.imports x ≡ false = not_true (is_among q.imports x) (λ e. cc (sym own ∙ (guests.imports x e).own_name)) in
+          let here : name_value x (imported q.imports us first) ≡ None = imported-other q.imports us first x no_import_too ∙ open_there (module_vars q) x shown ∙ ap (λ b. undefined_value es.Undefined b) (own_never (vars_of (module_body q)) x own) in
+          let no_var : is_among q.vars arguments_copy ≡ false = not_true (is_among q.vars arguments_copy) (λ e. no_open (guests.vars arguments_copy e).open_name) in
+          let there : name_value arguments_copy (imported q.imports us first) ≡ None = imported-other q.imports us first arguments_copy (no_import guests arguments_copy refl) ∙ with_vars-unbound arguments_copy (module_vars q) own_names refl ∙ ap (λ b. undefined_value es.Undefined b) (copy_unknown names free q guest same (no_import guests arguments_copy refl) no_var) in
+          rw there (subst (λ o. OptVal h (value_at x pairs) o) here alike)
+    ] in cases refl
+  where
+    no_open : is_hidden arguments_copy ≡ false → ⊥
+    no_open e = cc
+
+    not_true : (b : Bool) → (b ≡ true → ⊥) → b ≡ false
+    not_true true f = absurd (f refl)
+    not_true false f = refl
+
 -- so is each function
 pub module_alike : (names free : KnownNames) (q : Module) (g : Tags) (s : Store) (by : ℕ) (direct chain : List ℕ) {objects : ℕ → List Object} {m : ℕ} → by < 64 → Few q.funcs m → ObjectsAre first place_of objects s.heap m → (vs : List Value) (us : List EsValue) → Guest names free c.stmts q.list → Declares q → GuestNames q → Vals s.heap vs us → Rattle.std.specs.Prelude.length vs ≡ Rattle.std.specs.Prelude.length q.imports
     → ScopeIs (named_store q.funcs chain by s).heap (bound_pairs q.funcs direct by objects (world.with_vars q.vars (with_params q.imports vs []))) (names_of q (Rattle.std.specs.Prelude.length s.heap.list) us)
@@ -264,13 +290,15 @@ module_alike names free q g s by direct chain {objects = objects} below few old 
     let pairs = world.with_vars q.vars (with_params q.imports vs []) in
     let firsts = first_names (module_code q) first_values in
     let h = (named_store q.funcs chain by s).heap in
-    let cases = elim (is_declared q.funcs x) as (λ b. is_declared q.funcs x ≡ b → OptVal h (value_at x (bound_pairs q.funcs direct by objects pairs)) (name_value x (names_of q place us))) [
+    let cases = elim (is_declared q.funcs x) as (λ b. is_declared q.funcs x ≡ b → OptVal h (value_at x (bound_pairs q.funcs direct by objects pairs)) (name_value (stored_name x) (names_of q place us))) [
       | true ↦ λ is.
           let new = declared_name q.imports q.vars q.funcs x guests.funcs is in
-          rw (imported-other q.imports us (bound_names q.funcs place firsts) x new.no_param) (declared_alike q.funcs g s by direct chain below few old x is pairs firsts)
+          subst (λ k. OptVal h (value_at x (bound_pairs q.funcs direct by objects pairs)) (name_value k (names_of q place us))) (sym (stored_is x new.guest))
+          (rw (imported-other q.imports us (bound_names q.funcs place firsts) x new.no_param) (declared_alike q.funcs g s by direct chain below few old x is pairs firsts))
       | false ↦ λ out.
-          rw (pairs_other q.funcs direct by objects pairs x out, imported-same q.imports us (bound_names q.funcs place firsts) firsts x (functions_other q.funcs place firsts x out))
-          (optval_keep {i = 0} {j = 0} (record { objects = keeps_all q.funcs g s by direct chain below few old; more = omega arith }) _ _ (bound_alike names free s.heap q vs us guest same guests are long x shown))
+          let out' = stored_out q.imports q.vars q.funcs x guests.funcs out in
+          rw (pairs_other q.funcs direct by objects pairs x out, imported-same q.imports us (bound_names q.funcs place firsts) firsts (stored_name x) (functions_other q.funcs place firsts (stored_name x) out'))
+          (optval_keep {i = 0} {j = 0} (record { objects = keeps_all q.funcs g s by direct chain below few old; more = omega arith }) _ _ (stored_alike names free s.heap q vs us guest same guests are long x shown))
     ] in cases refl
 
 -- each function's name is that of its place, when imports are read

@@ -11,7 +11,7 @@ use Rattle.es3_heap.specs.Objects.{Objects}
 use Rattle.es3_heap.specs.Properties.{own, value_of}
 use Rattle.es3_convert.specs.Conversions.{text_within, text_of}
 use Rattle.es3_language.specs.Store as store
-use Rattle.es3_language.specs.Store.{Store, name_value, with_name, with_slot, renamed}
+use Rattle.es3_language.specs.Store.{Store, name_value, with_name, with_heap, with_slot, renamed}
 use Rattle.es3_language.specs.Arguments.{is_fixed}
 use Rattle.es3_language.specs.References.{slot, resolve, reference, member, write}
 use Rattle.es3_language.specs.Meaning as Target
@@ -26,7 +26,8 @@ use Rattle.cajita_simulation.proofs.Heaps.Lists.{slice_get-push}
 use Rattle.cajita_simulation.proofs.Heaps.Names.{name_value-with_name-other}
 use Rattle.cajita_simulation.proofs.Heaps.Opened.{IsOpened}
 use Rattle.cajita_simulation.proofs.Heaps.Guards.{read_import-guard, guard_call}
-use Rattle.cajita_simulation.proofs.Relation.{EsValue}
+use Rattle.cajita_simulation.proofs.Relation.{EsValue, SharedAre}
+use Rattle.cajita_simulation.proofs.Shared.{unshared}
 use Rattle.cajita_simulation.proofs.Laws.{Cont', sides}
 use Rattle.cajita_simulation.proofs.Slots.{slot_plan}
 use Rattle.cajita_simulation.proofs.Entering.{names_new}
@@ -45,7 +46,8 @@ scope_written owner names s x v =
 pub record Reads (owner : store.Owner) (names : store.Names) (s : Store) : Type 0 where
   pub is : IsOpened s.heap
   pub free : is_fixed (Some (record { owner = owner; names = names })) ≡ false
-  pub unshared : s.shared ≡ []
+  pub before : Objects
+  pub shared : SharedAre before (length s.scopes) s.shared
   pub runtime : name_value runtime_name names ≡ Some (es.Obj runtime_id)
   pub imports : name_value imports_name names ≡ Some (es.Obj imports_id)
 
@@ -86,7 +88,7 @@ module _ (rules : Rules) (by calls this : ℕ) (owner : store.Owner) (s : Store)
       (subst (λ o. Match (sides rules) d p z n (bind o wrote) y (suc (suc (suc (suc (suc (suc m))))))) (sym (guard_call (codes "readImport") 65 read_import-guard (es.Obj imports_id ∷ es.Text x ∷ []) env S r.is))
       (right_enter
       (subst (λ o. Match (sides rules) d p z n (bind o wrote) y (suc (suc (suc (suc (suc (suc (suc m)))))))) (sym (read_plan by calls this x env.chain S y))
-      (subst (λ o. Match (sides rules) d p z n (bind (Target.list true rest None env o end') next') y (suc (suc (suc (suc (suc (suc (suc m)))))))) (sym (name_written env.chain S S x (length s.scopes) v guest (found names x u there) (ap is_fixed (slice_get-push s.scopes (record { owner = owner; names = names })) ∙ r.free) r.unshared ∙ scope_written owner names s x v))
+      (subst (λ o. Match (sides rules) d p z n (bind (Target.list true rest None env o end') next') y (suc (suc (suc (suc (suc (suc (suc m)))))))) (sym (name_written env.chain S S x (length s.scopes) v guest (found names x u there) (ap is_fixed (slice_get-push s.scopes (record { owner = owner; names = names })) ∙ r.free) ∙ ap (λ (h : Objects). let q : Store = with_heap S h in with_slot (length s.scopes) x v q) (unshared s.shared r.before (length s.scopes) (length s.scopes) x v s.heap (omega arith) r.shared) ∙ scope_written owner names s x v))
       f)))))))))))
 
   -- the statements one after another
@@ -103,7 +105,8 @@ module _ (rules : Rules) (by calls this : ℕ) (owner : store.Owner) (s : Store)
       (read_all xs (with_name x v names) rest end' next' (record {
         is = r.is;
         free = r.free;
-        unshared = r.unshared;
+        before = r.before;
+        shared = r.shared;
         runtime = name_value-with_name-other x runtime_name v names (hidden_apart runtime_name x refl guest.open_name) ∙ r.runtime;
         imports = name_value-with_name-other x imports_name v names (hidden_apart imports_name x refl guest.open_name) ∙ r.imports;
       }) (λ y is. guests y (more y is)) (λ y is. Rattle.cajita_simulation.proofs.Load.Bound.bound_still y x v names (bound y (more y is)))

@@ -13,7 +13,7 @@ use Rattle.es3_language.specs.Arguments.{is_arguments}
 use Rattle.cajita_tree.specs.Tree as c
 use Rattle.cajita_meaning.specs.World as world
 use Rattle.cajita_meaning.specs.World.{undefined, value_at}
-use Rattle.cajita_rewrite.specs.Rewrite.{runtime_name, imports_name, result_name, temp_name, temps, declared, others, name_items, temp_items, head_items, import_stmts, rewritten, joined, marks, result_stmts}
+use Rattle.cajita_rewrite.specs.Rewrite.{runtime_name, imports_name, arguments_copy, result_name, temp_name, temps, declared, others, name_items, temp_items, head_items, import_stmts, rewritten, joined, marks, result_stmts}
 use Rattle.heap_rows.specs.Opening.{runtime_id, imports_id}
 use Rattle.cajita_simulation.specs.Guest.{Names as KnownNames, is_among, inner, Guest}
 use Rattle.cajita_simulation.proofs.Temporaries.{temp_hidden}
@@ -359,6 +359,23 @@ temps_known q i lt =
 
 pub result_known : (q : Module) → is_among (module_vars q) result_name ≡ true
 result_known q = own_among (vars_of (module_body q)) result_name refl ∙ all_among q result_name
+
+-- it has no copy of `arguments`
+
+temps_apart : (i n : ℕ) (is : t.Tree t.items) → is_among (vars_in t.items (temp_items i n is)) arguments_copy ≡ is_among (vars_in t.items is) arguments_copy
+temps_apart i zero is = refl
+temps_apart i (suc n) is = temps_apart (suc i) n is
+
+pub copy_unknown : (vs free : KnownNames) (q : Module) → Guest vs free c.stmts q.list → Declares q → is_among q.imports arguments_copy ≡ false → is_among q.vars arguments_copy ≡ false → is_among (module_vars q) arguments_copy ≡ false
+copy_unknown vs free q g same no_import no_var =
+    let d = declared c.stmts q.list in
+    own_among (vars_of (module_body q)) arguments_copy refl
+    ∙ all_among q arguments_copy
+    ∙ ap (λ b. b || is_among (vars_of (statements q)) arguments_copy) (temps_apart 0 (temps c.stmts q.list) (name_items (others q.vars d) t.no_items) ∙ loops_among (others q.vars d) arguments_copy)
+    ∙ ap (λ b. is_among (others q.vars d) arguments_copy || b) (statements_among vs free q arguments_copy g)
+    ∙ or_turn (is_among (others q.vars d) arguments_copy) (is_among q.imports arguments_copy) (is_among d arguments_copy)
+    ∙ ap (λ b. is_among q.imports arguments_copy || b) (others_among q.vars d arguments_copy ∙ absorbed (is_among q.vars arguments_copy) (is_among d arguments_copy) (same arguments_copy))
+    ∙ rw (no_import, no_var) refl
 
 -- no statement declares a function
 

@@ -24,7 +24,7 @@ use Rattle.cajita_simulation.proofs.Heaps.Functions.{opened_kept-function}
 use Rattle.page_natives.specs.Natives.{Kept}
 use Rattle.cajita_simulation.specs.Guest.{is_among, is_declared, module_free, Guest}
 use Rattle.cajita_simulation.proofs.Doing as Source
-use Rattle.cajita_simulation.proofs.Relation.{EsValue, Vals, Here, env_of, Tags, Temps, declared, holds, SlotIs, Between, In, Rel, names_at, related_steps, related_between}
+use Rattle.cajita_simulation.proofs.Relation.{EsValue, Vals, Here, env_of, Tags, Temps, declared, holds, SlotIs, Between, SharedAre, In, Rel, names_at, related_steps, related_between}
 use Rattle.cajita_simulation.proofs.Calls.{opened_of}
 use Rattle.cajita_simulation.proofs.Slots.{slot_plan}
 use Rattle.cajita_simulation.proofs.Laws.{no_jumps, Targets, Cont', sides, after, HasResult, Room}
@@ -176,12 +176,13 @@ whole rules by few q guest vs us laws d {w = w} {z = z} {n = n} {g = g} {s = s} 
     (loaded rules by few q guest vs us laws d reads are long r)
 
 -- each import is read in turn
-pub imports_read : (rules : Rules) (by : ℕ) (q : Module) (s : Store) → IsGuest q → IsOpened s.heap → s.shared ≡ [] → ImportsRead rules by q (map (λ k. value_of (own (functions_store by q s).heap imports_id k)) q.imports) s
-imports_read rules by q s guest is unshared = record {
+pub imports_read : (rules : Rules) (by : ℕ) (q : Module) (s : Store) → IsGuest q → IsOpened s.heap → SharedAre s.heap (length s.scopes) s.shared → ImportsRead rules by q (map (λ k. value_of (own (functions_store by q s).heap imports_id k)) q.imports) s
+imports_read rules by q s guest is shared = record {
   on = λ next' f. read_all rules by 1 s.globals (owner_of q s) (functions_store by q s) q.imports names (behind_imports q) Target.body_end next' (record {
     is = opened_bare q.funcs (length s.scopes ∷ []) by (made_store by q s).codes (made_store by q s).heap (opened_kept-function (length s.codes) 2 by s.heap is);
     free = refl;
-    unshared = unshared;
+    before = s.heap;
+    shared = shared;
     runtime = first_there runtime_name refl ∙ runtime_there (module_vars q);
     imports = first_there imports_name refl ∙ imports_there (module_vars q);
   }) guest.names.imports (λ x among. functions_bound q.funcs (place_first by q s) firsts x ∙ either (is_declared q.funcs x) (vars_bound x (module_vars q) own_names (vars_known (known q) (module_free q.vars q.funcs) q x guest.list guest.same (guest.names.imports x among).open_name (guest.names.imports x among).own_name ∙ ap (λ b. b || is_among q.vars x) among))) f;
