@@ -1,4 +1,5 @@
 pub mod Names
+pub mod Params
 pub mod Entering
 pub mod Callable
 pub mod Arguments

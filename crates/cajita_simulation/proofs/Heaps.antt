@@ -10,3 +10,4 @@ pub mod Pairs
 pub mod Records
 pub mod Keys
 pub mod Arguments
+pub mod ArgumentItems

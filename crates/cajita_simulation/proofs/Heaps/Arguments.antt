@@ -26,7 +26,7 @@ items_new h o i (x ∷ xs) (v ∷ vs) names =
     let u : Value = cond (comes_again x xs) v (value_or v (name_value x names)) in
     ap (λ g. with_items (length h.list) (i + 1) xs vs names g) (defined_new h o (number_units i) u hidden_attrs) ∙ items_new h (with_properties o (defined (number_units i) u hidden_attrs o.props)) (i + 1) xs vs names
 
-abbrev counted : Value → ℕ → List Property
+abbrev pub counted : Value → ℕ → List Property
 counted f n = defined length_key (Num (pos n)) hidden_attrs (defined (codes "callee") f hidden_attrs [])
 
 abbrev pub arguments_object : Value → List (List ℕ) → List Value → Names → Object
