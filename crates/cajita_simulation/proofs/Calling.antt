@@ -1,5 +1,6 @@
 pub mod Names
 pub mod Params
+pub mod ArgsGuard
 pub mod Entering
 pub mod Callable
 pub mod Arguments
