@@ -1,13 +1,9 @@
 -- What the guard `args` answers for an arguments object: an array of the arguments, as long as no parameter was written.
-use Rattle.std.proofs.Common.{◌≡◌, ℕ, ◌+◌, ◌≤◌, ◌<◌, Bool, true, false, List, [], ◌∷◌, ◌++◌, length, Option, Some, None, cond, refl, sym, ap, ◌∙◌, subst, arith}
-use Rattle.std.specs.Prelude.{pos, nat_lt, codes, ◌||◌}
-use Rattle.std.specs.Str.Parse.{AllDigits}
-use Rattle.std.proofs.lemmas.Fmt.{decimal_is_IsNumeral}
-use Rattle.std.proofs.lemmas.Str.Parse.{digit_from_value}
+use Rattle.std.proofs.Common.{◌≡◌, ℕ, ◌+◌, ◌≤◌, ◌<◌, true, false, List, [], ◌∷◌, length, Option, Some, None, cond, refl, sym, ap, ◌∙◌, arith}
+use Rattle.std.specs.Prelude.{pos, nat_lt, codes}
 use Rattle.std.proofs.lemmas.Bool.Decides.{nat_tests}
 use Rattle.caja_units.specs.Units.{same_units, is_hidden}
 use Rattle.caja_units.specs.Index.{number_units}
-use Rattle.caja_units.proofs.Texts.{is_hidden-end}
 use Rattle.es3_heap.specs.declared.value.Value.{Value}
 use Rattle.es3_heap.specs.declared.value.Value.TheVariants.{Num, Obj}
 use Rattle.es3_heap.specs.Objects.{Property, Objects, hidden_attrs, with_object}
@@ -15,7 +11,7 @@ use Rattle.es3_heap.specs.Properties.{find, own, value_of, defined, length_key}
 use Rattle.es3_heap.proofs.Keys.{same_key-refl}
 use Rattle.es3_heap.proofs.Laws.{object_at-with_object, find-defined, find-defined-other}
 use Rattle.es3_convert.specs.Conversions.{items_from, array_items}
-use Rattle.es3_language.specs.Store.{Names, name_value, with_name}
+use Rattle.es3_language.specs.Store.{Names, name_value}
 use Rattle.es3_language.specs.Arguments.{comes_again, value_or}
 use Rattle.rows.specs.Guards as rules
 use Rattle.heap_rows.specs.Marks.{read_mark, set_mark}
@@ -25,8 +21,8 @@ use Rattle.row_simulation.specs.Correspond.{IsPlain}
 use Rattle.row_simulation.proofs.Keys.{apart_too, hidden_read, hidden_set}
 use Rattle.row_simulation.proofs.First.{first_many, up_few}
 use Rattle.row_simulation.proofs.Changes.{IsNew}
-use Rattle.cajita_simulation.specs.Guest.{AreDistinct, is_among}
-use Rattle.cajita_simulation.proofs.Heaps.Names.{name_value-with_name-other}
+use Rattle.row_simulation.proofs.Arrays.{index_seen}
+use Rattle.cajita_simulation.specs.Guest.{AreDistinct}
 use Rattle.cajita_simulation.proofs.Heaps.Arrays.{other_key, index-not_length, index-other}
 use Rattle.cajita_simulation.proofs.Heaps.Arguments.{argument_items, counted, arguments_object}
 
@@ -89,37 +85,14 @@ args_are by f xs vs names h once are few =
     let g = with_object h (arguments_object f xs vs names) in
     ap (λ l. on_list l by g (λ us. by_row (rules.args (length us)) by us g)) (items_are f xs vs names h once are few)
 
-neither : (a b : Bool) → (a || b) ≡ false → (a ≡ false) × (b ≡ false)
-neither true b e = cc
-neither false b e = (refl, e)
-
--- a name that is no parameter's may be given any value
-pub params_beside : (x : List ℕ) (v : Value) (xs : List (List ℕ)) (vs : List Value) (names : Names) → is_among xs x ≡ false → ParamsAre xs vs names → ParamsAre xs vs (with_name x v names)
-params_beside x v [] vs names out are = tt
-params_beside x v (y ∷ ys) [] names out are = tt
-params_beside x v (y ∷ ys) (u ∷ us) names out are =
-    let apart = neither (same_units x y) (is_among ys x) out in
-    (name_value-with_name-other x y v names (turned x y apart.0) ∙ are.0, params_beside x v ys us names apart.1 are.1)
-
 -- it has no name, and stands behind the first objects where the others do
 pub arguments_plain : (f : Value) (xs : List (List ℕ)) (vs : List Value) (names : Names) (h : Objects) → length first.list ≤ length h.list → IsPlain first (with_object h (arguments_object f xs vs names)) (length h.list)
 arguments_plain f xs vs names h large = record { object = arguments_object f xs vs names; there = object_at-with_object h (arguments_object f xs vs names); tag = refl; class = refl; large = large }
 
--- an index ends in a digit, so it is no mark
-no_digits : (t rest : List ℕ) → AllDigits 10 (t ++ 95 ∷ rest) → ⊥
-no_digits [] rest d = let k = digit_from_value 95 d.0 in omega (arith, k)
-no_digits (x ∷ t) rest d = no_digits t rest d.1
-
-index_shown : (i : ℕ) → i < 4294967296 → is_hidden (number_units i) ≡ false
-index_shown i few =
-    let cases = elim (is_hidden (number_units i)) as (λ b. is_hidden (number_units i) ≡ b → b ≡ false) [
-      | true ↦ λ hidden. absurd (no_digits _ (95 ∷ []) (subst (AllDigits 10) (is_hidden-end (number_units i) hidden) (decimal_is_IsNumeral i (omega (arith, few))).0.1))
-      | false ↦ λ shown. refl
-    ] in cases refl
-
+-- no mark stands on it
 unmarked : (m : List ℕ) (f : Value) (xs : List (List ℕ)) (vs : List Value) (names : Names) → length vs < 4294967296 → is_hidden m ≡ true → find m (arguments_object f xs vs names).props ≡ None
 unmarked m f xs vs names few hidden =
-    items_beside m 0 xs vs names (counted f (length vs)) (omega (arith, few)) (λ j from small. apart_too (number_units j) m (index_shown j (omega (arith, small))) hidden)
+    items_beside m 0 xs vs names (counted f (length vs)) (omega (arith, few)) (λ j from small. apart_too (number_units j) m (index_seen j (omega (arith, small))) hidden)
     ∙ find-defined-other m length_key (Num (pos (length vs))) hidden_attrs (defined (codes "callee") f hidden_attrs []) (apart_too length_key m refl hidden)
     ∙ find-defined-other m (codes "callee") f hidden_attrs [] (apart_too (codes "callee") m refl hidden)
 
