@@ -1,9 +1,9 @@
 -- The guard `args` makes of an arguments object the frozen array of the arguments.
-use Rattle.std.proofs.Common.{◌≡◌, ℕ, ◌<◌, true, List, [], ◌∷◌, length, cond, refl, sym, ap, ◌∙◌, arith}
+use Rattle.std.proofs.Common.{◌≡◌, ℕ, ◌<◌, true, List, [], ◌∷◌, length, cond, refl, ap, ◌∙◌, arith}
 use Rattle.std.specs.Prelude.{nat_lt}
 use Rattle.std.proofs.lemmas.Bool.Decides.{nat_tests}
 use Rattle.es3_heap.specs.declared.value.Value.TheVariants as es
-use Rattle.es3_heap.specs.Objects.{Object, Objects, with_object}
+use Rattle.es3_heap.specs.Objects.{Objects, with_object}
 use Rattle.es3_heap.specs.Making.{array_object}
 use Rattle.es3_language.specs.Store.{Names, Store, with_heap}
 use Rattle.es3_language.specs.Meaning as Target
@@ -25,14 +25,10 @@ frozen_new vs by h few =
     ap (λ b. cond b (gives_new true (array_object vs) by h) (too_long h [])) short ∙ ap (λ (g : Objects). gives (es.Obj (length h.list)) g []) (named_new h (frozen_if true (array_object vs)) by refl)
 
 -- the guard's row
-pub args_answer : (f : EsValue) (params : List (List ℕ)) (vs : List EsValue) (names : Names) (h : Objects) → AreDistinct params → ParamsAre params vs names → length vs < 4294967296 → (by : ℕ) (env : Target.Env) (s : Store) (y : Kept) → env.by ≡ by → s.heap ≡ with_object h (arguments_object f params vs names)
-    → Target.task_plan page_table (Target.native_call 67 (es.Obj runtime_id) (es.Obj (length h.list) ∷ []) env) s y ≡ Target.give (es.Obj (length (with_object h (arguments_object f params vs names)).list)) (with_heap s (with_named s.heap (frozen_if true (array_object vs)) by))
-args_answer f params vs names h once are few by env s y same there =
+pub args_answer : (f : EsValue) (params : List (List ℕ)) (vs : List EsValue) (names : Names) (h : Objects) → AreDistinct params → ParamsAre params vs names → length vs < 4294967296 → (env : Target.Env) (s : Store) (y : Kept) → (let g = with_object h (arguments_object f params vs names) in s.heap ≡ g
+    → Target.task_plan page_table (Target.native_call 67 (es.Obj runtime_id) (es.Obj (length h.list) ∷ []) env) s y ≡ Target.give (es.Obj (length g.list)) (with_heap s (with_named g (frozen_if true (array_object vs)) env.by)))
+args_answer f params vs names h once are few env s y there =
     let g = with_object h (arguments_object f params vs names) in
-    let place = es.Obj (length g.list) in
-    let array : Object = frozen_if true (array_object vs) in
-    let is : args env.by (es.Obj (length h.list)) s.heap ≡ gives place (with_named s.heap array by) [] =
-    ap (λ b. args b (es.Obj (length h.list)) s.heap) same ∙ ap (λ (q : Objects). args by (es.Obj (length h.list)) q) there
-    ∙ args_are by f params vs names h once are few ∙ args_row-is by vs g ∙ frozen_new vs by g few
-    ∙ ap (λ (q : Objects). gives place (with_named q array by) []) (sym there) in
-    ap (λ (d : Done). Target.reply_plan d.reply env (with_heap s d.heap)) is
+    let place = es.Obj (length h.list) in
+    ap (λ (d : Done). Target.reply_plan d.reply env (with_heap s d.heap))
+    (ap (λ (q : Objects). args env.by place q) there ∙ args_are env.by f params vs names h once are few ∙ args_row-is env.by vs g ∙ frozen_new vs env.by g few)
