@@ -206,10 +206,10 @@ named_new h o m bare =
     let free : is_untagged o.tag ≡ true = ap is_untagged bare in
     rw (object_at-with_object h o, free) (ap (λ list. let g : Objects = record { list = list; counts = slice_set h.counts m (raised (count_at (slice_get h.counts m))) } in g) (set-last h.list o _))
 
-last_there : {A : Type 0} (m : ℕ) (x : A) (lists : ℕ → List A) → with_last m x lists m ≡ lists m ++ x ∷ []
+pub last_there : {A : Type 0} (m : ℕ) (x : A) (lists : ℕ → List A) → with_last m x lists m ≡ lists m ++ x ∷ []
 last_there m x lists = rw (same_module m) refl
 
-last_other : {A : Type 0} (m n : ℕ) (x : A) (lists : ℕ → List A) → n ≢ m → with_last m x lists n ≡ lists n
+pub last_other : {A : Type 0} (m n : ℕ) (x : A) (lists : ℕ → List A) → n ≢ m → with_last m x lists n ≡ lists n
 last_other m n x lists ne =
     let cases = elim (nat_eq n m) as (λ b. nat_eq n m ≡ b → cond b (lists n ++ x ∷ []) (lists n) ≡ lists n) [
       | true ↦ λ e. absurd (ne (grind (arith, nat_tests)))
@@ -234,14 +234,14 @@ made_apart : (m n d k : ℕ) → tag.Made m n ≡ tag.Made d k → (m ≡ d) × 
 made_apart m n d k e = (cc, cc)
 
 -- the next number of a module is none that it has given
-next_number : (h : Objects) (by m k : ℕ) → tag.Made by (count_at (slice_get h.counts by)) ≡ tag.Made m k → k < count_at (slice_get h.counts m) → ⊥
+pub next_number : (h : Objects) (by m k : ℕ) → tag.Made by (count_at (slice_get h.counts by)) ≡ tag.Made m k → k < count_at (slice_get h.counts m) → ⊥
 next_number h by m k e lt =
     let same = made_apart by (count_at (slice_get h.counts by)) m k e in
     let number : count_at (slice_get h.counts m) ≡ k = ap (λ n. count_at (slice_get h.counts n)) (sym same.0) ∙ same.1 in
     omega (arith, lt, number)
 
 -- a count that hasn't come to its end
-grown : (h : Objects) (by m : ℕ) → count_at (slice_get h.counts by) < 4294967295 → count_at (slice_get h.counts m) ≤ count_at (slice_get (slice_set h.counts by (raised (count_at (slice_get h.counts by)))) m)
+pub grown : (h : Objects) (by m : ℕ) → count_at (slice_get h.counts by) < 4294967295 → count_at (slice_get h.counts m) ≤ count_at (slice_get (slice_set h.counts by (raised (count_at (slice_get h.counts by)))) m)
 grown h by m few =
     by_number m by (count_at (slice_get h.counts m) ≤ count_at (slice_get (slice_set h.counts by n) m))
     (λ same. subst (λ j. count_at (slice_get h.counts j) ≤ count_at (slice_get (slice_set h.counts by (raised (count_at (slice_get h.counts by)))) j)) (sym same) (here (slice_get h.counts by) refl))
@@ -277,7 +277,7 @@ pub record IsNew (first : Objects) (x : heap.Object) : Type 0 where
   pub sets : (k : List ℕ) → find (set_mark k) x.props ≡ None
 
 -- what a named object is, in a world that has one more
-named_grown : (by : ℕ) (q : Object) (objects : ℕ → List Object) (h : Objects) (k : Name) (c : heap.Object) → IsNamed objects h k c → IsNamed (with_last by q objects) h k c
+pub named_grown : (by : ℕ) (q : Object) (objects : ℕ → List Object) (h : Objects) (k : Name) (c : heap.Object) → IsNamed objects h k c → IsNamed (with_last by q objects) h k c
 named_grown by q objects h (made_name a b) c is = record { object = is.object; known = last_kept by a b q is.object objects is.known; is = is.is }
 named_grown by q objects h k c is = is
 

@@ -9,6 +9,7 @@ pub mod Sights
 pub mod Row
 pub mod Changes
 pub mod Added
+pub mod Naming
 pub mod Quiet
 pub mod Ends
 pub mod Writes
