@@ -6,6 +6,7 @@ pub mod Callable
 pub mod Arguments
 pub mod Laws
 pub mod Calls
+pub mod Head
 pub mod Body
 pub mod Receiver
 pub mod BuiltIns

@@ -78,7 +78,7 @@ read_simple k = not_true _ (λ e. let f : 100 ≡ 67 = no_simple k (codes "_canR
 set_simple : (k : List ℕ) → same_units (set_mark k) simple_mark ≡ false
 set_simple k = not_true _ (λ e. let f : 116 ≡ 67 = no_simple k (codes "_canSet___") 116 refl (same_text (set_mark k) simple_mark (sym e)) in omega (arith, f))
 
-marked_is_new : (code params maker prototype : ℕ) → IsNew first (marked_object code params maker prototype)
+pub marked_is_new : (code params maker prototype : ℕ) → IsNew first (marked_object code params maker prototype)
 marked_is_new code params maker prototype =
     let plain = function_is_new code params maker prototype in
     record {

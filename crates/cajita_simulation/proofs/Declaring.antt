@@ -3,3 +3,5 @@ pub mod Stores
 pub mod Names
 pub mod Relation
 pub mod Marks
+pub mod Awaiting
+pub mod Granting

@@ -21,7 +21,7 @@ at_within (x ∷ xs) (suc i) lt = at_within xs i (omega (arith, lt))
 
 -- they stay such objects
 
-plain_keep : {a b : Objects} {i : ℕ} → Keeps a b → IsPlain first a i → IsPlain first b i
+pub plain_keep : {a b : Objects} {i : ℕ} → Keeps a b → IsPlain first a i → IsPlain first b i
 plain_keep {a = a} {b = b} {i = i} k p =
     let lt = slice_get_within a.list i p.object p.there in
     let long = k.long in

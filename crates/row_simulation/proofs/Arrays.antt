@@ -102,7 +102,7 @@ array_new f frozen vs few =
     number_in : (p : ℕ) → (let q : Option ℕ = Some 2 in q) ≡ Some p → 2 ≡ p
     number_in p e = cc
 
-array_is : (h : Objects) (frozen : Bool) (vs : List Value) (es : List EsValue) → length es < 4294967296 → Vals h vs es → Is h (an_array frozen vs) (es3.frozen_if frozen (array_object es))
+pub array_is : (h : Objects) (frozen : Bool) (vs : List Value) (es : List EsValue) → length es < 4294967296 → Vals h vs es → Is h (an_array frozen vs) (es3.frozen_if frozen (array_object es))
 array_is h frozen vs es few p = let parts = same_parts frozen es in record { class = parts.0; no_call = parts.3; proto = parts.1; items = es; props = new_props frozen es few; few = few; are = p }
 
 pub by_length : (n : ℕ) (P : Bool → Type 0) → (n < 4294967296 → P true) → P false → P (nat_lt n 4294967296)

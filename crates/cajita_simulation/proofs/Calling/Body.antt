@@ -39,6 +39,8 @@ use Rattle.cajita_simulation.proofs.Declaring.Marks.{Entered, six, six_is, marks
 use Rattle.cajita_simulation.proofs.Calling.Names.{NewNames, ScopeNames, heads, behind_head, statements, own_names, new_names, functions_are, scope_names, call_alike}
 use Rattle.cajita_simulation.proofs.Calling.Entering.{inside, declares, declares_room, declares_covers, captured_enter, in_enter, new_scopes, rel_back}
 use Rattle.cajita_simulation.proofs.Calling.Laws.{ClosureLaw}
+use Rattle.cajita_simulation.proofs.Declaring.Granting.{awaiting_match}
+use Rattle.cajita_simulation.proofs.Calling.Head.{args_head}
 
 -- names are bound, each with a step of the direct meaning
 ticked : (H : Here) {d : ℕ} (count : ℕ) (w : State) (p : Asking.Reply) (go : Going) (next : Cont) {z : List Item} (n : ℕ) {q : Target.Plan} {y : Kept} {m : ℕ} → ((n' : ℕ) → n' ≡ n + count → M H d (bind (replied p go) next) z n' q y m) → M H d (bind (replied (stepping_all count w p) go) next) z n q y m
@@ -131,8 +133,8 @@ closure_match {H = H} {T = T} {k = k} effects a by i (c.fun name params false (c
     let f = c.fun name params false (c.a_body fs names xs) in
     let q = temps c.stmts xs in
     let guest = code.guest in
-    let vars' = own_names fs names xs in
-    let news : NewNames params names vars' q = new_names _ _ fs names xs guest.8 guest.1 guest.3 params guest.0 in
+    let vars' = own_names false fs names xs in
+    let news : NewNames false params names vars' q = new_names _ _ false fs names xs guest.8 guest.1 guest.3 params guest.0 in
     let act = length s.scopes in
     let number = next_scope by w in
     let chain = length s.scopes ∷ code.chain in
@@ -155,9 +157,9 @@ closure_match {H = H} {T = T} {k = k} effects a by i (c.fun name params false (c
     let count = length params + (0 + (length names + count_of fs)) in
     let done : State → Asking.Reply = λ w2. statements_reply xs J.around by H.by w2 in
     let source : Asking.Reply = functions_made fs number outer by (World.with_scope by first_pairs w) done in
-    let target : List (t.Tree t.func) → Target.Plan = λ l. Target.list true (statements fs names xs) None (env_of J) (with_functions l act chain by (with_scope owner firsts s)) Target.body_end in
+    let target : List (t.Tree t.func) → Target.Plan = λ l. Target.list true (statements false fs names xs) None (env_of J) (with_functions l act chain by (with_scope owner firsts s)) Target.body_end in
     let body = rewritten false c.stmts 0 xs in
-    let ends : Store → Target.Plan = λ s1. Target.list true (statements fs names xs) None (env_of J) s1 Target.body_end in
+    let ends : Store → Target.Plan = λ s1. Target.list true (statements false fs names xs) None (env_of J) s1 Target.body_end in
     let statements_match : (z' : List Item) (n' m1 : ℕ) → Rel H T (suc k) w z' n g s y m → n' ≡ n + count → m ≤ m1 → m1 ≤ suc m → (acc : Option EsValue) (z2 : List Item) → printed z2 ≡ printed z' → Few fs (one_each fs m1) → M H a (bind (replied (done (declared_world fs number outer by (World.with_scope by first_pairs w))) go) next) z2 n' (bind (Target.list true body acc (env_of J) (named_store fs chain by scoped) Target.body_end) next') y (six fs (one_each fs m1)) =
     λ z' n' m1 r0 same from to acc z2 told few.
     let ones = one_each_is fs m in
@@ -173,15 +175,15 @@ closure_match {H = H} {T = T} {k = k} effects a by i (c.fun name params false (c
     (own_match {J = J} H.by (effects J below) xs guest.8 guest.5 0 acc a k go Target.body_end next next' lt (declares_room {H = J} q T guest.4) r1
     (body_ends {H = H} J go next next' (declares_covers q T r.all.scopes) r.all.scopes.are r.here (stays_declared fs by outer chain pairs owner all below few0 r.all.objects (omega (arith, ones1, sixes, from))) x)) in
     let functions : (z' : List Item) → Rel H T (suc k) w z' n g s y m → (n' : ℕ) → n' ≡ n + count → M H a (bind (replied source go) next) z' n' (bind (ends (bare_store fs chain by scoped)) next') y m = λ z' r0 n' same.
-    head_match J (heads names xs) (temps_none 0 q _ (names_none (others names (declared c.stmts xs)))) (behind_head fs xs) (bare_store fs chain by scoped) Target.body_end next' (λ m1 from to.
+    head_match J (heads false names xs) (temps_none 0 q _ (names_none (others names (declared c.stmts xs)))) (behind_head fs xs) (bare_store fs chain by scoped) Target.body_end next' (λ m1 from to.
     let ones1 = one_each_is fs m1 in
     let sixes = six_is fs (one_each fs m1) in
     declares_match H.rules (env_of J) fs (marks fs body) None (bare_store fs chain by scoped) Target.body_end next'
     (marks_match {J = J} params names fs body None number outer chain code.chain (World.with_scope by first_pairs w) done go next Target.body_end next' refl guest.6 entered (subst (λ l. Placed fs (length s.heap.list) l) (sym (names_new owner all s)) (placed params names fs (length s.heap.list) firsts guest.6)) (omega (arith, r0.all.steps, same, ones1, sixes, to)) r0.all.items (statements_match z' n' m1 r0 same from to))) in
-    let goes : (z' : List Item) → Rel H T (suc k) w z' n g s y m → (n' : ℕ) → n' ≡ n + count → M H a (bind (replied source go) next) z' n' (bind (target (functions_of (statements fs names xs))) next') y m = λ z' r0 n' same.
-    subst (λ l. M H a (bind (replied source go) next) z' n' (bind (target l) next') y m) (sym (functions_are _ _ fs names xs guest.8))
+    let goes : (z' : List Item) → Rel H T (suc k) w z' n g s y m → (n' : ℕ) → n' ≡ n + count → M H a (bind (replied source go) next) z' n' (bind (target (functions_of (statements false fs names xs))) next') y m = λ z' r0 n' same.
+    subst (λ l. M H a (bind (replied source go) next) z' n' (bind (target l) next') y m) (sym (functions_are _ _ false fs names xs guest.8))
     (subst (λ s1. M H a (bind (replied source go) next) z' n' (bind (ends s1) next') y m) (sym (functions_first fs owner firsts chain by s)) (functions z' r0 n' same)) in
-    let cases = elim (nat_lt H.around.calls 1000) as (λ b. M H a (bind (replied (cond b (passing H.by by us (stepping_all count w source)) (fault depth_fault w)) go) next) z n (bind (cond b (target (functions_of (statements fs names xs))) (stops depth_fault s)) next') y m) [
+    let cases = elim (nat_lt H.around.calls 1000) as (λ b. M H a (bind (replied (cond b (passing H.by by us (stepping_all count w source)) (fault depth_fault w)) go) next) z n (bind (cond b (target (functions_of (statements false fs names xs))) (stops depth_fault s)) next') y m) [
       | false ↦ both_stop (steps_hold r) (refl, tt, r.all.items)
       | true ↦ passed_match H.by by us (stepping_all count w source) go next r (λ z' r0. ticked H count w source go next n (λ n' same. goes z' r0 n' same))
     ] in

@@ -10,7 +10,7 @@ use Rattle.es3_language.specs.Store.{Names, name_value, with_name, with_vars, wi
 use Rattle.es3_language.specs.Hoisting.{vars_in, vars_of, functions_of, own_vars}
 use Rattle.es3_language.specs.Arguments.{is_arguments}
 use Rattle.cajita_tree.specs.Tree as c
-use Rattle.cajita_rewrite.specs.Rewrite.{runtime_name, arguments_copy, temp_name, temps, declared, others, name_items, temp_items, head_items, var_stmts, joined, marks, rewritten}
+use Rattle.cajita_rewrite.specs.Rewrite.{runtime_name, arguments_copy, temp_name, temps, declared, others, name_items, temp_items, args_items, head_items, var_stmts, joined, marks, rewritten}
 use Rattle.cajita_meaning.specs.World as World
 use Rattle.cajita_meaning.specs.World.{Value, Pairs, value_at, with_value}
 use Rattle.cajita_simulation.specs.Guest.{Names as KnownNames, is_among, is_declared, within, GuestName, NewFuncs, Guest}
@@ -24,17 +24,20 @@ use Rattle.cajita_simulation.proofs.Load.Names.{undefined_value, value_at-bound,
 
 -- the statements of a function: its head, its functions and their marks, and those of its source
 
-abbrev pub heads : List (List ℕ) → c.Tree c.stmts → t.Tree t.items
-heads names list = head_items (c.a_body c.no_funcs names list)
+abbrev pub own_heads : List (List ℕ) → c.Tree c.stmts → t.Tree t.items
+own_heads names list = head_items (c.a_body c.no_funcs names list)
+
+abbrev pub heads : Bool → List (List ℕ) → c.Tree c.stmts → t.Tree t.items
+heads args names list = args_items args (own_heads names list)
 
 abbrev pub behind_head : c.Tree c.funcs → c.Tree c.stmts → t.Tree t.stmts
 behind_head fs list = joined (rewritten false c.funcs 0 fs) (marks fs (rewritten false c.stmts 0 list))
 
-abbrev pub statements : c.Tree c.funcs → List (List ℕ) → c.Tree c.stmts → t.Tree t.stmts
-statements fs names list = var_stmts (heads names list) (behind_head fs list)
+abbrev pub statements : Bool → c.Tree c.funcs → List (List ℕ) → c.Tree c.stmts → t.Tree t.stmts
+statements args fs names list = var_stmts (heads args names list) (behind_head fs list)
 
-abbrev pub own_names : c.Tree c.funcs → List (List ℕ) → c.Tree c.stmts → List (List ℕ)
-own_names fs names list = own_vars (vars_of (statements fs names list))
+abbrev pub own_names : Bool → c.Tree c.funcs → List (List ℕ) → c.Tree c.stmts → List (List ℕ)
+own_names args fs names list = own_vars (vars_of (statements args fs names list))
 
 -- what it declares
 
@@ -61,15 +64,15 @@ head_functions : (is : t.Tree t.items) (rest : t.Tree t.stmts) → functions_of 
 head_functions t.no_items rest = refl
 head_functions (t.more_items x e is) rest = refl
 
-pub functions_are : (vars free : KnownNames) (fs : c.Tree c.funcs) (names : List (List ℕ)) (list : c.Tree c.stmts) → Guest vars free c.stmts list → functions_of (statements fs names list) ≡ func_list fs
-functions_are vars free fs names list g = head_functions (heads names list) (behind_head fs list) ∙ declared_functions fs (rewritten false c.stmts 0 list) (list_functions vars free 0 list g)
+pub functions_are : (vars free : KnownNames) (args : Bool) (fs : c.Tree c.funcs) (names : List (List ℕ)) (list : c.Tree c.stmts) → Guest vars free c.stmts list → functions_of (statements args fs names list) ≡ func_list fs
+functions_are vars free args fs names list g = head_functions (heads args names list) (behind_head fs list) ∙ declared_functions fs (rewritten false c.stmts 0 list) (list_functions vars free 0 list g)
 
--- of its names: those that aren't hidden are its variables, its temporaries are among them, and the runtime's object is not
-pub record NewNames (params names vars' : List (List ℕ)) (q : ℕ) : Type 0 where
+-- of its names: those that aren't hidden are its variables, its temporaries are among them, and the copy of `arguments` where it reads that, and the runtime's object is not
+pub record NewNames (args : Bool) (params names vars' : List (List ℕ)) (q : ℕ) : Type 0 where
   pub guests : (x : List ℕ) → is_hidden x ≡ false → is_among vars' x ≡ is_among names x
   pub temps : (i : ℕ) → i < q → is_among vars' (temp_name i) ≡ true
   pub runtime : is_among vars' runtime_name ≡ false
-  pub copy : is_among vars' arguments_copy ≡ false
+  pub copy : is_among vars' arguments_copy ≡ args
   pub params_open : (x : List ℕ) → is_among params x ≡ true → GuestName x
   pub names_open : (x : List ℕ) → is_among names x ≡ true → GuestName x
 
@@ -81,29 +84,65 @@ or_none : (a b : Bool) → (a || b) ≡ false → a ≡ false
 or_none true b e = cc
 or_none false b e = refl
 
-module _ (vars free : KnownNames) (fs : c.Tree c.funcs) (names : List (List ℕ)) (list : c.Tree c.stmts) (guest : Guest vars free c.stmts list) (open_names : (x : List ℕ) → is_among names x ≡ true → GuestName x) (among : (x : List ℕ) → is_among (declared c.stmts list) x ≡ true → is_among names x ≡ true) where
+args_among : (args : Bool) (is : t.Tree t.items) (x : List ℕ) → is_among (vars_in t.items (args_items args is)) x ≡ ((args && same_units x arguments_copy) || is_among (vars_in t.items is) x)
+args_among true is x = refl
+args_among false is x = refl
+
+and_no : (a b : Bool) → b ≡ false → (a && b) ≡ false
+and_no true b e = e
+and_no false b e = refl
+
+and_yes : (a : Bool) → (a && true) ≡ a
+and_yes true = refl
+and_yes false = refl
+
+or_no : (a b d : Bool) → a ≡ false → ((a || b) || d) ≡ (b || d)
+or_no true b d e = cc
+or_no false b d e = refl
+
+or_yes : (a b d : Bool) → (b || d) ≡ true → ((a || b) || d) ≡ true
+or_yes true b d e = refl
+or_yes false b d e = e
+
+or_left : (a b d : Bool) → (b || d) ≡ false → ((a || b) || d) ≡ a
+or_left true b d e = refl
+or_left false b d e = e
+
+shown_apart : (x : List ℕ) → is_hidden x ≡ false → same_units x arguments_copy ≡ false
+shown_apart x shown = not_true (same_units x arguments_copy) (λ e. cc (sym shown ∙ ap is_hidden (same_text x arguments_copy (sym e))))
+
+module _ (vars free : KnownNames) (args : Bool) (fs : c.Tree c.funcs) (names : List (List ℕ)) (list : c.Tree c.stmts) (guest : Guest vars free c.stmts list) (open_names : (x : List ℕ) → is_among names x ≡ true → GuestName x) (among : (x : List ℕ) → is_among (declared c.stmts list) x ≡ true → is_among names x ≡ true) where
   abbrev others_here : List (List ℕ)
   others_here = others names (declared c.stmts list)
 
-  all_names : (x : List ℕ) → is_among (vars_of (statements fs names list)) x ≡ (is_among (vars_in t.items (heads names list)) x || is_among (declared c.stmts list) x)
-  all_names x = ap (λ l. is_among l x) (head_vars (heads names list) (behind_head fs list) ∙ ap (λ l. vars_in t.items (heads names list) ++ l) (declared_vars fs (rewritten false c.stmts 0 list) ∙ list_names vars free 0 list guest)) ∙ among_append (vars_in t.items (heads names list)) (declared c.stmts list) x
+  abbrev own_head : t.Tree t.items
+  own_head = own_heads names list
+
+  all_names : (x : List ℕ) → is_among (vars_of (statements args fs names list)) x ≡ (((args && same_units x arguments_copy) || is_among (vars_in t.items own_head) x) || is_among (declared c.stmts list) x)
+  all_names x =
+      ap (λ l. is_among l x) (head_vars (heads args names list) (behind_head fs list) ∙ ap (λ l. vars_in t.items (heads args names list) ++ l) (declared_vars fs (rewritten false c.stmts 0 list) ∙ list_names vars free 0 list guest)) ∙ among_append (vars_in t.items (heads args names list)) (declared c.stmts list) x
+      ∙ ap (λ b. b || is_among (declared c.stmts list) x) (args_among args own_head x)
+
+  -- of another name than the copy of `arguments`
+  other_names : (x : List ℕ) → same_units x arguments_copy ≡ false → is_among (vars_of (statements args fs names list)) x ≡ (is_among (vars_in t.items own_head) x || is_among (declared c.stmts list) x)
+  other_names x other = all_names x ∙ or_no (args && same_units x arguments_copy) (is_among (vars_in t.items own_head) x) (is_among (declared c.stmts list) x) (and_no args (same_units x arguments_copy) other)
 
   known_among : (x : List ℕ) → (is_among names x || is_among (declared c.stmts list) x) ≡ is_among names x
   known_among x = absorbed (is_among names x) (is_among (declared c.stmts list) x) (among x)
 
-  open_known : (x : List ℕ) → is_hidden x ≡ false → is_among (own_names fs names list) x ≡ is_among names x
+  open_known : (x : List ℕ) → is_hidden x ≡ false → is_among (own_names args fs names list) x ≡ is_among names x
   open_known x shown =
-      let cases = elim (is_arguments x) as (λ b. is_arguments x ≡ b → is_among (own_names fs names list) x ≡ is_among names x) [
-        | true ↦ λ is. own_never (vars_of (statements fs names list)) x is ∙ sym (not_true (is_among names x) (λ e. cc (sym is ∙ (open_names x e).own_name)))
+      let cases = elim (is_arguments x) as (λ b. is_arguments x ≡ b → is_among (own_names args fs names list) x ≡ is_among names x) [
+        | true ↦ λ is. own_never (vars_of (statements args fs names list)) x is ∙ sym (not_true (is_among names x) (λ e. cc (sym is ∙ (open_names x e).own_name)))
         | false ↦ λ is.
-            own_among (vars_of (statements fs names list)) x is ∙ all_names x
+            own_among (vars_of (statements args fs names list)) x is ∙ other_names x (shown_apart x shown)
             ∙ ap (λ b. b || is_among (declared c.stmts list) x) (temps_hidden 0 (temps c.stmts list) (name_items others_here t.no_items) x shown ∙ loops_among others_here x)
             ∙ others_among names (declared c.stmts list) x ∙ known_among x
       ] in cases refl
 
-  temps_known : (i : ℕ) → i < temps c.stmts list → is_among (own_names fs names list) (temp_name i) ≡ true
+  temps_known : (i : ℕ) → i < temps c.stmts list → is_among (own_names args fs names list) (temp_name i) ≡ true
   temps_known i lt =
-      own_among (vars_of (statements fs names list)) (temp_name i) refl ∙ all_names (temp_name i)
+      own_among (vars_of (statements args fs names list)) (temp_name i) refl ∙ other_names (temp_name i) refl
       ∙ ap (λ b. b || is_among (declared c.stmts list) (temp_name i)) (temps_declared 0 (temps c.stmts list) i (name_items others_here t.no_items) (omega arith) (omega (arith, lt)))
 
   -- no temporary is called so
@@ -111,10 +150,10 @@ module _ (vars free : KnownNames) (fs : c.Tree c.funcs) (names : List (List ℕ)
   temps_other i zero is = refl
   temps_other i (suc n) is = temps_other (suc i) n is
 
-  runtime_unknown : is_among (own_names fs names list) runtime_name ≡ false
+  runtime_unknown : is_among (own_names args fs names list) runtime_name ≡ false
   runtime_unknown =
       let hidden : is_among names runtime_name ≡ false = not_true (is_among names runtime_name) (λ e. no_open (open_names runtime_name e).open_name) in
-      own_among (vars_of (statements fs names list)) runtime_name refl ∙ all_names runtime_name
+      own_among (vars_of (statements args fs names list)) runtime_name refl ∙ other_names runtime_name refl
       ∙ ap (λ b. b || is_among (declared c.stmts list) runtime_name) (temps_other 0 (temps c.stmts list) (name_items others_here t.no_items) ∙ loops_among others_here runtime_name)
       ∙ others_among names (declared c.stmts list) runtime_name ∙ known_among runtime_name ∙ hidden
     where
@@ -125,18 +164,20 @@ module _ (vars free : KnownNames) (fs : c.Tree c.funcs) (names : List (List ℕ)
   temps_apart i zero is = refl
   temps_apart i (suc n) is = temps_apart (suc i) n is
 
-  copy_unknown : is_among (own_names fs names list) arguments_copy ≡ false
-  copy_unknown =
+  copy_known : is_among (own_names args fs names list) arguments_copy ≡ args
+  copy_known =
       let hidden : is_among names arguments_copy ≡ false = not_true (is_among names arguments_copy) (λ e. no_open (open_names arguments_copy e).open_name) in
-      own_among (vars_of (statements fs names list)) arguments_copy refl ∙ all_names arguments_copy
-      ∙ ap (λ b. b || is_among (declared c.stmts list) arguments_copy) (temps_apart 0 (temps c.stmts list) (name_items others_here t.no_items) ∙ loops_among others_here arguments_copy)
-      ∙ others_among names (declared c.stmts list) arguments_copy ∙ known_among arguments_copy ∙ hidden
+      own_among (vars_of (statements args fs names list)) arguments_copy refl ∙ all_names arguments_copy
+      ∙ or_left (args && true) (is_among (vars_in t.items own_head) arguments_copy) (is_among (declared c.stmts list) arguments_copy)
+      (ap (λ b. b || is_among (declared c.stmts list) arguments_copy) (temps_apart 0 (temps c.stmts list) (name_items others_here t.no_items) ∙ loops_among others_here arguments_copy)
+      ∙ others_among names (declared c.stmts list) arguments_copy ∙ known_among arguments_copy ∙ hidden)
+      ∙ and_yes args
     where
       no_open : is_hidden arguments_copy ≡ false → ⊥
       no_open e = cc
 
-  pub new_names : (params : List (List ℕ)) → ((x : List ℕ) → is_among params x ≡ true → GuestName x) → NewNames params names (own_names fs names list) (temps c.stmts list)
-  new_names params open_params = record { guests = open_known; temps = temps_known; runtime = runtime_unknown; copy = copy_unknown; params_open = open_params; names_open = open_names }
+  pub new_names : (params : List (List ℕ)) → ((x : List ℕ) → is_among params x ≡ true → GuestName x) → NewNames args params names (own_names args fs names list) (temps c.stmts list)
+  new_names params open_params = record { guests = open_known; temps = temps_known; runtime = runtime_unknown; copy = copy_known; params_open = open_params; names_open = open_names }
 
 -- which names are bound
 
@@ -200,10 +241,14 @@ pub call_names : (h : Objects) (x : List ℕ) (params xs ys : List (List ℕ)) (
 call_names h x params xs ys vs qs is same = vars_are h x xs ys (World.with_params params vs []) (with_params params qs []) _ _ refl refl same (params_are h x params vs qs [] [] is tt)
 
 -- and each variable is where the interpreter has it
-pub call_alike : {params names vars' : List (List ℕ)} {q : ℕ} (h : Objects) (vs : List Value) (qs : List EsValue) → NewNames params names vars' q → Vals h vs qs → ScopeIs h (World.with_vars names (World.with_params params vs [])) (with_vars vars' (with_params params qs []))
+pub call_alike_own : {args : Bool} {params names vars' : List (List ℕ)} {q : ℕ} (h : Objects) (vs : List Value) (qs : List EsValue) → NewNames args params names vars' q → Vals h vs qs → (x : List ℕ) → is_hidden x ≡ false → OptVal h (value_at x (World.with_vars names (World.with_params params vs []))) (name_value x (with_vars vars' (with_params params qs [])))
+call_alike_own {params = params} {names = names} {vars' = vars'} h vs qs new is x shown = call_names h x params names vars' vs qs is (sym (new.guests x shown))
+
+-- `arguments` is a variable of neither, where the body doesn't read it
+pub call_alike : {params names vars' : List (List ℕ)} {q : ℕ} (h : Objects) (vs : List Value) (qs : List EsValue) → NewNames false params names vars' q → Vals h vs qs → ScopeIs h (World.with_vars names (World.with_params params vs [])) (with_vars vars' (with_params params qs []))
 call_alike {params = params} {names = names} {vars' = vars'} h vs qs new is x shown =
     let all = with_vars vars' (with_params params qs []) in
-    let same = call_names h x params names vars' vs qs is (sym (new.guests x shown)) in
+    let same = call_alike_own h vs qs new is x shown in
     let cases = elim (is_arguments x) as (λ b. is_arguments x ≡ b → OptVal h (value_at x (World.with_vars names (World.with_params params vs []))) (name_value (cond b arguments_copy x) (with_vars vars' (with_params params qs [])))) [
       | false ↦ λ own. same
       | true ↦ λ own.
@@ -236,7 +281,7 @@ either_side : (a b : Bool) → b ≡ true → (a || b) ≡ true
 either_side true b e = refl
 either_side false b e = e
 
-module _ {params names vars' : List (List ℕ)} {q : ℕ} (fs : c.Tree c.funcs) (place : ℕ) (qs : List EsValue) (new : NewNames params names vars' q) (funcs : NewFuncs params names fs) where
+module _ {args : Bool} {params names vars' : List (List ℕ)} {q : ℕ} (fs : c.Tree c.funcs) (place : ℕ) (qs : List EsValue) (new : NewNames args params names vars' q) (funcs : NewFuncs params names fs) where
   abbrev pub all : Names
   all = bound_names fs place (with_vars vars' (with_params params qs []))
 
@@ -259,16 +304,29 @@ module _ {params names vars' : List (List ℕ)} {q : ℕ} (fs : c.Tree c.funcs) 
         | true ↦ λ hidden. not_true (is_among names x) (λ e. cc (sym hidden ∙ (new.names_open x e).open_name))
       ] in (parts.0, rest.0, cases refl)
 
-  further : (x : List ℕ) (around : KnownNames) → is_some (name_value x all) ≡ false → within params names fs false around x ≡ true → around x ≡ true
-  further x around e known = let p = outer_names x e in out (is_declared fs x) (is_among params x) (is_among names x) (around x) p.0 p.1 p.2 known
-    where
-      out : (a b d r : Bool) → a ≡ false → b ≡ false → d ≡ false → ((false && true) || (a || ((b || d) || r))) ≡ true → r ≡ true
-      out true b d r ea eb ed k = cc
-      out false true d r ea eb ed k = cc
-      out false false true r ea eb ed k = cc
-      out false false false r ea eb ed k = k
+  -- and the copy of `arguments` is, where the body reads that
+  copy_bound : (x : List ℕ) → is_some (name_value x all) ≡ false → (args && same_units x arguments_copy) ≡ false
+  copy_bound x e =
+      let cases = elim (same_units x arguments_copy) as (λ b. same_units x arguments_copy ≡ b → (args && b) ≡ false) [
+        | false ↦ λ other. and_no args false refl
+        | true ↦ λ same.
+            let p = left_none (is_declared fs x) (is_among params x || is_among vars' x) (sym (bound x) ∙ e) in
+            let rest = left_none (is_among params x) (is_among vars' x) p.1 in
+            let is : x ≡ arguments_copy = same_text x arguments_copy (sym same) in
+            and_yes args ∙ sym new.copy ∙ ap (is_among vars') (sym is) ∙ rest.1
+      ] in cases refl
 
-  pub scope_names : (vars free : KnownNames) → ScopeNames all vars free (within params names fs false vars) (within params names fs false free) q
+  further : (x : List ℕ) (around : KnownNames) → is_some (name_value x all) ≡ false → within params names fs args around x ≡ true → around x ≡ true
+  further x around e known = let p = outer_names x e in out (args && same_units x arguments_copy) (is_declared fs x) (is_among params x) (is_among names x) (around x) (copy_bound x e) p.0 p.1 p.2 known
+    where
+      out : (g a b d r : Bool) → g ≡ false → a ≡ false → b ≡ false → d ≡ false → (g || (a || ((b || d) || r))) ≡ true → r ≡ true
+      out true a b d r eg ea eb ed k = cc
+      out false true b d r eg ea eb ed k = cc
+      out false false true d r eg ea eb ed k = cc
+      out false false false true r eg ea eb ed k = cc
+      out false false false false r eg ea eb ed k = k
+
+  pub scope_names : (vars free : KnownNames) → ScopeNames all vars free (within params names fs args vars) (within params names fs args free) q
   scope_names vars free = record {
     temps = λ i lt. bound (temp_name i) ∙ either_side (is_declared fs (temp_name i)) (is_among params (temp_name i) || is_among vars' (temp_name i)) (either_side (is_among params (temp_name i)) (is_among vars' (temp_name i)) (new.temps i lt));
     runtime = let p = no_guest runtime_name refl in bound runtime_name ∙ rw (p.0, p.1, new.runtime) refl;
