@@ -1,6 +1,6 @@
 -- The head of a body that names `arguments`: the interpreter makes the arguments object, and of its items the frozen array that is `a___`.
-use Rattle.std.proofs.Common.{◌≡◌, ℕ, suc, ◌+◌, ◌*◌, ◌≤◌, ◌<◌, Bool, true, false, List, [], ◌∷◌, ◌++◌, length, Option, Some, None, cond, refl, sym, ap, ◌∙◌, subst, arith}
-use Rattle.std.specs.Prelude.{codes, slice_get, is_some, nat_eq, ◌||◌}
+use Rattle.std.proofs.Common.{◌≡◌, ℕ, zero, suc, ◌+◌, ◌*◌, ◌≤◌, ◌<◌, Bool, true, false, List, [], ◌∷◌, ◌++◌, length, Option, Some, None, cond, refl, sym, ap, ◌∙◌, subst, append-nil, arith}
+use Rattle.std.specs.Prelude.{codes, slice_get, is_some, nat_eq, nat_lt, map, ◌||◌}
 use Rattle.std.proofs.Math.Seq.{set-append_seam}
 use Rattle.std.proofs.lemmas.Bool.Decides.{nat_tests}
 use Rattle.caja_units.specs.Units.{same_units}
@@ -18,9 +18,13 @@ use Rattle.es3_language.specs.Expressions.{read_plan, read_arguments}
 use Rattle.es3_language.specs.Meaning as Target
 use Rattle.cajita_rewrite.specs.Rewrite.{runtime_call, runtime_name, single, var_stmts, args_items, arguments_copy}
 use Rattle.cajita_meaning.specs.Direct.{Item, printed}
-use Rattle.heap_rows.specs.Doing.{Done, frozen_if, gives}
-use Rattle.heap_rows.specs.Opening.{first, runtime_id}
-use Rattle.guard_runtime.specs.Guards.{args}
+use Rattle.rows.specs.Rows as r
+use Rattle.rows.specs.Arguments.{values_from}
+use Rattle.rows.specs.Guards as rules
+use Rattle.row_outcomes.proofs.Numbers.{first_values}
+use Rattle.heap_rows.specs.Doing.{Done, frozen_if, gives, value_in}
+use Rattle.heap_rows.specs.Opening.{place_of, runtime_id}
+use Rattle.guard_runtime.specs.Guards.{args, by_row}
 use Rattle.page_natives.specs.Natives.{Kept, page_table}
 use Rattle.cajita_simulation.specs.Alike.{shown}
 use Rattle.cajita_simulation.specs.Guest as Guest
@@ -29,7 +33,8 @@ use Rattle.cajita_simulation.specs.Scopes.{SharedAre}
 use Rattle.cajita_simulation.proofs.Doing as Source
 use Rattle.cajita_simulation.proofs.Heaps.Lists.{slice_get-push}
 use Rattle.cajita_simulation.proofs.Heaps.Names.{name_value-with_name, name_value-with_name-other}
-use Rattle.cajita_simulation.proofs.Heaps.Made.{with_named}
+use Rattle.cajita_simulation.proofs.Heaps.Made.{with_named, named_new}
+use Rattle.cajita_simulation.proofs.Heaps.ArgumentItems.{ParamsAre, args_are}
 use Rattle.cajita_simulation.proofs.Heaps.Opened.{IsOpened, opened_kept}
 use Rattle.cajita_simulation.proofs.Heaps.Guards.{args-guard}
 use Rattle.cajita_simulation.proofs.Heaps.Arguments.{arguments_object, arguments_new}
@@ -70,6 +75,10 @@ put_other [] a n o xs qs x v h p out =
 put_other (e ∷ l) a n o xs qs x v h p out =
     let other : nat_eq e.scope n ≡ false = let lt = p.1 in grind (arith, nat_tests, lt) in
     ap (λ b. cond b (put_items e.object e.items x v h) (put_shared (l ++ entry_of o n xs qs ∷ []) n x v h)) other ∙ put_other l a n o xs qs x v h p.2 out
+
+values_long : (i n : ℕ) → length (values_from i n) ≡ n
+values_long i zero = refl
+values_long i (suc n) = ap suc (values_long (i + 1) n)
 
 slot_last : (owner : Owner) (names : Names) (x : List ℕ) (v : EsValue) (s : Store) → with_slot (length s.scopes) x v (with_scope owner names s) ≡ with_scope owner (with_name x v names) s
 slot_last owner names x v s =
@@ -117,8 +126,8 @@ module _ (f : EsValue) (params : List (List ℕ)) (qs : List EsValue) (all : Nam
       ap (λ r. read_plan env r s0) found ∙ ap (λ q. read_arguments act env q Target.give) all_made ∙ rw bound refl
 
   -- the array is written
-  args_written : {a : Objects} (by : ℕ) (out : List ℕ) → SharedAre a (length s.scopes) s.shared → is_among params arguments_copy ≡ false → name_value arguments_copy all ≡ Some es.Undefined → write (reference (length s.scopes ∷ out) (with_scope owner all s) arguments_copy) copied (with_scope owner one_name (args_store by)) ≡ with_scope owner args_names (args_store by)
-  args_written {a = a} by out shared apart bound =
+  args_written : (a : Objects) (by : ℕ) (out : List ℕ) → SharedAre a (length s.scopes) s.shared → is_among params arguments_copy ≡ false → name_value arguments_copy all ≡ Some es.Undefined → write (reference (length s.scopes ∷ out) (with_scope owner all s) arguments_copy) copied (with_scope owner one_name (args_store by)) ≡ with_scope owner args_names (args_store by)
+  args_written a by out shared apart bound =
       let act = length s.scopes in
       let s0 = with_scope owner all s in
       let sB = with_scope owner one_name (args_store by) in
@@ -132,17 +141,32 @@ module _ (f : EsValue) (params : List (List ℕ)) (qs : List EsValue) (all : Nam
       ∙ slot_last owner one_name arguments_copy copied (args_store by)
 
   -- what the guard answers
-  abbrev pub Answers : ℕ → Type 0
-  Answers by = (env : Target.Env) (q : Store) (y : Kept) → env.by ≡ by → q.heap ≡ with_object s.heap (arguments_object f params qs all) → Target.task_plan page_table (Target.native_call 67 (es.Obj runtime_id) (es.Obj (length s.heap.list) ∷ []) env) q y ≡ Target.give copied (with_heap q (with_named q.heap (frozen_array qs) by))
+  abbrev pub Answers : Target.Env → Type 0
+  Answers env = (q : Store) (y : Kept) → q.heap ≡ with_object s.heap (arguments_object f params qs all) → Target.task_plan page_table (Target.native_call 67 (es.Obj runtime_id) (es.Obj (length s.heap.list) ∷ []) env) q y ≡ Target.give (es.Obj (length (with_object s.heap (arguments_object f params qs all)).list)) (with_heap q (with_named (with_object s.heap (arguments_object f params qs all)) (frozen_array qs) env.by))
+
+  -- the frozen array of the arguments, which has the module's next name
+  pub answers_are : (env : Target.Env) → AreDistinct params → ParamsAre params qs all → length qs < 4294967296 → Answers env
+  answers_are env once are few q y same =
+      let g = with_object s.heap (arguments_object f params qs all) in
+      ap (λ (d : Done). Target.reply_plan d.reply env (with_heap q d.heap))
+      (ap (λ (h : Objects). args env.by object h) same ∙ args_are env.by f params qs all s.heap once are few ∙ array_made env.by g few
+      ∙ ap (λ (h : Objects). gives (es.Obj (length g.list)) h []) (named_new g (frozen_array qs) env.by refl))
+    where
+      array_made : (by : ℕ) (g : Objects) → length qs < 4294967296 → by_row (rules.args (length qs)) by qs g ≡ gives (es.Obj (length g.list)) (named (with_object g (frozen_array qs)) (length g.list) by) []
+      array_made by g few =
+          let long = values_long 0 (length qs) in
+          let small : nat_lt (length (values_from 0 (length qs))) r.most_items ≡ true = grind (arith, nat_tests, long, few) in
+          let held : map (value_in place_of qs) (values_from 0 (length qs)) ≡ qs = subst (λ l. map (value_in place_of l) (values_from 0 (length qs)) ≡ qs) (append-nil qs) (first_values place_of qs []) in
+          rw (small, held) refl
 
   -- `var a___=___.args(arguments),..;`
-  pub args_head : (H : Here) (by number : ℕ) (known free : Guest.Names) (direct out : List ℕ) (this : ℕ) {d : ℕ} {a : Objects} {g : Tags} (rest : t.Tree t.items) (stmts : t.Tree t.stmts) {p : Source.Plan} {z : List Item} {n : ℕ} {y : Kept} {m : ℕ} (end' : Cont') (next' : Cont')
+  pub args_head : (H : Here) (by number : ℕ) (known free : Guest.Names) (direct out : List ℕ) (this : ℕ) (a : Objects) {d : ℕ} {g : Tags} (rest : t.Tree t.items) (stmts : t.Tree t.stmts) {p : Source.Plan} {z : List Item} {n : ℕ} {y : Kept} {m : ℕ} (end' : Cont') (next' : Cont')
       → let J = inside H by number (length s.scopes) known free direct out this in
         In J g (with_scope owner all s) → ((c : ℕ) (e : EsValue) → name_value runtime_name (names_at (with_scope owner all s) c) ≡ Some e → e ≡ es.Obj runtime_id) → IsOpened s.heap → SharedAre a (length s.scopes) s.shared
-      → name_value arguments_name all ≡ None → name_value arguments_copy all ≡ Some es.Undefined → is_among params arguments_copy ≡ false → (suc m ≤ 4294967295 → Answers by) → ((q : Store) → Target.var_items rest (env_of J) q ≡ Target.var_items t.no_items (env_of J) q) → suc (suc (suc (suc (suc m)))) ≤ 64 * n → printed z ≡ shown y
+      → name_value arguments_name all ≡ None → name_value arguments_copy all ≡ Some es.Undefined → is_among params arguments_copy ≡ false → (suc m ≤ 4294967295 → Answers (env_of J)) → ((q : Store) → Target.var_items rest (env_of J) q ≡ Target.var_items t.no_items (env_of J) q) → suc (suc (suc (suc (suc m)))) ≤ 64 * n → printed z ≡ shown y
       → (suc (suc (suc (suc (suc (suc m))))) ≤ 4294967295 → M J d p z n (bind (Target.list true stmts None (env_of J) (with_scope owner args_names (args_store by)) end') next') y (suc (suc (suc (suc (suc (suc m)))))))
       → M J d p z n (bind (Target.list true (var_stmts (args_items true rest) stmts) None (env_of J) (with_scope owner all s) end') next') y m
-  args_head H by number known free direct out this {d = d} rest stmts {p = p} {z = z} {n = n} {y = y} {m = m} end' next' here runtime opened shared none bound apart answers no_values fits items x =
+  args_head H by number known free direct out this a {d = d} rest stmts {p = p} {z = z} {n = n} {y = y} {m = m} end' next' here runtime opened shared none bound apart answers no_values fits items x =
       let J = inside H by number (length s.scopes) known free direct out this in
       let s0 = with_scope owner all s in
       let s1 = with_scope owner one_name read_store in
@@ -153,7 +177,7 @@ module _ (f : EsValue) (params : List (List ℕ)) (qs : List EsValue) (all : Nam
       right_enter (right_enter (callee_at J (codes "args") (single (t.name arguments_name)) waits (runtime_at here runtime)
       (right_enter (subst (λ q. M J d p z n (bind q (λ e s3. bind (Target.on_value_of (Target.after_argument (Target.called (member (es.Obj runtime_id) (codes "args"))) [] t.no_exprs (env_of J)) e s3) waits)) y (suc (suc (suc (suc (suc m)))))) (sym (arguments_read (env_of J) out refl none))
       (guard_at J args-guard (object ∷ []) s1 waits (opened_kept s.heap (arguments_object f params qs all) opened) fits items (λ small.
-      subst (λ q. M J d p z n (bind q waits) y (suc (suc (suc (suc (suc (suc m))))))) (sym (answers (omega (arith, small)) (env_of J) s1 y refl refl))
-      (subst (λ q. M J d p z n (bind (Target.var_items rest (env_of J) q) last) y (suc (suc (suc (suc (suc (suc m))))))) (sym (args_written by out shared apart bound))
+      subst (λ q. M J d p z n (bind q waits) y (suc (suc (suc (suc (suc (suc m))))))) (sym (answers (omega (arith, small)) s1 y refl))
+      (subst (λ q. M J d p z n (bind (Target.var_items rest (env_of J) q) last) y (suc (suc (suc (suc (suc (suc m))))))) (sym (args_written a by out shared apart bound))
       (subst (λ q. M J d p z n (bind q last) y (suc (suc (suc (suc (suc (suc m))))))) (sym (no_values (with_scope owner args_names (args_store by))))
       (x small)))))))))
