@@ -7,6 +7,7 @@ pub mod Arguments
 pub mod Laws
 pub mod Calls
 pub mod Head
+pub mod Reading
 pub mod Body
 pub mod Receiver
 pub mod BuiltIns

@@ -90,7 +90,7 @@ marked_is_new code params maker prototype =
 
 -- the world has one closure more
 
-last_cases : (by : ℕ) (o x : Object) (objects : ℕ → List Object) (m n : ℕ) → slice_get (with_last by o objects m) n ≡ Some x → (slice_get (objects m) n ≡ Some x) ⊎ ((m ≡ by) × (n ≡ length (objects m)) × (o ≡ x))
+pub last_cases : (by : ℕ) (o x : Object) (objects : ℕ → List Object) (m n : ℕ) → slice_get (with_last by o objects m) n ≡ Some x → (slice_get (objects m) n ≡ Some x) ⊎ ((m ≡ by) × (n ≡ length (objects m)) × (o ≡ x))
 last_cases by o x objects m n e =
     let cases = elim (nat_eq m by) as (λ b. nat_eq m by ≡ b → slice_get (cond b (objects m ++ o ∷ []) (objects m)) n ≡ Some x → (slice_get (objects m) n ≡ Some x) ⊎ ((m ≡ by) × (n ≡ length (objects m)) × (o ≡ x))) [
       | true ↦ λ is e. elim (slice_get-push-cases (objects m) o n x e) [

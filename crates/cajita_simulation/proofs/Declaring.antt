@@ -5,3 +5,4 @@ pub mod Relation
 pub mod Marks
 pub mod Awaiting
 pub mod Granting
+pub mod Bare

@@ -41,6 +41,7 @@ use Rattle.cajita_simulation.proofs.Calling.Entering.{inside, declares, declares
 use Rattle.cajita_simulation.proofs.Calling.Laws.{ClosureLaw}
 use Rattle.cajita_simulation.proofs.Declaring.Granting.{awaiting_match}
 use Rattle.cajita_simulation.proofs.Calling.Head.{args_head}
+use Rattle.cajita_simulation.proofs.Calling.Reading.{related_here}
 
 -- names are bound, each with a step of the direct meaning
 ticked : (H : Here) {d : ℕ} (count : ℕ) (w : State) (p : Asking.Reply) (go : Going) (next : Cont) {z : List Item} (n : ℕ) {q : Target.Plan} {y : Kept} {m : ℕ} → ((n' : ℕ) → n' ≡ n + count → M H d (bind (replied p go) next) z n' q y m) → M H d (bind (replied (stepping_all count w p) go) next) z n q y m

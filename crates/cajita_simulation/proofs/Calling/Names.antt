@@ -8,7 +8,7 @@ use Rattle.es3_heap.specs.declared.value.Value.TheVariants as es
 use Rattle.es3_heap.specs.Objects.{Objects}
 use Rattle.es3_language.specs.Store.{Names, name_value, with_name, with_vars, with_params}
 use Rattle.es3_language.specs.Hoisting.{vars_in, vars_of, functions_of, own_vars}
-use Rattle.es3_language.specs.Arguments.{is_arguments}
+use Rattle.es3_language.specs.Arguments.{is_arguments, arguments_name}
 use Rattle.cajita_tree.specs.Tree as c
 use Rattle.cajita_rewrite.specs.Rewrite.{runtime_name, arguments_copy, temp_name, temps, declared, others, name_items, temp_items, args_items, head_items, var_stmts, joined, marks, rewritten}
 use Rattle.cajita_meaning.specs.World as World
@@ -19,7 +19,7 @@ use Rattle.cajita_simulation.proofs.Relation.{EsValue, Val, Vals, OptVal, ScopeI
 use Rattle.cajita_simulation.proofs.Written.{value_at-with_value, value_at-with_value-other}
 use Rattle.cajita_simulation.proofs.Declaring.Trees.{func_list, declared_vars, declared_functions}
 use Rattle.cajita_simulation.proofs.Declaring.Stores.{bound_names}
-use Rattle.cajita_simulation.proofs.Declaring.Names.{name_bound, left_none, declared_name, functions_bound}
+use Rattle.cajita_simulation.proofs.Declaring.Names.{name_bound, left_none, declared_name, functions_bound, functions_other}
 use Rattle.cajita_simulation.proofs.Load.Names.{undefined_value, value_at-bound, value_at-unbound, with_vars-bound, with_vars-unbound, among_append, absorbed, own_among, own_never, temps_hidden, temps_declared, loops_among, others_among, names_kept}
 
 -- the statements of a function: its head, its functions and their marks, and those of its source
@@ -76,7 +76,7 @@ pub record NewNames (args : Bool) (params names vars' : List (List ℕ)) (q : �
   pub params_open : (x : List ℕ) → is_among params x ≡ true → GuestName x
   pub names_open : (x : List ℕ) → is_among names x ≡ true → GuestName x
 
-not_true : (b : Bool) → (b ≡ true → ⊥) → b ≡ false
+pub not_true : (b : Bool) → (b ≡ true → ⊥) → b ≡ false
 not_true true f = absurd (f refl)
 not_true false f = refl
 
@@ -108,7 +108,7 @@ or_left : (a b d : Bool) → (b || d) ≡ false → ((a || b) || d) ≡ a
 or_left true b d e = refl
 or_left false b d e = e
 
-shown_apart : (x : List ℕ) → is_hidden x ≡ false → same_units x arguments_copy ≡ false
+pub shown_apart : (x : List ℕ) → is_hidden x ≡ false → same_units x arguments_copy ≡ false
 shown_apart x shown = not_true (same_units x arguments_copy) (λ e. cc (sym shown ∙ ap is_hidden (same_text x arguments_copy (sym e))))
 
 module _ (vars free : KnownNames) (args : Bool) (fs : c.Tree c.funcs) (names : List (List ℕ)) (list : c.Tree c.stmts) (guest : Guest vars free c.stmts list) (open_names : (x : List ℕ) → is_among names x ≡ true → GuestName x) (among : (x : List ℕ) → is_among (declared c.stmts list) x ≡ true → is_among names x ≡ true) where
@@ -187,7 +187,7 @@ or_turn true false c = refl
 or_turn false true c = refl
 or_turn false false c = refl
 
-params_bound : (x : List ℕ) (xs : List (List ℕ)) (vs : List EsValue) (names : Names) → is_some (name_value x (with_params xs vs names)) ≡ (is_among xs x || is_some (name_value x names))
+pub params_bound : (x : List ℕ) (xs : List (List ℕ)) (vs : List EsValue) (names : Names) → is_some (name_value x (with_params xs vs names)) ≡ (is_among xs x || is_some (name_value x names))
 params_bound x [] vs names = refl
 params_bound x (y ∷ ys) [] names = params_bound x ys [] (with_name y es.Undefined names) ∙ ap (λ b. is_among ys x || b) (name_bound x y es.Undefined names) ∙ or_turn (is_among ys x) (same_units x y) (is_some (name_value x names))
 params_bound x (y ∷ ys) (v ∷ vs) names = params_bound x ys vs (with_name y v names) ∙ ap (λ b. is_among ys x || b) (name_bound x y v names) ∙ or_turn (is_among ys x) (same_units x y) (is_some (name_value x names))
@@ -333,3 +333,46 @@ module _ {args : Bool} {params names vars' : List (List ℕ)} {q : ℕ} (fs : c.
     read = λ x e known. further x vars e known;
     write = λ x e known. further x free e known;
   }
+
+  unbound_name : (o : Option EsValue) → is_some o ≡ false → o ≡ None
+  unbound_name None e = refl
+  unbound_name (Some v) e = cc
+
+  -- `arguments` isn't bound when a body begins
+  pub arguments_unbound : name_value arguments_name all ≡ None
+  arguments_unbound =
+      let no_func = not_true (is_declared fs arguments_name) (λ e. own_no (declared_name params names fs arguments_name funcs e).guest.own_name) in
+      let no_param = not_true (is_among params arguments_name) (λ e. own_no (new.params_open arguments_name e).own_name) in
+      let no_var : is_among vars' arguments_name ≡ false = new.guests arguments_name refl ∙ not_true (is_among names arguments_name) (λ e. own_no (new.names_open arguments_name e).own_name) in
+      unbound_name (name_value arguments_name all) (bound arguments_name ∙ rw (no_func, no_param, no_var) refl)
+    where
+      own_no : is_arguments arguments_name ≡ false → ⊥
+      own_no e = cc
+
+  -- and its copy, where the body reads it, is undefined
+  pub copy_undefined : args ≡ true → name_value arguments_copy all ≡ Some es.Undefined
+  copy_undefined is =
+      let p = no_guest arguments_copy refl in
+      functions_other fs place (with_vars vars' (with_params params qs [])) arguments_copy p.0
+      ∙ with_vars-unbound arguments_copy vars' (with_params params qs []) (unbound_name (name_value arguments_copy (with_params params qs [])) (params_bound arguments_copy params qs [] ∙ ap (λ b. b || false) p.1))
+      ∙ ap (λ b. undefined_value es.Undefined b) (new.copy ∙ is)
+
+  pub copy_apart : is_among params arguments_copy ≡ false
+  copy_apart = (no_guest arguments_copy refl).1
+
+-- the scope when `arguments` was read and copied has two names more
+
+pub other_bound : (x : List ℕ) (a b : EsValue) (all : Names) → same_units x arguments_copy ≡ false → is_arguments x ≡ false → name_value x (with_name arguments_copy a (with_name arguments_name b all)) ≡ name_value x all
+other_bound x a b all apart own = name_value-with_name-other arguments_copy x a (with_name arguments_name b all) apart ∙ name_value-with_name-other arguments_name x b all own
+
+pub names_more : {all : Names} {vars free vars1 free1 : KnownNames} {q : ℕ} (a b : EsValue) → ScopeNames all vars free vars1 free1 q → ScopeNames (with_name arguments_copy a (with_name arguments_name b all)) vars free vars1 free1 q
+names_more {all = all} a b p =
+    let one = with_name arguments_name b all in
+    let fewer : (x : List ℕ) → is_some (name_value x (with_name arguments_copy a one)) ≡ false → is_some (name_value x all) ≡ false = λ x e.
+    (left_none (same_units x arguments_name) (is_some (name_value x all)) (sym (name_bound x arguments_name b all) ∙ (left_none (same_units x arguments_copy) (is_some (name_value x one)) (sym (name_bound x arguments_copy a one) ∙ e)).1)).1 in
+    record {
+      temps = λ i lt. ap is_some (other_bound (temp_name i) a b all refl refl) ∙ p.temps i lt;
+      runtime = ap is_some (other_bound runtime_name a b all refl refl) ∙ p.runtime;
+      read = λ x e known. p.read x (fewer x e) known;
+      write = λ x e known. p.write x (fewer x e) known;
+    }

@@ -111,7 +111,7 @@ same_self : (n : ℕ) → nat_eq n n ≡ true
 same_self n = grind (arith, nat_tests)
 
 -- a name of the last scope takes a value
-scope_declared : (by : ℕ) (x : List ℕ) (v : World.Value) (p : Pairs) (scopes : ℕ → List Pairs) → let longer = with_last by p scopes in World.with_list by (slice_set (longer by) (length (scopes by)) (with_value x v (scope_at (slice_get (longer by) (length (scopes by)))))) longer ≡ with_last by (with_value x v p) scopes
+pub scope_declared : (by : ℕ) (x : List ℕ) (v : World.Value) (p : Pairs) (scopes : ℕ → List Pairs) → let longer = with_last by p scopes in World.with_list by (slice_set (longer by) (length (scopes by)) (with_value x v (scope_at (slice_get (longer by) (length (scopes by)))))) longer ≡ with_last by (with_value x v p) scopes
 scope_declared by x v p scopes = fun_ext (λ k.
     let q = with_value x v p in
     let there : with_last by p scopes by ≡ scopes by ++ p ∷ [] = ap (λ b. cond b (scopes by ++ p ∷ []) (scopes by)) (same_self by) in

@@ -58,7 +58,7 @@ few_rest f fs m few j lt = let h = few (suc j) (omega (arith, lt)) in omega (ari
 
 -- codes and objects more, and the same scopes
 
-codes_kept : (fs : c.Tree c.funcs) (chain : List ℕ) (codes : List Code) (k : ℕ) (code : Code) → slice_get codes k ≡ Some code → slice_get (all_codes fs chain codes) k ≡ Some code
+pub codes_kept : (fs : c.Tree c.funcs) (chain : List ℕ) (codes : List Code) (k : ℕ) (code : Code) → slice_get codes k ≡ Some code → slice_get (all_codes fs chain codes) k ≡ Some code
 codes_kept c.no_funcs chain codes k code e = e
 codes_kept (c.more_funcs f fs) chain codes k code e = codes_kept fs chain (codes ++ declared_code f chain ∷ []) k code (slice_get-push-other codes k (declared_code f chain) (slice_get_within codes k code e) ∙ e)
 
@@ -168,7 +168,7 @@ related_declared {w = w} {g = g} {s = s} {owner = owner} {names = names} fs by d
       kept = r.kept;
     }
 
-closures_older : (fs : c.Tree c.funcs) (direct : List ℕ) (by : ℕ) (objects : ℕ → List Object) (a l : ℕ) (o : Object) → slice_get (objects a) l ≡ Some o → slice_get (all_objects fs direct by objects a) l ≡ Some o
+pub closures_older : (fs : c.Tree c.funcs) (direct : List ℕ) (by : ℕ) (objects : ℕ → List Object) (a l : ℕ) (o : Object) → slice_get (objects a) l ≡ Some o → slice_get (all_objects fs direct by objects a) l ≡ Some o
 closures_older c.no_funcs direct by objects a l o e = e
 closures_older (c.more_funcs f fs) direct by objects a l o e = closures_older fs direct by (with_last by (a_closure f direct) objects) a l o (last_kept by a l (a_closure f direct) o objects e)
 
