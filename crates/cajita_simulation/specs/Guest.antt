@@ -129,12 +129,12 @@ Guest vars free _ c.no_stmts = Unit {0}
 Guest vars free _ (c.more_stmts s rest) = Guest vars free _ s × Guest vars free _ rest
 Guest vars free _ c.no_funcs = Unit {0}
 Guest vars free _ (c.more_funcs f fs) = Guest vars free _ f × Guest vars free _ fs
--- a function that reads no `arguments`: its parameters, each once, and its variables have names that a module may use, each variable that a statement declares is among
--- them, its temporaries have names of their own, its jumps are its own, and the functions that it declares have names of their own
-Guest vars free _ (c.fun name params false (c.a_body fs names list)) =
+-- a function: its parameters, each once, and its variables have names that a module may use, each variable that a statement declares is among them, its temporaries have
+-- names of their own, its jumps are its own, and the functions that it declares have names of their own
+Guest vars free _ (c.fun name params args (c.a_body fs names list)) =
     ((x : List ℕ) → is_among params x ≡ true → GuestName x) × ((x : List ℕ) → is_among names x ≡ true → GuestName x) × AreDistinct params × ((x : List ℕ) → is_among (declared c.stmts list) x ≡ true → is_among names x ≡ true)
     × (temps c.stmts list < 18446744073709551616) × Targets function_jumps [] c.stmts list × NewFuncs params names fs
-    × Guest (within params names fs false vars) (within params names fs false free) _ fs × Guest (within params names fs false vars) (within params names fs false free) _ list
+    × Guest (within params names fs args vars) (within params names fs args free) _ fs × Guest (within params names fs args vars) (within params names fs args free) _ list
 Guest vars free _ c.no_stmt = Unit {0}
 Guest vars free _ (c.some_stmt x) = Guest vars free _ x
 Guest vars free _ c.no_block = Unit {0}

@@ -1,5 +1,5 @@
 -- The call of a closure: both enter it, run its statements, and go back.
-use Rattle.std.proofs.Common.{◌≡◌, ℕ, zero, suc, ◌+◌, ◌≤◌, ◌<◌, true, false, List, [], ◌∷◌, ◌++◌, length, Option, None, cond, refl, sym, subst, arith}
+use Rattle.std.proofs.Common.{◌≡◌, ℕ, zero, suc, ◌+◌, ◌≤◌, ◌<◌, true, false, List, [], ◌∷◌, ◌++◌, length, Option, None, cond, refl, sym, subst, arith, ap, ◌∙◌, ◌*◌}
 use Rattle.std.specs.Prelude.{nat_lt}
 use Rattle.plans.specs.Plans.{bind, depth_fault, stops}
 use Rattle.acts.specs.Acts.{replied, answer, fault}
@@ -7,41 +7,45 @@ use Rattle.matching.proofs.Rules.{right_enter, left_tick, left_told, both_stop}
 use Rattle.es3_tree.specs.Tree as t
 use Rattle.es3_heap.specs.declared.value.Value.TheVariants as es
 use Rattle.es3_heap.specs.Objects as heap
-use Rattle.es3_language.specs.Store.{Store, activation, with_vars, with_params, with_scope}
+use Rattle.es3_language.specs.Store.{Store, activation, with_vars, with_params, with_scope, with_heap}
 use Rattle.es3_language.specs.Hoisting.{functions_of}
 use Rattle.es3_language.specs.Expressions.{apply_callable, with_functions, open_code, this_of}
 use Rattle.es3_language.specs.Meaning as Target
 use Rattle.cajita_tree.specs.Tree as c
 use Rattle.cajita_rewrite.specs.Rewrite.{rewritten, temps, declared, others, temp_items, name_items, var_stmts, marks}
 use Rattle.cajita_meaning.specs.World as World
-use Rattle.cajita_meaning.specs.World.{Value, next_scope, World as State}
+use Rattle.cajita_meaning.specs.World.{Value, next_scope, World as State, made_name}
 use Rattle.cajita_meaning.specs.Asking as Asking
-use Rattle.cajita_meaning.specs.Asking.{passing, stepping_all, count_of, functions_made, entry_reply, statements_reply, returned_reply, good_value}
-use Rattle.cajita_meaning.specs.Direct.{Item, passed, printed}
+use Rattle.cajita_meaning.specs.Asking.{passing, stepping_all, count_of, functions_made, entry_reply, statements_reply, returned_reply, good_value, arguments_made}
+use Rattle.cajita_meaning.specs.Direct.{Item, passed, printed, made}
 use Rattle.page_natives.specs.Natives.{Kept}
 use Rattle.cajita_simulation.specs.Guest.{Guest, within}
 use Rattle.cajita_simulation.specs.Jumps.{function_jumps}
 use Rattle.cajita_simulation.proofs.Doing as Source
 use Rattle.cajita_simulation.proofs.Doing.{good, bad}
-use Rattle.cajita_simulation.proofs.Relation.{EsValue, Vals, Here, env_of, Tags, Temps, tag_of_scope, ScopeIs, AreScopes, Captured, In, CodeIs, Related, Rel, Stays, stays_refl, stays_trans, stays_before, rel_less, related_steps}
-use Rattle.cajita_simulation.proofs.Scopes.{in_stays}
+use Rattle.cajita_simulation.proofs.Relation.{EsValue, Vals, Here, env_of, Tags, Temps, tag_of_scope, ScopeIs, AreScopes, Captured, In, CodeIs, Related, Rel, Stays, stays_refl, stays_trans, stays_before, rel_less, related_steps, objects_step}
+use Rattle.cajita_simulation.proofs.Scopes.{in_stays, captured_stays}
 use Rattle.cajita_simulation.proofs.Writes.{Covers}
-use Rattle.cajita_simulation.proofs.Changes.{rel_told, related_told}
+use Rattle.cajita_simulation.proofs.Changes.{rel_told, related_told, shaped_heap, printed_quiet}
 use Rattle.cajita_simulation.proofs.Laws.{Targets, bare, NextValue, NextEffect, effect_from, Cont, Cont', M, Room, room_part, steps_hold}
 use Rattle.cajita_simulation.proofs.Rows.{Going}
 use Rattle.cajita_simulation.proofs.Forms.List.{Effects, behind'}
 use Rattle.cajita_simulation.proofs.Entering.{names_new, scopes_are, scope_runtime}
 use Rattle.cajita_simulation.proofs.Calls.{opened_of}
-use Rattle.cajita_simulation.proofs.Declaring.Stores.{bare_store, named_store, bound_names, functions_first}
-use Rattle.cajita_simulation.proofs.Declaring.Names.{Placed, placed, bound_pairs, objects_world, declared_world, world_is}
-use Rattle.cajita_simulation.proofs.Declaring.Relation.{one_each, one_each_is, Few, shaped_named, scope_alike, related_declared, stays_declared}
+use Rattle.cajita_simulation.proofs.Declaring.Stores.{bare_store, named_store, bound_names, functions_first, all_codes}
+use Rattle.cajita_simulation.proofs.Declaring.Names.{Placed, placed, bound_pairs, objects_world, declared_world, world_is, scope_declared}
+use Rattle.cajita_simulation.proofs.Declaring.Relation.{one_each, one_each_is, Few, shaped_named, scope_alike, related_declared, stays_declared, shaped_bare, opened_bare, closures_older}
 use Rattle.cajita_simulation.proofs.Declaring.Marks.{Entered, six, six_is, marks_match, declares_match}
-use Rattle.cajita_simulation.proofs.Calling.Names.{NewNames, ScopeNames, heads, behind_head, statements, own_names, new_names, functions_are, scope_names, call_alike}
+use Rattle.cajita_simulation.proofs.Calling.Names.{NewNames, ScopeNames, heads, behind_head, statements, own_names, new_names, functions_are, scope_names, call_alike, own_heads, names_more, call_alike_own, arguments_unbound, copy_undefined, copy_apart}
 use Rattle.cajita_simulation.proofs.Calling.Entering.{inside, declares, declares_room, declares_covers, captured_enter, in_enter, new_scopes, rel_back}
 use Rattle.cajita_simulation.proofs.Calling.Laws.{ClosureLaw}
+use Rattle.cajita_simulation.proofs.Calling.Reading.{inner_store, shaped_inner, shaped_whole, await_here, begun_here, array_named, item_plain, alike_here, placed_more, related_here}
+use Rattle.cajita_simulation.proofs.Calling.Head.{args_names, answers_are, args_head}
+use Rattle.cajita_simulation.proofs.Calling.Params.{params_there}
 use Rattle.cajita_simulation.proofs.Declaring.Granting.{awaiting_match}
-use Rattle.cajita_simulation.proofs.Calling.Head.{args_head}
-use Rattle.cajita_simulation.proofs.Calling.Reading.{related_here}
+use Rattle.cajita_simulation.proofs.Declaring.Awaiting.{Begun}
+use Rattle.es3_language.specs.Arguments.{arguments_name}
+use Rattle.row_simulation.proofs.Changes.{last_kept}
 
 -- names are bound, each with a step of the direct meaning
 ticked : (H : Here) {d : ℕ} (count : ℕ) (w : State) (p : Asking.Reply) (go : Going) (next : Cont) {z : List Item} (n : ℕ) {q : Target.Plan} {y : Kept} {m : ℕ} → ((n' : ℕ) → n' ≡ n + count → M H d (bind (replied p go) next) z n' q y m) → M H d (bind (replied (stepping_all count w p) go) next) z n q y m
@@ -127,10 +131,10 @@ body_ends {H = H} J {T = T} go next next' f are here keep x = record {
     no_jump e = cc
 
 -- a closure's code is called
-closure_match : {H : Here} {T : Temps} {d k : ℕ} → ((J : Here) → J.by < 64 → Effects J d) → (a by i : ℕ) (f : c.Tree c.func) (direct : List ℕ) (this : EsValue) (us : List Value) (qs : List EsValue) {w : State} {z : List Item} {n : ℕ} {g : Tags} {s : Store} {y : Kept} {m : ℕ} (go : Going) (next : Cont) (next' : Cont') → a < d → by < 64 → CodeIs by g s f direct i → Vals s.heap us qs → Rel H T (suc k) w z n g s y m → NextValue H T a k w g s m (Source.called_next go next) next'
+closure_match : {H : Here} {T : Temps} {d k : ℕ} → ((J : Here) → J.by < 64 → Effects J d) → (a by i : ℕ) (f : c.Tree c.func) (direct : List ℕ) (this : EsValue) (us : List Value) (qs : List EsValue) {w : State} {z : List Item} {n : ℕ} {g : Tags} {s : Store} {y : Kept} {m : ℕ} (go : Going) (next : Cont) (next' : Cont') → a < d → by < 64 → CodeIs by g s f direct i → Vals s.heap us qs → (m ≤ 4294967295 → length qs < 4294967296) → Rel H T (suc k) w z n g s y m → NextValue H T a k w g s m (Source.called_next go next) next'
     → M H a (bind (replied (entry_reply f direct by us H.around.calls H.by w) go) next) z n (bind (apply_callable (heap.callable_of (heap.object_at s.heap i)) (es.Obj i) this qs (env_of H) s) next') y m
 unfolding rewritten
-closure_match {H = H} {T = T} {k = k} effects a by i (c.fun name params false (c.a_body fs names xs)) direct this us qs {w = w} {z = z} {n = n} {g = g} {s = s} {y = y} {m = m} go next next' lt below code is r x =
+closure_match {H = H} {T = T} {k = k} effects a by i (c.fun name params false (c.a_body fs names xs)) direct this us qs {w = w} {z = z} {n = n} {g = g} {s = s} {y = y} {m = m} go next next' lt below code is few r x =
     let f = c.fun name params false (c.a_body fs names xs) in
     let q = temps c.stmts xs in
     let guest = code.guest in
@@ -162,11 +166,11 @@ closure_match {H = H} {T = T} {k = k} effects a by i (c.fun name params false (c
     let body = rewritten false c.stmts 0 xs in
     let ends : Store → Target.Plan = λ s1. Target.list true (statements false fs names xs) None (env_of J) s1 Target.body_end in
     let statements_match : (z' : List Item) (n' m1 : ℕ) → Rel H T (suc k) w z' n g s y m → n' ≡ n + count → m ≤ m1 → m1 ≤ suc m → (acc : Option EsValue) (z2 : List Item) → printed z2 ≡ printed z' → Few fs (one_each fs m1) → M H a (bind (replied (done (declared_world fs number outer by (World.with_scope by first_pairs w))) go) next) z2 n' (bind (Target.list true body acc (env_of J) (named_store fs chain by scoped) Target.body_end) next') y (six fs (one_each fs m1)) =
-    λ z' n' m1 r0 same from to acc z2 told few.
+    λ z' n' m1 r0 same from to acc z2 told named.
     let ones = one_each_is fs m in
     let ones1 = one_each_is fs m1 in
     let sixes = six_is fs (one_each fs m1) in
-    let few0 : Few fs m = λ j lt. let h = few j lt in omega (arith, h, ones1, from) in
+    let few0 : Few fs m = λ j lt. let h = named j lt in omega (arith, h, ones1, from) in
     let alike : ScopeIs (named_store fs chain by s).heap pairs all = λ x shown. scope_alike params names fs g s by outer chain below few0 r.all.objects guest.6 x first_pairs firsts (call_alike s.heap us qs news is x shown) in
     let scopes = new_scopes by number g (named_store fs chain by s) (es.Obj i) params qs new T pairs alike in
     let begun : Related T 0 w z' n' g s y m = related_steps (omega arith) (omega (arith, r0.all.steps, same)) r0.all in
@@ -190,7 +194,98 @@ closure_match {H = H} {T = T} {k = k} effects a by i (c.fun name params false (c
     ] in
     subst (λ o. M H a (bind (replied (entry_reply f direct by us H.around.calls H.by w) go) next) z n (bind (apply_callable o (es.Obj i) this qs (env_of H) s) next') y m) (sym code.callable)
     (subst (λ o. M H a (bind (replied (entry_reply f direct by us H.around.calls H.by w) go) next) z n (bind (open_code o by (es.Obj i) (this_of this s) qs H.around.calls s Target.body_end) next') y m) (sym code.code) cases)
-closure_match effects a by i _ direct this us qs go next next' lt below code is r x = absurd code.guest
+closure_match {H = H} {T = T} {k = k} effects a by i (c.fun name params true (c.a_body fs names xs)) direct this us qs {w = w} {z = z} {n = n} {g = g} {s = s} {y = y} {m = m} go next next' lt below code is few r x =
+    let f = c.fun name params true (c.a_body fs names xs) in
+    let q = temps c.stmts xs in
+    let guest = code.guest in
+    let vars' = own_names true fs names xs in
+    let news : NewNames true params names vars' q = new_names _ _ true fs names xs guest.8 guest.1 guest.3 params guest.0 in
+    let act = length s.scopes in
+    let place = length s.heap.list in
+    let number = next_scope by w in
+    let chain = length s.scopes ∷ code.chain in
+    let outer = next_scope by w ∷ direct in
+    let vars1 = within params names fs true code.vars in
+    let free1 = within params names fs true code.free in
+    let J = inside H by number act vars1 free1 direct code.chain (this_of this s) in
+    let firsts = with_vars vars' (with_params params qs []) in
+    let all = bound_names fs (length s.heap.list) firsts in
+    let new : ScopeNames all code.vars code.free vars1 free1 q = scope_names fs (length s.heap.list) qs news guest.6 code.vars code.free in
+    let owner = activation (es.Obj i) params qs in
+    let scoped = with_scope owner all s in
+    let first_pairs = World.with_vars names (World.with_params params us []) in
+    let tag = tag_of_scope by number in
+    let tags = g ++ tag_of_scope by number ∷ [] in
+    let captured : Captured vars1 free1 by tags outer chain scoped = captured_enter by number g s (es.Obj i) params qs new r.all.scopes.count r.all.scopes.are code.captured in
+    let stands : In J tags scoped = in_enter by number g s (es.Obj i) params qs new H (this_of this s) captured in
+    let are : AreScopes scoped = scopes_are owner all s tt r.all.scopes.are in
+    let count = length params + (1 + (length names + count_of fs)) in
+    let done : State → Asking.Reply = λ w2. statements_reply xs J.around by H.by w2 in
+    let arr = World.an_array true us in
+    let v = World.object (World.next_name by w) in
+    let pairs1 = World.with_value arguments_name v first_pairs in
+    let w1 = World.with_object by arr w in
+    let w2 = World.with_scope by pairs1 w1 in
+    let world1 : World.declare by number arguments_name v (World.with_object by arr (World.with_scope by first_pairs w)) ≡ w2 = ap (λ scopes. let u : State = record { objects = w1.objects; scopes = scopes; cells = w.cells; queues = w.queues; revoked = w.revoked; nodes = w.nodes; handlers = w.handlers } in u) (scope_declared by arguments_name v first_pairs w.scopes) in
+    let source : Asking.Reply = arguments_made true us number by (World.with_scope by first_pairs w) (λ w3. functions_made fs number outer by w3 done) in
+    let target : List (t.Tree t.func) → Target.Plan = λ l. Target.list true (statements true fs names xs) None (env_of J) (with_functions l act chain by (with_scope owner firsts s)) Target.body_end in
+    let body = rewritten false c.stmts 0 xs in
+    let sb = bare_store fs chain by s in
+    let sF = inner_store fs by outer chain (es.Obj i) params us qs all tag w g s in
+    let names1 = args_names (es.Obj i) params qs all sb in
+    let S = with_scope owner names1 sF in
+    let hB = sF.heap in
+    let new2 : ScopeNames names1 code.vars code.free vars1 free1 q = names_more _ _ new in
+    let captured2 : Captured vars1 free1 by tags outer chain S = captured_enter by number g sF (es.Obj i) params qs new2 r.all.scopes.count r.all.scopes.are (captured_stays (shaped_inner fs by outer chain (es.Obj i) params us qs all tag w g s hB) r.all.scopes.are r.all.scopes.are code.captured) in
+    let stands2 : In J tags S = in_enter by number g sF (es.Obj i) params qs new2 H (this_of this s) captured2 in
+    let are2 : AreScopes S = scopes_are owner names1 sF tt r.all.scopes.are in
+    let marked : (z' : List Item) (n' : ℕ) → Rel H T (suc k) w z' n g s y m → n' ≡ n + count → (z1 : List Item) → printed z1 ≡ printed z' → suc (suc (suc (suc (suc (suc m))))) ≤ 4294967295 → M H a (bind (replied (functions_made fs number outer by w2 done) go) next) z1 n' (bind (Target.list true (behind_head fs xs) None (env_of J) S Target.body_end) next') y (suc (suc (suc (suc (suc (suc m)))))) =
+    λ z' n' r0 same z1 told small.
+    let m6 = suc (suc (suc (suc (suc (suc m))))) in
+    let ones = one_each_is fs m6 in
+    let sixes = six_is fs (one_each fs m6) in
+    let long : length qs < 4294967296 = few (omega (arith, small)) in
+    let begun0 = begun_here fs by outer chain (es.Obj i) params us qs all tag w g s below (omega (arith, small)) long is r.all.objects r.all.scopes.are r.all.closures in
+    let begun1 : Begun w2.objects s.heap tags S (one_each fs m6) = record { objects = objects_step (omega (arith, ones)) begun0.objects; keeps = begun0.keeps; closures = begun0.closures } in
+    declares_match H.rules (env_of J) fs (marks fs body) None S Target.body_end next'
+    (awaiting_match {J = J} params names S s.heap fs body None number place outer chain code.chain w2 done go next {h = hB} Target.body_end next' below refl guest.6 stands2 are2 (scope_runtime owner names1 sF new2.runtime r.all.scopes.runtime) captured2 guest.7 (await_here fs by outer chain (es.Obj i) params us qs all tag w g s) (subst (λ l. Placed fs place l) (sym (names_new owner names1 sF)) (placed_more params names fs place _ _ all guest.6 (placed params names fs place firsts guest.6))) (omega arith) r.all.objects.large begun1 (omega (arith, r0.all.steps, same, ones, sixes)) (told ∙ r0.all.items) (λ acc z2 h' told2 begun2 given later.
+    let pairs = bound_pairs fs outer by w1.objects pairs1 in
+    let S2 = with_heap S h' in
+    let array = later.still.named (made_name by (length (w.objects by))) _ (array_named fs by outer chain (es.Obj i) params us qs all tag w g s below (omega (arith, small)) long is r.all.objects) in
+    let alike : ScopeIs h' pairs names1 = alike_here fs by outer chain (es.Obj i) params us qs all tag w g s params names place first_pairs firsts s.heap v _ _ h' guest.6 begun2.keeps array (λ x shown. call_alike_own s.heap us qs news is x shown) given in
+    let scopes = new_scopes by number g (record s { heap = h'; codes = all_codes fs chain s.codes }) (es.Obj i) params qs new2 T pairs alike in
+    let before : Related T 0 w z2 n' g s y m = related_told (told2 ∙ told) (related_steps (omega arith) (omega (arith, r0.all.steps, same)) r0.all) in
+    let plain = later.plain _ (item_plain fs by outer chain (es.Obj i) params us qs all tag w g s below (omega (arith, small)) long is r.all.objects) in
+    let both = related_here {k = k} fs by outer chain (es.Obj i) params us qs all h' (omega (arith, r0.all.steps, same, ones, sixes)) scopes plain begun2 before in
+    let r1 : Rel J (declares act q T) k (World.with_scope by pairs (objects_world fs outer by w1)) z2 n' tags S2 y (six fs (one_each fs m6)) = record { all = both; here = in_stays (shaped_heap tags S h') are2 are2 stands2 } in
+    let stays : Stays w g s m (World.with_scope by pairs (objects_world fs outer by w1)) tags S2 (six fs (one_each fs m6)) = record {
+      heap = record { objects = begun2.keeps; more = omega (arith, ones, sixes) };
+      shaped = shaped_whole fs by outer chain (es.Obj i) params us qs all tag w g s h';
+      closed = record { closures = λ a l o chain' e. closures_older fs outer by w1.objects a l (World.a_closure o chain') (last_kept by a l arr (World.a_closure o chain') w.objects e) };
+    } in
+    subst (λ u. M H a (bind (replied (done u) go) next) z2 n' (bind (Target.list true body acc (env_of J) S2 Target.body_end) next') y (six fs (one_each fs m6))) (sym (world_is fs outer by pairs1 w1))
+    (own_match {J = J} H.by (effects J below) xs guest.8 guest.5 0 acc a k go Target.body_end next next' lt (declares_room {H = J} q T guest.4) r1
+    (body_ends {H = H} J go next next' (declares_covers q T r.all.scopes) r.all.scopes.are r.here stays x)))) in
+    let ends : Store → Target.Plan = λ s1. Target.list true (statements true fs names xs) None (env_of J) s1 Target.body_end in
+    let entered : (z' : List Item) → Rel H T (suc k) w z' n g s y m → (n' : ℕ) → n' ≡ n + count → M H a (bind (replied source go) next) z' n' (bind (ends (with_scope owner all sb)) next') y m = λ z' r0 n' same.
+    let told = printed_quiet z' (made by (World.next_name by w) ∷ []) refl in
+    left_told {p = bind (replied (functions_made fs number outer by (World.declare by number arguments_name v (World.with_object by arr (World.with_scope by first_pairs w))) done) go) next}
+    (subst (λ u. M H a (bind (replied (functions_made fs number outer by u done) go) next) (z' ++ made by (World.next_name by w) ∷ []) n' (bind (ends (with_scope owner all sb)) next') y m) (sym world1)
+    (args_head (es.Obj i) params qs all sb H by number vars1 free1 direct code.chain (this_of this s) s.heap (own_heads names xs) (behind_head fs xs) Target.body_end next'
+    (in_stays (shaped_bare fs chain by tags scoped) are are stands) (scope_runtime owner all s new.runtime r.all.scopes.runtime) (opened_bare fs chain by s.codes s.heap (opened_of r.all.objects)) r.all.scopes.shared
+    (arguments_unbound fs place qs news guest.6) (copy_undefined fs place qs news guest.6 refl) (copy_apart fs place qs news guest.6)
+    (λ one. answers_are (es.Obj i) params qs all sb (env_of J) guest.2 (params_there params names fs place vars' qs guest.2 guest.6) (few (omega (arith, one))))
+    (λ s1. no_values (own_heads names xs) (env_of J) s1 (temps_none 0 q _ (names_none (others names (declared c.stmts xs)))))
+    (omega (arith, r0.all.steps, same)) (told ∙ r0.all.items) (λ small. marked z' n' r0 same (z' ++ made by (World.next_name by w) ∷ []) told small))) in
+    let goes : (z' : List Item) → Rel H T (suc k) w z' n g s y m → (n' : ℕ) → n' ≡ n + count → M H a (bind (replied source go) next) z' n' (bind (target (functions_of (statements true fs names xs))) next') y m = λ z' r0 n' same.
+    subst (λ l. M H a (bind (replied source go) next) z' n' (bind (target l) next') y m) (sym (functions_are _ _ true fs names xs guest.8))
+    (subst (λ s1. M H a (bind (replied source go) next) z' n' (bind (ends s1) next') y m) (sym (functions_first fs owner firsts chain by s)) (entered z' r0 n' same)) in
+    let cases = elim (nat_lt H.around.calls 1000) as (λ b. M H a (bind (replied (cond b (passing H.by by us (stepping_all count w source)) (fault depth_fault w)) go) next) z n (bind (cond b (target (functions_of (statements true fs names xs))) (stops depth_fault s)) next') y m) [
+      | false ↦ both_stop (steps_hold r) (refl, tt, r.all.items)
+      | true ↦ passed_match H.by by us (stepping_all count w source) go next r (λ z' r0. ticked H count w source go next n (λ n' same. goes z' r0 n' same))
+    ] in
+    subst (λ o. M H a (bind (replied (entry_reply f direct by us H.around.calls H.by w) go) next) z n (bind (apply_callable o (es.Obj i) this qs (env_of H) s) next') y m) (sym code.callable)
+    (subst (λ o. M H a (bind (replied (entry_reply f direct by us H.around.calls H.by w) go) next) z n (bind (open_code o by (es.Obj i) (this_of this s) qs H.around.calls s Target.body_end) next') y m) (sym code.code) cases)
 
 pub closure_law : {d : ℕ} → ((J : Here) → J.by < 64 → Effects J d) → (H : Here) → ClosureLaw H d
-closure_law effects H = record { on = λ by i f direct this us qs go next next' lt below code is r x. closure_match effects _ by i f direct this us qs go next next' lt below code is r x }
+closure_law effects H = record { on = λ by i f direct this us qs go next next' lt below code is few r x. closure_match effects _ by i f direct this us qs go next next' lt below code is few r x }

@@ -113,6 +113,9 @@ module _ (fs : c.Tree c.funcs) (by : ℕ) (direct chain : List ℕ) (f : EsValue
   pub shaped_whole : (h : Objects) → Shaped g s (g ++ t ∷ []) (with_heap whole_store h)
   shaped_whole h = shaped_trans (shaped_inner h) (shaped_scope g t (activation f params qs) names_here (with_heap inner_store h))
 
+  shaped_behind : Shaped g (with_heap s hB) (g ++ t ∷ []) whole_store
+  shaped_behind = shaped_trans (record { count = omega arith; shape = λ a x lt. refl; fixed = λ a lt. refl; codes = λ k code e. codes_kept fs chain s.codes k code e; tags = λ a u e. e }) (shaped_scope g t (activation f params qs) names_here inner_store)
+
   keeps_bare_here : rows.Keeps s.heap hA
   keeps_bare_here = row_laws.keeps_trans (keeps_bare fs chain by s.codes s.heap) (awaiting_keeps (bare_store fs chain by s).heap item refl)
 
@@ -146,7 +149,7 @@ module _ (fs : c.Tree c.funcs) (by : ℕ) (direct chain : List ℕ) (f : EsValue
     begun_here are closures = record {
       objects = objects_after;
       keeps = keeps_here;
-      closures = closures_array w.objects by us (closures_shaped w.objects {g = g} {s = with_heap s hB} refl (shaped_whole hB) are (scopes_are (activation f params qs) names_here inner_store tt are) (closures_kept {s = s} keeps_here are old closures));
+      closures = closures_array w.objects by us (closures_shaped w.objects {g = g} {g' = g ++ t ∷ []} {s = with_heap s hB} {s' = whole_store} refl shaped_behind are (scopes_are (activation f params qs) names_here inner_store tt are) (closures_kept {s = s} keeps_here are old closures));
     }
 
   -- variables are the same on both sides, once the functions have their names
