@@ -1,6 +1,6 @@
 -- The rows of the built-in functions: all end by themselves, but those of `call` and `apply`, which end in a call of what they have looked at. Those of nodes refuse
 -- whatever is no node.
-use Rattle.std.proofs.Common.{◌≡◌, ℕ, zero, ◌-◌, Bool, true, false, List, [], ◌∷◌, ◌++◌, length, Option, Some, None, cond, ◌⊎◌, inl, inr, refl}
+use Rattle.std.proofs.Common.{◌≡◌, ℕ, zero, suc, ◌+◌, ◌-◌, ◌≤◌, Bool, true, false, List, [], ◌∷◌, ◌++◌, length, Option, Some, None, cond, ◌⊎◌, inl, inr, refl, ap, arith}
 use Rattle.std.specs.Prelude.{ℤ, pos, codes, nat_eq, int_lt, drop, reverse}
 use Rattle.rows.specs.Rows as r
 use Rattle.rows.specs.Rows.{Handle, Sight, Ending, Row, Native}
@@ -14,7 +14,7 @@ use Rattle.rows.specs.Table.{row_of}
 use Rattle.heap_rows.specs.Natives.{is_common}
 use Rattle.row_simulation.specs.Among.{IsSightAmong}
 use Rattle.cajita_simulation.proofs.Rows.{EndsPlainly, IsPlain}
-use Rattle.cajita_simulation.proofs.Calling.Calls.{Looked, EndsCalling, IsCalling}
+use Rattle.cajita_simulation.proofs.Calling.Calls.{Looked, CallsSeen, EndsCalling, IsCalling}
 
 -- what is done with a value is done in each way that it may be seen
 
@@ -176,56 +176,64 @@ built_in_plain rules _ p n = absurd p
 
 -- `call` and `apply`
 
-call_seen : (x : Handle) (xs : List Handle) (s : Sight) → EndsCalling ((r.held 0, s) ∷ []) (core.call_it x xs s)
-call_seen x xs (r.a_function sort) = inl (refl, tt)
-call_seen x xs (r.a_stranger true) = inl (refl, tt)
-call_seen x xs (r.a_stranger false) = tt
-call_seen x xs s = tt
+values_long : (i n : ℕ) → length (args.values_from i n) ≡ n
+values_long i zero = refl
+values_long i (suc n) = ap suc (values_long (i + 1) n)
 
-pub call_calling : (n : ℕ) → IsCalling [] (core.call n)
-call_calling n = λ s. call_seen (args.argument 0 n) (args.values_from 2 (n - 2)) s
+-- fewer values than there are
+pub fewer : (n : ℕ) → length (args.values_from 2 (n - 2)) ≤ n - 1
+fewer n = let l = values_long 2 (n - 2) in omega (arith, l)
 
-list_seen : (x l : Handle) (t s : Sight) → EndsCalling ((r.held 0, s) ∷ []) (r.calls true (r.held 0) x []) → EndsCalling ((l, t) ∷ (r.held 0, s) ∷ []) (core.apply_list x t)
-list_seen x l r.nothing s p = inr p
-list_seen x l r.a_null s p = inr p
-list_seen x l (r.an_array frozen xs) s p = inr p
-list_seen x l t s p = tt
+call_seen : (b : ℕ) (x : Handle) (xs : List Handle) (s : Sight) → length xs ≤ b → EndsCalling b ((r.held 0, s) ∷ []) (core.call_it x xs s)
+call_seen b x xs (r.a_function sort) few = (inl (refl, tt), inl few)
+call_seen b x xs (r.a_stranger true) few = (inl (refl, tt), inl few)
+call_seen b x xs (r.a_stranger false) few = tt
+call_seen b x xs s few = tt
 
-apply_seen : (x l : Handle) (s : Sight) → IsCalling ((r.held 0, s) ∷ []) (core.apply_to x l s)
-apply_seen x l (r.a_function sort) = λ t. list_seen x l t (r.a_function sort) (inl (refl, tt))
-apply_seen x l (r.a_stranger true) = λ t. list_seen x l t (r.a_stranger true) (inl (refl, tt))
-apply_seen x l (r.a_stranger false) = tt
-apply_seen x l s = tt
+pub call_calling : (n : ℕ) → IsCalling (n - 1) [] (core.call n)
+call_calling n = λ s. call_seen (n - 1) (args.argument 0 n) (args.values_from 2 (n - 2)) s (fewer n)
 
-pub apply_calling : (n : ℕ) → IsCalling [] (core.apply n)
-apply_calling n = apply_seen (args.argument 0 n) (args.argument 1 n)
+list_seen : (b : ℕ) (x l : Handle) (t s : Sight) → CallsSeen ((r.held 0, s) ∷ []) (r.held 0) → EndsCalling b ((l, t) ∷ (r.held 0, s) ∷ []) (core.apply_list x t)
+list_seen b x l r.nothing s p = (inr p, inl (omega arith))
+list_seen b x l r.a_null s p = (inr p, inl (omega arith))
+list_seen b x l (r.an_array frozen xs) s p = (inr p, inr (inl refl))
+list_seen b x l t s p = tt
+
+apply_seen : (b : ℕ) (x l : Handle) (s : Sight) → IsCalling b ((r.held 0, s) ∷ []) (core.apply_to x l s)
+apply_seen b x l (r.a_function sort) = λ t. list_seen b x l t (r.a_function sort) (inl (refl, tt))
+apply_seen b x l (r.a_stranger true) = λ t. list_seen b x l t (r.a_stranger true) (inl (refl, tt))
+apply_seen b x l (r.a_stranger false) = tt
+apply_seen b x l s = tt
+
+pub apply_calling : (n : ℕ) → IsCalling (n - 1) [] (core.apply n)
+apply_calling n = apply_seen (n - 1) (args.argument 0 n) (args.argument 1 n)
 
 -- a row that ends by itself ends in no other call than one of what was looked at
 
-ends_calling : (e : Ending) (o : Looked) → EndsPlainly e → EndsCalling o e
-ends_calling (r.calls recorded f t xs) o p = absurd p
-ends_calling (r.answers x) o p = p
-ends_calling (r.throws message) o p = p
-ends_calling (r.faults f) o p = p
-ends_calling (r.lists ks) o p = absurd p
-ends_calling (r.makes_array frozen xs) o p = p
-ends_calling (r.copies_record frozen x) o p = p
-ends_calling (r.makes_error maker message) o p = p
-ends_calling (r.reads_key u k x) o p = p
-ends_calling (r.writes_key u k x) o p = p
-ends_calling (r.drops_key u k) o p = p
-ends_calling (r.sets_items u xs x) o p = p
-ends_calling (r.freezes u) o p = p
+ends_calling : (b : ℕ) (e : Ending) (o : Looked) → EndsPlainly e → EndsCalling b o e
+ends_calling b (r.calls recorded f t xs) o p = absurd p
+ends_calling b (r.answers x) o p = p
+ends_calling b (r.throws message) o p = p
+ends_calling b (r.faults f) o p = p
+ends_calling b (r.lists ks) o p = absurd p
+ends_calling b (r.makes_array frozen xs) o p = p
+ends_calling b (r.copies_record frozen x) o p = p
+ends_calling b (r.makes_error maker message) o p = p
+ends_calling b (r.reads_key u k x) o p = p
+ends_calling b (r.writes_key u k x) o p = p
+ends_calling b (r.drops_key u k) o p = p
+ends_calling b (r.sets_items u xs x) o p = p
+ends_calling b (r.freezes u) o p = p
 
-plain_calling : (q : Row) (o : Looked) → IsPlain q → IsCalling o q
-plain_calling (r.ends e) o p = ends_calling e o p
-plain_calling (r.settles e) o p = absurd p
-plain_calling (r.as_text x go) o p = λ us. plain_calling (go us) o (p us)
-plain_calling (r.as_number x go) o p = λ n. plain_calling (go n) o (p n)
-plain_calling (r.as_joined x sep go) o p = λ us. plain_calling (go us) o (p us)
-plain_calling (r.as_same x y go) o p = λ b. plain_calling (go b) o (p b)
-plain_calling (r.looks x go) o p = λ s. plain_calling (go s) ((x, s) ∷ o) (p s)
-plain_calling (r.touches t x k next) o p = plain_calling next o p
+plain_calling : (b : ℕ) (q : Row) (o : Looked) → IsPlain q → IsCalling b o q
+plain_calling b (r.ends e) o p = ends_calling b e o p
+plain_calling b (r.settles e) o p = absurd p
+plain_calling b (r.as_text x go) o p = λ us. plain_calling b (go us) o (p us)
+plain_calling b (r.as_number x go) o p = λ n. plain_calling b (go n) o (p n)
+plain_calling b (r.as_joined x sep go) o p = λ us. plain_calling b (go us) o (p us)
+plain_calling b (r.as_same x y go) o p = λ c. plain_calling b (go c) o (p c)
+plain_calling b (r.looks x go) o p = λ s. plain_calling b (go s) ((x, s) ∷ o) (p s)
+plain_calling b (r.touches t x k next) o p = plain_calling b next o p
 
 -- the rows of nodes
 
@@ -243,7 +251,7 @@ no_node go s p = refl
 -- a built-in function's row ends by itself or in such a call, whatever rules a page has; or it refuses whatever is no node
 
 pub record IsOrdinary (f : Native) : Type 0 where
-  pub calling : (n : ℕ) → IsCalling [] (row_of no_rules f n)
+  pub calling : (n : ℕ) → IsCalling (n - 1) [] (row_of no_rules f n)
   pub any : (rules : Rules) (n : ℕ) → row_of rules f n ≡ row_of no_rules f n
 
 not_common : false ≡ true → ⊥
@@ -272,4 +280,4 @@ built_in_row r.get common = absurd (not_common common)
 built_in_row r.set common = absurd (not_common common)
 built_in_row r.forward_get common = absurd (not_common common)
 built_in_row r.forward_set common = absurd (not_common common)
-built_in_row f common = inl (record { calling = λ n. plain_calling (row_of no_rules f n) [] (built_in_plain no_rules f tt n); any = λ rules n. refl })
+built_in_row f common = inl (record { calling = λ n. plain_calling (n - 1) (row_of no_rules f n) [] (built_in_plain no_rules f tt n); any = λ rules n. refl })

@@ -114,13 +114,13 @@ native_enters {H = H} {T = T} a k recorded o f i number receiver this us qs {w =
     by_record {z = z} false r = called z r
 
 -- a row that ends by itself or in a call
-pub called_row : {H : Here} {T : Temps} {d k : ℕ} → H.by < 64 → ClosureLaw H d → NativeLaw H d → (b : ℕ) → b < d → (f : Native) (vs : List Value) (number : ℕ) (this : EsValue) (qs : List EsValue) (q : Row) → IsAmongObjects q → IsCalling [] q → (held : List Value) (es : List EsValue) {w : State} {z : List Item} {n : ℕ} {g : Tags} {s : Store} {y : Kept} {m : ℕ} (go : Going) (next : Cont) (next' : Cont') → suc m ≤ 4294967295
+pub called_row : {H : Here} {T : Temps} {d k : ℕ} → H.by < 64 → ClosureLaw H d → NativeLaw H d → (b : ℕ) → b < d → (f : Native) (vs : List Value) (number : ℕ) (this : EsValue) (qs : List EsValue) (q : Row) → IsAmongObjects q → (c : ℕ) → c < 4294967296 → IsCalling c [] q → (held : List Value) (es : List EsValue) {w : State} {z : List Item} {n : ℕ} {g : Tags} {s : Store} {y : Kept} {m : ℕ} (go : Going) (next : Cont) (next' : Cont') → suc m ≤ 4294967295
     → direct.does H.by (row_of H.rules f (length vs)) (direct.given vs) w [] ≡ direct.does H.by q (direct.given held) w []
     → page_table.answer number H.by this qs s.heap y ≡ turn_of (es3.does place_of H.by q es s.heap empty_page []).done y
     → Vals s.heap held es → Rel H T (suc (suc k)) w z n g s y m → NextValue H T b k w g s m (Source.called_next go next) next'
     → Entered H b f vs number this qs w z n s y m go next next'
-called_row {H = H} {k = k} below closures natives b lt f vs number this qs q among calling held es {w = w} {z = z} {n = n} {s = s} {y = y} {m = m} go next next' few same turn is r x =
+called_row {H = H} {k = k} below closures natives b lt f vs number this qs q among c short calling held es {w = w} {z = z} {n = n} {s = s} {y = y} {m = m} go next next' few same turn is r x =
     let left : direct.Done → Source.Plan = λ d. bind (replied (done_reply H.around.calls H.by d) (native_go H vs)) (native_next go next) in
     subst (λ a. M H b (left a) z n (bind (Target.task_plan page_table (Target.native_call number this qs (env_of H)) s y) next') (Target.task_state page_table (Target.native_call number this qs (env_of H)) s y) (suc m)) (sym same)
     (subst (λ (t : Turn Kept). M H b (left (direct.does H.by q (direct.given held) w [])) z n (bind (Target.reply_plan t.reply (env_of H) (with_heap s t.heap)) next') t.state (suc m)) (sym turn)
-    (calling_match {k = k} below closures natives b lt q among calling held es empty_page (native_go H vs) (native_next go next) next' few is r (native_gives go next next' vs (omega arith) x)))
+    (calling_match {k = k} below closures natives b lt q among c short calling held es empty_page (native_go H vs) (native_next go next) next' few is r (native_gives go next next' vs (omega arith) x)))

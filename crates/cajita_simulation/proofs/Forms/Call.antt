@@ -34,7 +34,7 @@ use Rattle.cajita_simulation.proofs.Guarded.{guarded_of}
 use Rattle.cajita_simulation.proofs.Forms.Values.{Values}
 use Rattle.cajita_simulation.proofs.Calling.Callable.{IsCallable, simple_plain, simple_gives, callable_stays}
 use Rattle.cajita_simulation.proofs.Calling.Arguments.{args_match}
-use Rattle.cajita_simulation.proofs.Calling.Laws.{ClosureLaw, NativeLaw, call_match}
+use Rattle.cajita_simulation.proofs.Calling.Laws.{ClosureLaw, NativeLaw, call_match, FewValues}
 
 -- the row's arguments are the values behind what is called
 
@@ -65,15 +65,15 @@ throws_callee : {H : Here} {T : Temps} {d k : ℕ} {w : State} {g : Tags} {s : S
 throws_callee es x = record { on = λ c le v e w z n g s y m is r k. x.on c le v e w z n g s y m is r k }
 
 -- the call, when its arguments are there
-plain_match : {H : Here} {T : Temps} {d k : ℕ} (closures : ClosureLaw H d) (natives : NativeLaw H d) (a : ℕ) (v : Value) (e : EsValue) (us : List Value) (qs : List EsValue) {w : State} {z : List Item} {n : ℕ} {g : Tags} {s : Store} {y : Kept} {m : ℕ} (next : Cont) (next' : Cont') → a < d → IsCallable w v → Val s.heap v e → Vals s.heap us qs → Rel H T (suc k) w z n g s y m → NextValue H T a k w g s m next next'
+plain_match : {H : Here} {T : Temps} {d k : ℕ} (closures : ClosureLaw H d) (natives : NativeLaw H d) (a : ℕ) (v : Value) (e : EsValue) (us : List Value) (qs : List EsValue) {w : State} {z : List Item} {n : ℕ} {g : Tags} {s : Store} {y : Kept} {m : ℕ} (next : Cont) (next' : Cont') → a < d → IsCallable w v → Val s.heap v e → Vals s.heap us qs → FewValues m qs → Rel H T (suc k) w z n g s y m → NextValue H T a k w g s m next next'
     → M H a (bind (Source.act_plan H 1 (Source.kept (v ∷ us)) (Direct.rows guards.plain_call H.around (0 ∷ []) Direct.give) w) next) z n (bind (Target.do_call (Target.called (just e)) qs (env_of H) s) next') y m
-plain_match {H = H} closures natives a v e us qs {w = w} {z = z} {n = n} {s = s} {y = y} {m = m} next next' lt fun is args r x =
+plain_match {H = H} closures natives a v e us qs {w = w} {z = z} {n = n} {s = s} {y = y} {m = m} next next' lt fun is args small r x =
     let done = direct.does H.by (guards.plain_call (length (v ∷ us))) (direct.given (v ∷ us)) w [] in
     let go = Source.answered H 1 (Source.kept (v ∷ us)) (Direct.or_throw Direct.give) in
     let called = bind (Target.do_call (Target.called (just e)) qs (env_of H) s) next' in
     left_tell H done.items (outcome_reply H.around.calls H.by done.outcome done.world) go next z
     (subst (λ l. M H a (bind (replied (outcome_reply H.around.calls H.by (direct.calls true v World.undefined l) w) go) next) (z ++ done.items) n called y m) (sym (behind_first v us))
-    (call_match closures natives true a v World.undefined e es.Undefined us qs go next next' lt fun is tt args (rel_told done.items (quiet_row H.by (guards.plain_call (length (v ∷ us))) tt (direct.given (v ∷ us)) w [] refl) r) (tail_next (Source.kept (v ∷ us)) x)))
+    (call_match closures natives true a v World.undefined e es.Undefined us qs go next next' lt fun is tt args small (rel_told done.items (quiet_row H.by (guards.plain_call (length (v ∷ us))) tt (direct.given (v ∷ us)) w [] refl) r) (tail_next (Source.kept (v ∷ us)) x)))
 
 pub call_body : {H : Here} {d b q : ℕ} {e : c.Tree c.expr} {e' : t.Tree t.expr} → H.by < 64 → ClosureLaw H d → NativeLaw H d → (law : Values H d) → ValueLaw H d b q e e' → (es : c.Tree c.exprs) → Guest H.vars H.free c.exprs es → ValueBody H d b (q + temps c.exprs es) (c.call e es) (t.call (runtime_call (codes "asSimpleFunc") (single e')) (rewritten false c.exprs (b + q) es))
 call_body {H = H} {b = b} {q = q} {e' = e'} below closures natives law pe es guest = record {
@@ -86,6 +86,6 @@ call_body {H = H} {b = b} {q = q} {e' = e'} below closures natives law pe es gue
       guarded_of {j = suc k} below as_simple_func-guard (IsCallable w1) guards.as_simple_func tables.as_simple_func simple_plain (f0 ∷ []) (u0 ∷ []) (Source.answered H 2 (Source.one f0) (Direct.or_throw (λ g. Rattle.acts.specs.Acts.keep (g ∷ []) (Direct.values_act es H.around plain)))) (λ v w2. Source.act_plan H 1 (Source.kept (v ∷ [])) (Direct.values_act es H.around plain 0) w2) next _ (record { plan = refl; kept = refl }) (record { value = λ v w2. refl; thrown = λ v w2. refl }) (simple_gives H.by w1 f0) (is1, tt) r2 (omega arith) (omega arith) (throws_callee args' x1.throws) (λ f u w2 z2 s2 fun is2 r3 k2.
       args_match law es guest f (Target.called (just u)) [] [] c1 (b + q) (suc k) (suc k) plain next next' (omega arith) (room_part (omega arith) (omega arith) room) tt (omega arith) (rel_less (omega arith) r3) stays_refl (omega arith) (throws_from {j = suc k} {k = suc k} (omega arith) (omega arith) k2 x1.throws) (record {
         on = λ c2 le2 us qs w3 z3 n3 g3 s3 y3 m3 args many r4 k3.
-            plain_match {k = suc k} closures natives c2 f u us qs next next' (omega arith) (callable_stays f (stays_trans k2 k3) fun) (val_keep k3.heap f u is2) args r4 (value_from {j = suc k} {k = suc k} le2 (omega arith) (stays_trans k2 k3) x1);
+            plain_match {k = suc k} closures natives c2 f u us qs next next' (omega arith) (callable_stays f (stays_trans k2 k3) fun) (val_keep k3.heap f u is2) args (λ left. omega (arith, left, many)) r4 (value_from {j = suc k} {k = suc k} le2 (omega arith) (stays_trans k2 k3) x1);
       })))));
 }

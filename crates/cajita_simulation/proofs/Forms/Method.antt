@@ -1,5 +1,5 @@
 -- Method calls and `new`: `o.k(a)` is `___.callPub(o,"k",[a])`, and `new f(a)` is `___.construct(f,[a])`.
-use Rattle.std.proofs.Common.{◌≡◌, ℕ, suc, ◌+◌, ◌-◌, ◌≤◌, ◌<◌, false, List, [], ◌∷◌, ◌++◌, length, inl, Option, Some, refl, sym, ap, ◌∙◌, subst, arith}
+use Rattle.std.proofs.Common.{◌≡◌, ℕ, suc, ◌+◌, ◌-◌, ◌≤◌, ◌<◌, false, List, [], ◌∷◌, ◌++◌, length, inl, Option, Some, refl, sym, ap, ◌∙◌, subst, arith, zero, inr}
 use Rattle.std.specs.Prelude.{codes}
 use Rattle.plans.specs.Plans.{bind}
 use Rattle.matching.proofs.Rules.{right_enter}
@@ -44,26 +44,31 @@ use Rattle.cajita_simulation.proofs.Forms.Key.{key_match}
 use Rattle.cajita_simulation.proofs.Forms.Call.{tail_next}
 use Rattle.cajita_simulation.proofs.Calling.Laws.{ClosureLaw, NativeLaw}
 use Rattle.cajita_simulation.proofs.Calling.Calls.{Looked, EndsCalling, IsCalling, calling_match}
+use Rattle.cajita_simulation.proofs.Calling.BuiltIns.{fewer}
 
 -- the rows: what they call was looked at just before
 
-method_ends : (f o : Handle) (xs : List Handle) (s : Sight) (l : Looked) → EndsCalling ((f, s) ∷ l) (guards.call_end f o xs s)
-method_ends f o xs (r.a_function sort) l = inl (refl, tt)
-method_ends f o xs s l = tt
+method_ends : (b : ℕ) (f o : Handle) (xs : List Handle) (s : Sight) (l : Looked) → length xs ≤ b → EndsCalling b ((f, s) ∷ l) (guards.call_end f o xs s)
+method_ends b f o xs (r.a_function sort) l few = (inl (refl, tt), inl few)
+method_ends b f o xs s l few = tt
 
-pub call_calling : (n : ℕ) → IsCalling [] (guards.call_pub n)
+pub call_calling : (n : ℕ) → IsCalling (n - 1) [] (guards.call_pub n)
 call_calling n = λ s. by_sight s
   where
-    by_sight : (s : Sight) → IsCalling ((value 0 n, s) ∷ []) (guards.on_object r.to_get (value 0 n) (value 1 n) (λ s k. r.looks (pub_get (value 0 n) s k) (λ f. r.ends (guards.call_end (pub_get (value 0 n) s k) (value 0 n) (values_from 2 (n - 2)) f))) s)
+    by_sight : (s : Sight) → IsCalling (n - 1) ((value 0 n, s) ∷ []) (guards.on_object r.to_get (value 0 n) (value 1 n) (λ s k. r.looks (pub_get (value 0 n) s k) (λ f. r.ends (guards.call_end (pub_get (value 0 n) s k) (value 0 n) (values_from 2 (n - 2)) f))) s)
     by_sight r.nothing = tt
     by_sight r.a_null = tt
-    by_sight s = λ us f. method_ends (pub_get (value 0 n) s us) (value 0 n) (values_from 2 (n - 2)) f ((value 0 n, s) ∷ [])
+    by_sight s = λ us f. method_ends (n - 1) (pub_get (value 0 n) s us) (value 0 n) (values_from 2 (n - 2)) f ((value 0 n, s) ∷ []) (fewer n)
 
-pub construct_calling : (n : ℕ) → IsCalling [] (guards.construct n)
+values_long : (i n : ℕ) → length (values_from i n) ≡ n
+values_long i zero = refl
+values_long i (suc n) = ap suc (values_long (i + 1) n)
+
+pub construct_calling : (n : ℕ) → IsCalling (n - 1) [] (guards.construct n)
 construct_calling n = λ s. by_sight s
   where
-    by_sight : (s : Sight) → IsCalling ((r.held 0, s) ∷ []) (guards.new_row (values_from 1 (n - 1)) s)
-    by_sight (r.a_function (r.constructor maker)) = inl (refl, tt)
+    by_sight : (s : Sight) → IsCalling (n - 1) ((r.held 0, s) ∷ []) (guards.new_row (values_from 1 (n - 1)) s)
+    by_sight (r.a_function (r.constructor maker)) = (inl (refl, tt), inl (let l = values_long 1 (n - 1) in omega (arith, l)))
     by_sight (r.a_function sort) = tt
     by_sight s = tt
 
@@ -95,10 +100,14 @@ construct_row H f = record {
   kept = λ us h s y. refl;
 }
 
+short : (n l : ℕ) → n ≤ l + 2 → l < 4294967295 → n - 1 < 4294967296
+short zero l two few = omega arith
+short (suc n) l two few = omega (arith, two, few)
+
 -- from the array on
-array_row_match : {H : Here} {T : Temps} {d k : ℕ} {guard : List ℕ} {number : ℕ} → H.by < 64 → (closures : ClosureLaw H d) (natives : NativeLaw H d) (a : ℕ) → a < d → IsGuard guard number → (q : ℕ → Row) → ((n : ℕ) → IsAmongObjects (q n)) → ((n : ℕ) → IsCalling [] (q n)) → (front vs : List Value) (efront us : List EsValue) {w : World} {z : List Item} {n : ℕ} {g : Tags} {s : Store} {y : Kept} {m : ℕ} (next : Cont) (next' : Cont') → IsArrayRow H number q efront → Vals s.heap front efront → Vals s.heap vs us → length us ≤ m → Rel H T (suc (suc k)) w z n g s y m → NextValue H T a k w g s m next next'
+array_row_match : {H : Here} {T : Temps} {d k : ℕ} {guard : List ℕ} {number : ℕ} → H.by < 64 → (closures : ClosureLaw H d) (natives : NativeLaw H d) (a : ℕ) → a < d → IsGuard guard number → (q : ℕ → Row) → ((n : ℕ) → IsAmongObjects (q n)) → ((n : ℕ) → IsCalling (n - 1) [] (q n)) → (front vs : List Value) (efront us : List EsValue) {w : World} {z : List Item} {n : ℕ} {g : Tags} {s : Store} {y : Kept} {m : ℕ} (next : Cont) (next' : Cont') → IsArrayRow H number q efront → Vals s.heap front efront → Vals s.heap vs us → length us ≤ m → length (front ++ vs) ≤ length vs + 2 → Rel H T (suc (suc k)) w z n g s y m → NextValue H T a k w g s m next next'
     → M H a (bind (Source.act_plan H 1 (Source.kept (front ++ vs)) (Direct.rows q H.around (0 ∷ []) Direct.give) w) next) z n (bind (Target.do_call (Target.called (member (es.Obj runtime_id) guard)) (efront ++ es.Obj (length s.heap.list) ∷ []) (env_of H) (with_heap s (with_object s.heap (array_object us)))) next') y m
-array_row_match {H = H} {T = T} {k = k} {number = number} below closures natives a lt is q among calling front vs efront us {w = w} {z = z} {n = n} {g = g} {s = s} {y = y} {m = m} next next' row fronts are many r0 x =
+array_row_match {H = H} {T = T} {k = k} {number = number} below closures natives a lt is q among calling front vs efront us {w = w} {z = z} {n = n} {g = g} {s = s} {y = y} {m = m} next next' row fronts are many two r0 x =
     let go = Source.answered H 1 (Source.kept (front ++ vs)) (Direct.or_throw Direct.give) in
     let p0 = bind (Source.act_plan H 1 (Source.kept (front ++ vs)) (Direct.rows q H.around (0 ∷ []) Direct.give) w) next in
     let g1 = with_object s.heap (array_object us) in
@@ -108,7 +117,7 @@ array_row_match {H = H} {T = T} {k = k} {number = number} below closures natives
     subst (λ o. M H a p0 z n (bind (Target.task_plan page_table (Target.native_call number (es.Obj runtime_id) (efront ++ es.Obj (length s.heap.list) ∷ []) (env_of H)) s1 y) next') o (suc m)) (sym (row.kept us s.heap s y))
     (subst (λ o. M H a p0 z n (bind o next') y (suc m)) (sym (row.plan us s.heap s y (omega (arith, many, small))))
     (subst (λ l. M H a p0 z n (let d = (rows.does place_of H.by (q l) (efront ++ us) g1 empty_page []).done in bind (Target.reply_plan d.reply (env_of H) (with_heap s d.heap)) next') y (suc m)) (vals_length g1 (front ++ vs) (efront ++ us) all)
-    (calling_match {k = k} below closures natives a lt (q (length (front ++ vs))) (among (length (front ++ vs))) (calling (length (front ++ vs))) (front ++ vs) (efront ++ us) empty_page go next next' small all r1 (tail_next (Source.kept (front ++ vs)) (value_from {j = k} {k = k} (omega arith) (omega arith) k1 x))))))
+    (calling_match {k = k} below closures natives a lt (q (length (front ++ vs))) (among (length (front ++ vs))) (length (front ++ vs) - 1) (short (length (front ++ vs)) (length vs) two (let l = vals_length s.heap vs us are in omega (arith, many, small, l))) (calling (length (front ++ vs))) (front ++ vs) (efront ++ us) empty_page go next next' small all r1 (tail_next (Source.kept (front ++ vs)) (value_from {j = k} {k = k} (omega arith) (omega arith) k1 x))))))
 
 -- what waits for the array: the guard's call, with the values before it
 abbrev with_list : List ℕ → List EsValue → Here → Cont' → Cont'
@@ -130,7 +139,7 @@ method_body {H = H} {b = b} {q = q} {e' = e'} below closures natives law pe key 
       let x2 = value_since le2 k2 x1 in
       right_enter (items_match law es guest (o ∷ p ∷ []) [] [] c2 (b + (q + temps c.key key)) (suc (suc k)) (suc k) act next (with_list (codes "callPub") (u ∷ f ∷ []) H next') (omega arith) (room_part (omega arith) (omega arith) room) tt (omega arith) (rel_less (omega arith) (rel_pay r3)) (stays_step {j = suc m2} (omega arith)) (omega arith) (throws_list (codes "callPub") (u ∷ f ∷ []) x2.throws) (record {
         on = λ c3 le3 vs us w3 z3 n3 g3 s3 y3 m3 are many r4 k3.
-            array_row_match {k = suc k} below closures natives c3 (omega arith) call_pub-guard guards.call_pub tables.call_pub call_calling (o ∷ p ∷ []) vs (u ∷ f ∷ []) us next next' (call_row H u f) (val_keep k3.heap o u (val_keep k2.heap o u is1), (val_keep k3.heap p f is2, tt)) are many (rel_less (omega arith) r4) (value_from {j = suc k} {k = suc k} le3 (omega arith) k3 x2);
+            array_row_match {k = suc k} below closures natives c3 (omega arith) call_pub-guard guards.call_pub tables.call_pub call_calling (o ∷ p ∷ []) vs (u ∷ f ∷ []) us next next' (call_row H u f) (val_keep k3.heap o u (val_keep k2.heap o u is1), (val_keep k3.heap p f is2, tt)) are many (omega arith) (rel_less (omega arith) r4) (value_from {j = suc k} {k = suc k} le3 (omega arith) k3 x2);
       })))));
 }
 
@@ -144,6 +153,6 @@ new_body {H = H} {b = b} {q = q} {e' = e'} below closures natives law pe es gues
       let x1 = value_since le1 k1 (value_from {j = suc k} {k = suc k} (omega arith) (omega arith) (stays_step (omega arith)) x) in
       right_enter (items_match law es guest (o ∷ []) [] [] c1 (b + q) (suc (suc k)) (suc k) act next (with_list (codes "construct") (u ∷ []) H next') (omega arith) (room_part (omega arith) (omega arith) room) tt (omega arith) (rel_less (omega arith) (rel_pay r2)) (stays_step {j = suc m1} (omega arith)) (omega arith) (throws_list (codes "construct") (u ∷ []) x1.throws) (record {
         on = λ c3 le3 vs us w3 z3 n3 g3 s3 y3 m3 are many r4 k3.
-            array_row_match {k = suc k} below closures natives c3 (omega arith) construct-guard guards.construct tables.construct construct_calling (o ∷ []) vs (u ∷ []) us next next' (construct_row H u) (val_keep k3.heap o u is1, tt) are many (rel_less (omega arith) r4) (value_from {j = suc k} {k = suc k} le3 (omega arith) k3 x1);
+            array_row_match {k = suc k} below closures natives c3 (omega arith) construct-guard guards.construct tables.construct construct_calling (o ∷ []) vs (u ∷ []) us next next' (construct_row H u) (val_keep k3.heap o u is1, tt) are many (omega arith) (rel_less (omega arith) r4) (value_from {j = suc k} {k = suc k} le3 (omega arith) k3 x1);
       }))));
 }
