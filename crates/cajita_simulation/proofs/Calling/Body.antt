@@ -40,7 +40,8 @@ use Rattle.cajita_simulation.proofs.Calling.Names.{NewNames, ScopeNames, heads, 
 use Rattle.cajita_simulation.proofs.Calling.Entering.{inside, declares, declares_room, declares_covers, captured_enter, in_enter, new_scopes, rel_back}
 use Rattle.cajita_simulation.proofs.Calling.Laws.{ClosureLaw}
 use Rattle.cajita_simulation.proofs.Calling.Reading.{inner_store, shaped_inner, shaped_whole, await_here, begun_here, array_named, item_plain, alike_here, placed_more, related_here}
-use Rattle.cajita_simulation.proofs.Calling.Head.{args_names, answers_are, args_head}
+use Rattle.cajita_simulation.proofs.Calling.Head.{args_names, args_head}
+use Rattle.cajita_simulation.proofs.Calling.ArgsGuard.{args_answer}
 use Rattle.cajita_simulation.proofs.Calling.Params.{params_there}
 use Rattle.cajita_simulation.proofs.Declaring.Granting.{awaiting_match}
 use Rattle.cajita_simulation.proofs.Declaring.Awaiting.{Begun}
@@ -274,7 +275,7 @@ closure_match {H = H} {T = T} {k = k} effects a by i (c.fun name params true (c.
     (args_head (es.Obj i) params qs all sb H by number vars1 free1 direct code.chain (this_of this s) s.heap (own_heads names xs) (behind_head fs xs) Target.body_end next'
     (in_stays (shaped_bare fs chain by tags scoped) are are stands) (scope_runtime owner all s new.runtime r.all.scopes.runtime) (opened_bare fs chain by s.codes s.heap (opened_of r.all.objects)) r.all.scopes.shared
     (arguments_unbound fs place qs news guest.6) (copy_undefined fs place qs news guest.6 refl) (copy_apart fs place qs news guest.6)
-    (λ one. answers_are (es.Obj i) params qs all sb (env_of J) guest.2 (params_there params names fs place vars' qs guest.2 guest.6) (few (omega (arith, one))))
+    (λ one q1 y1 there. args_answer (es.Obj i) params qs all sb.heap guest.2 (params_there params names fs place vars' qs guest.2 guest.6) (few (omega (arith, one))) (env_of J) q1 y1 there)
     (λ s1. no_values (own_heads names xs) (env_of J) s1 (temps_none 0 q _ (names_none (others names (declared c.stmts xs)))))
     (omega (arith, r0.all.steps, same)) (told ∙ r0.all.items) (λ small. marked z' n' r0 same (z' ++ made by (World.next_name by w) ∷ []) told small))) in
     let goes : (z' : List Item) → Rel H T (suc k) w z' n g s y m → (n' : ℕ) → n' ≡ n + count → M H a (bind (replied source go) next) z' n' (bind (target (functions_of (statements true fs names xs))) next') y m = λ z' r0 n' same.

@@ -76,10 +76,6 @@ put_other (e ∷ l) a n o xs qs x v h p out =
     let other : nat_eq e.scope n ≡ false = let lt = p.1 in grind (arith, nat_tests, lt) in
     ap (λ b. cond b (put_items e.object e.items x v h) (put_shared (l ++ entry_of o n xs qs ∷ []) n x v h)) other ∙ put_other l a n o xs qs x v h p.2 out
 
-values_long : (i n : ℕ) → length (values_from i n) ≡ n
-values_long i zero = refl
-values_long i (suc n) = ap suc (values_long (i + 1) n)
-
 slot_last : (owner : Owner) (names : Names) (x : List ℕ) (v : EsValue) (s : Store) → with_slot (length s.scopes) x v (with_scope owner names s) ≡ with_scope owner (with_name x v names) s
 slot_last owner names x v s =
     let scope : store.Scope = record { owner = owner; names = names } in
@@ -140,29 +136,14 @@ module _ (f : EsValue) (params : List (List ℕ)) (qs : List EsValue) (all : Nam
       ∙ ap (λ (h : Objects). with_slot act arguments_copy copied (with_heap sB h)) (put_other s.shared a act (length s.heap.list) params qs arguments_copy copied sB.heap shared apart)
       ∙ slot_last owner one_name arguments_copy copied (args_store by)
 
-  -- what the guard answers
+  -- what the guard answers: the frozen array of the arguments, which has the module's next name
   abbrev pub Answers : Target.Env → Type 0
   Answers env = (q : Store) (y : Kept) → q.heap ≡ with_object s.heap (arguments_object f params qs all) → Target.task_plan page_table (Target.native_call 67 (es.Obj runtime_id) (es.Obj (length s.heap.list) ∷ []) env) q y ≡ Target.give (es.Obj (length (with_object s.heap (arguments_object f params qs all)).list)) (with_heap q (with_named (with_object s.heap (arguments_object f params qs all)) (frozen_array qs) env.by))
-
-  -- the frozen array of the arguments, which has the module's next name
-  pub answers_are : (env : Target.Env) → AreDistinct params → ParamsAre params qs all → length qs < 4294967296 → Answers env
-  answers_are env once are few q y same =
-      let g = with_object s.heap (arguments_object f params qs all) in
-      ap (λ (d : Done). Target.reply_plan d.reply env (with_heap q d.heap))
-      (ap (λ (h : Objects). args env.by object h) same ∙ args_are env.by f params qs all s.heap once are few ∙ array_made env.by g few
-      ∙ ap (λ (h : Objects). gives (es.Obj (length g.list)) h []) (named_new g (frozen_array qs) env.by refl))
-    where
-      array_made : (by : ℕ) (g : Objects) → length qs < 4294967296 → by_row (rules.args (length qs)) by qs g ≡ gives (es.Obj (length g.list)) (named (with_object g (frozen_array qs)) (length g.list) by) []
-      array_made by g few =
-          let long = values_long 0 (length qs) in
-          let small : nat_lt (length (values_from 0 (length qs))) r.most_items ≡ true = grind (arith, nat_tests, long, few) in
-          let held : map (value_in place_of qs) (values_from 0 (length qs)) ≡ qs = subst (λ l. map (value_in place_of l) (values_from 0 (length qs)) ≡ qs) (append-nil qs) (first_values place_of qs []) in
-          rw (small, held) refl
 
   -- `var a___=___.args(arguments),..;`
   pub args_head : (H : Here) (by number : ℕ) (known free : Guest.Names) (direct out : List ℕ) (this : ℕ) (a : Objects) {d : ℕ} {g : Tags} (rest : t.Tree t.items) (stmts : t.Tree t.stmts) {p : Source.Plan} {z : List Item} {n : ℕ} {y : Kept} {m : ℕ} (end' : Cont') (next' : Cont')
       → let J = inside H by number (length s.scopes) known free direct out this in
-        In J g (with_scope owner all s) → ((c : ℕ) (e : EsValue) → name_value runtime_name (names_at (with_scope owner all s) c) ≡ Some e → e ≡ es.Obj runtime_id) → IsOpened s.heap → SharedAre a (length s.scopes) s.shared
+      In J g (with_scope owner all s) → ((c : ℕ) (e : EsValue) → name_value runtime_name (names_at (with_scope owner all s) c) ≡ Some e → e ≡ es.Obj runtime_id) → IsOpened s.heap → SharedAre a (length s.scopes) s.shared
       → name_value arguments_name all ≡ None → name_value arguments_copy all ≡ Some es.Undefined → is_among params arguments_copy ≡ false → (suc m ≤ 4294967295 → Answers (env_of J)) → ((q : Store) → Target.var_items rest (env_of J) q ≡ Target.var_items t.no_items (env_of J) q) → suc (suc (suc (suc (suc m)))) ≤ 64 * n → printed z ≡ shown y
       → (suc (suc (suc (suc (suc (suc m))))) ≤ 4294967295 → M J d p z n (bind (Target.list true stmts None (env_of J) (with_scope owner args_names (args_store by)) end') next') y (suc (suc (suc (suc (suc (suc m)))))))
       → M J d p z n (bind (Target.list true (var_stmts (args_items true rest) stmts) None (env_of J) (with_scope owner all s) end') next') y m

@@ -37,8 +37,7 @@ keeps_bare (c.more_funcs f fs) chain by codes h =
 pub await_bare : (fs : c.Tree c.funcs) (chain : List ℕ) (by : ℕ) (s : Store) → AllAwait fs chain by (length s.heap.list) (all_codes fs chain s.codes) (bare_store fs chain by s).heap
 await_bare c.no_funcs chain by s = tt
 await_bare (c.more_funcs f fs) chain by s =
-    let s1 = with_code (declared_code f chain) by s in
-    (
+    let s1 = with_code (declared_code f chain) by s in (
       record {
         number = length s.codes;
         there = first_there f fs chain by s;
