@@ -1,5 +1,5 @@
 -- What is left of the correspondence when a function without a name gets the next name of a module where it stands.
-use Rattle.std.proofs.Common.{◌≡◌, ◌≢◌, ℕ, suc, ◌+◌, ◌≤◌, ◌<◌, List, [], ◌∷◌, ◌++◌, length, Option, Some, None, refl, sym, ap, ◌∙◌, subst, arith}
+use Rattle.std.proofs.Common.{◌≡◌, ◌≢◌, ℕ, suc, ◌+◌, ◌≤◌, ◌<◌, List, [], ◌∷◌, length, Option, Some, None, sym, ap, ◌∙◌, subst, arith}
 use Rattle.std.specs.Prelude.{slice_get, slice_set}
 use Rattle.std.proofs.lemmas.Option.{slice_get_within, none-some}
 use Rattle.std.proofs.lemmas.List.{length-append, length-set}
@@ -14,7 +14,7 @@ use Rattle.cajita_meaning.specs.World.{Name, made_name, built_name, Object, with
 use Rattle.heap_rows.specs.Marks.{read_mark, set_mark}
 use Rattle.row_simulation.proofs.Names.{name_there, known_name, made_known}
 use Rattle.row_simulation.proofs.Relation.{Named, tag_of_name, Is, Stands, IsMarked, ObjectsAre, Keeps, StillNamed, named_still}
-use Rattle.row_simulation.proofs.Changes.{get-set, get-set-other, get-push, by_number, tagged, last_there, last_other, last_kept, named_within, next_number, grown, room, IsNew, named_grown}
+use Rattle.row_simulation.proofs.Changes.{get-set, get-set-other, get-push, by_number, tagged, last_there, last_other, next_number, grown, IsNew, named_grown}
 
 -- another object at a place, with the next name of a module
 abbrev pub named_where : Objects → ℕ → heap.Object → ℕ → Objects

@@ -1,5 +1,5 @@
 -- The call of a closure: both enter it, run its statements, and go back.
-use Rattle.std.proofs.Common.{◌≡◌, ℕ, zero, suc, ◌+◌, ◌≤◌, ◌<◌, true, false, List, [], ◌∷◌, ◌++◌, length, Option, None, cond, refl, sym, subst, arith, ap, ◌∙◌, ◌*◌}
+use Rattle.std.proofs.Common.{◌≡◌, ℕ, zero, suc, ◌+◌, ◌≤◌, ◌<◌, true, false, List, [], ◌∷◌, ◌++◌, length, Option, None, cond, refl, sym, subst, arith, ap, ◌∙◌}
 use Rattle.std.specs.Prelude.{nat_lt}
 use Rattle.plans.specs.Plans.{bind, depth_fault, stops}
 use Rattle.acts.specs.Acts.{replied, answer, fault}

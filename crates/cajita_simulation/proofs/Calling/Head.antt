@@ -1,6 +1,6 @@
 -- The head of a body that names `arguments`: the interpreter makes the arguments object, and of its items the frozen array that is `a___`.
-use Rattle.std.proofs.Common.{◌≡◌, ℕ, zero, suc, ◌+◌, ◌*◌, ◌≤◌, ◌<◌, Bool, true, false, List, [], ◌∷◌, ◌++◌, length, Option, Some, None, cond, refl, sym, ap, ◌∙◌, subst, append-nil, arith}
-use Rattle.std.specs.Prelude.{codes, slice_get, is_some, nat_eq, nat_lt, map, ◌||◌}
+use Rattle.std.proofs.Common.{◌≡◌, ℕ, suc, ◌+◌, ◌*◌, ◌≤◌, Bool, true, false, List, [], ◌∷◌, ◌++◌, length, Some, None, cond, refl, sym, ap, ◌∙◌, subst, arith}
+use Rattle.std.specs.Prelude.{codes, slice_get, is_some, nat_eq, ◌||◌}
 use Rattle.std.proofs.Math.Seq.{set-append_seam}
 use Rattle.std.proofs.lemmas.Bool.Decides.{nat_tests}
 use Rattle.caja_units.specs.Units.{same_units}
@@ -9,36 +9,32 @@ use Rattle.matching.proofs.Rules.{right_enter}
 use Rattle.es3_tree.specs.Tree as t
 use Rattle.es3_heap.specs.declared.value.Value.TheVariants as es
 use Rattle.es3_heap.specs.Objects.{Objects, Object, with_object}
-use Rattle.es3_heap.specs.Making.{array_object, named}
+use Rattle.es3_heap.specs.Making.{array_object}
 use Rattle.es3_language.specs.Store as store
 use Rattle.es3_language.specs.Store.{Store, Names, Owner, activation, name_value, with_name, with_heap, with_slot, with_scope}
-use Rattle.es3_language.specs.Arguments.{arguments_name, comes_again, shared_items, put_items, put_shared, with_arguments_object, with_arguments, made_at, is_fixed, write_slot}
+use Rattle.es3_language.specs.Arguments.{arguments_name, comes_again, shared_items, put_items, put_shared, with_arguments_object, with_arguments, made_at, is_fixed}
 use Rattle.es3_language.specs.References.{slot, own_arguments, member, reference, write}
 use Rattle.es3_language.specs.Expressions.{read_plan, read_arguments}
 use Rattle.es3_language.specs.Meaning as Target
-use Rattle.cajita_rewrite.specs.Rewrite.{runtime_call, runtime_name, single, var_stmts, args_items, arguments_copy}
+use Rattle.cajita_rewrite.specs.Rewrite.{runtime_name, single, var_stmts, args_items, arguments_copy}
 use Rattle.cajita_meaning.specs.Direct.{Item, printed}
 use Rattle.rows.specs.Rows as r
-use Rattle.rows.specs.Arguments.{values_from}
-use Rattle.rows.specs.Guards as rules
-use Rattle.row_outcomes.proofs.Numbers.{first_values}
-use Rattle.heap_rows.specs.Doing.{Done, frozen_if, gives, value_in}
-use Rattle.heap_rows.specs.Opening.{place_of, runtime_id}
-use Rattle.guard_runtime.specs.Guards.{args, by_row}
+use Rattle.heap_rows.specs.Doing.{frozen_if}
+use Rattle.heap_rows.specs.Opening.{runtime_id}
+use Rattle.guard_runtime.specs.Guards.{args}
 use Rattle.page_natives.specs.Natives.{Kept, page_table}
 use Rattle.cajita_simulation.specs.Alike.{shown}
 use Rattle.cajita_simulation.specs.Guest as Guest
-use Rattle.cajita_simulation.specs.Guest.{is_among, AreDistinct}
+use Rattle.cajita_simulation.specs.Guest.{is_among}
 use Rattle.cajita_simulation.specs.Scopes.{SharedAre}
 use Rattle.cajita_simulation.proofs.Doing as Source
 use Rattle.cajita_simulation.proofs.Heaps.Lists.{slice_get-push}
-use Rattle.cajita_simulation.proofs.Heaps.Names.{name_value-with_name, name_value-with_name-other}
-use Rattle.cajita_simulation.proofs.Heaps.Made.{with_named, named_new}
-use Rattle.cajita_simulation.proofs.Heaps.ArgumentItems.{ParamsAre, args_are}
+use Rattle.cajita_simulation.proofs.Heaps.Names.{name_value-with_name}
+use Rattle.cajita_simulation.proofs.Heaps.Made.{with_named}
 use Rattle.cajita_simulation.proofs.Heaps.Opened.{IsOpened, opened_kept}
 use Rattle.cajita_simulation.proofs.Heaps.Guards.{args-guard}
 use Rattle.cajita_simulation.proofs.Heaps.Arguments.{arguments_object, arguments_new}
-use Rattle.cajita_simulation.proofs.Relation.{EsValue, Here, env_of, Tags, names_at, AreScopes, In}
+use Rattle.cajita_simulation.proofs.Relation.{EsValue, Here, env_of, Tags, names_at, In}
 use Rattle.cajita_simulation.proofs.Laws.{Cont', M}
 use Rattle.cajita_simulation.proofs.Entering.{names_new}
 use Rattle.cajita_simulation.proofs.Calls.{runtime_at, callee_at, guard_at}

@@ -1,22 +1,20 @@
 -- A body that names `arguments`: what corresponds when its head has made the array, and when its functions have their names too.
-use Rattle.std.proofs.Common.{◌≡◌, ℕ, suc, ◌+◌, ◌*◌, ◌≤◌, ◌<◌, true, false, List, [], ◌∷◌, ◌++◌, length, Some, cond, inl, inr, refl, sym, ap, ◌∙◌, subst, arith}
-use Rattle.std.specs.Prelude.{slice_get}
+use Rattle.std.proofs.Common.{◌≡◌, ℕ, suc, ◌+◌, ◌*◌, ◌≤◌, ◌<◌, true, false, List, [], ◌∷◌, ◌++◌, length, cond, inl, inr, refl, sym, ap, ◌∙◌, subst, arith}
 use Rattle.std.specs.Cmp.Lexicographic.{same_text}
 use Rattle.std.proofs.lemmas.List.{length-append}
-use Rattle.caja_units.specs.Units.{same_units, is_hidden}
-use Rattle.es3_heap.specs.declared.value.Value.TheVariants as es
+use Rattle.caja_units.specs.Units.{is_hidden}
 use Rattle.es3_heap.specs.declared.value.Tag.TheVariants as tag
 use Rattle.es3_heap.specs.Objects as heap
 use Rattle.es3_heap.specs.Objects.{Objects, with_object}
 use Rattle.es3_heap.specs.Making.{count_at}
 use Rattle.es3_language.specs.Store as store
-use Rattle.es3_language.specs.Store.{Store, Owner, Names, activation, name_value, with_name, with_heap, with_scope}
+use Rattle.es3_language.specs.Store.{Store, Names, activation, name_value, with_name, with_heap, with_scope}
 use Rattle.es3_language.specs.Arguments.{is_arguments, arguments_name}
 use Rattle.cajita_tree.specs.Tree as c
 use Rattle.cajita_rewrite.specs.Rewrite.{arguments_copy}
 use Rattle.cajita_meaning.specs.Asking.{func_name}
 use Rattle.cajita_meaning.specs.World as World
-use Rattle.cajita_meaning.specs.World.{Value, Pairs, Object, an_array, a_closure, made_name, value_at, with_value, with_last, next_name, next_scope, World as State}
+use Rattle.cajita_meaning.specs.World.{Value, Pairs, Object, an_array, a_closure, made_name, value_at, with_value, with_last, next_scope, World as State}
 use Rattle.cajita_meaning.specs.Direct.{Item}
 use Rattle.heap_rows.specs.Opening.{first, place_of}
 use Rattle.page_natives.specs.Natives.{Kept}
@@ -24,29 +22,27 @@ use Rattle.row_simulation.specs.Correspond as rows
 use Rattle.row_simulation.proofs.Relation as row_relation
 use Rattle.row_simulation.proofs.Row as row_laws
 use Rattle.row_simulation.proofs.First.{first_is}
-use Rattle.row_simulation.proofs.Changes.{objects_made, named_keeps, room, last_kept}
+use Rattle.row_simulation.proofs.Changes.{objects_made, named_keeps, room}
 use Rattle.row_simulation.proofs.Added.{objects_with, awaiting_keeps}
 use Rattle.row_simulation.proofs.Arrays.{array_new, array_is}
-use Rattle.cajita_simulation.specs.Guest.{GuestName, NewFuncs, is_declared}
-use Rattle.cajita_simulation.specs.Scopes.{stored_name}
+use Rattle.cajita_simulation.specs.Guest.{NewFuncs, is_declared}
 use Rattle.cajita_simulation.proofs.Heaps.Names.{name_value-with_name}
 use Rattle.cajita_simulation.proofs.Heaps.Made.{with_named, tagged, next_name as next_tag}
 use Rattle.cajita_simulation.proofs.Heaps.Grown.{grown_last, grown_kept}
 use Rattle.cajita_simulation.proofs.Heaps.Arguments.{arguments_object}
 use Rattle.cajita_simulation.proofs.Heaps.ArgumentItems.{arguments_are_new, arguments_plain}
-use Rattle.cajita_simulation.proofs.Relation.{EsValue, Vals, ObjectsAre, ScopeTag, tag_of_scope, Tags, Temps, Slot, unknown, declared, holds, keys, SlotIs, ScopeIs, SharedAre, ScopesAre, OptVal, AreScopes, ClosuresAre, Related, Shaped, shaped_trans, Stays, optval_keep}
-use Rattle.cajita_simulation.proofs.Scopes.{stored_is}
+use Rattle.cajita_simulation.proofs.Relation.{EsValue, Vals, ObjectsAre, ScopeTag, tag_of_scope, Tags, Temps, Slot, unknown, declared, holds, keys, SlotIs, ScopeIs, SharedAre, ScopesAre, OptVal, AreScopes, ClosuresAre, Related, Shaped, shaped_trans, optval_keep}
 use Rattle.cajita_simulation.proofs.Written.{value_at-with_value, value_at-with_value-other}
 use Rattle.cajita_simulation.proofs.Shared.{plain_keep, shared_keep}
 use Rattle.cajita_simulation.proofs.Changes.{closures_kept, closures_shaped, scopes_keep}
 use Rattle.cajita_simulation.proofs.Entering.{NewScopes, scopes_more, scopes_are, scopes_coded, shaped_scope}
 use Rattle.cajita_simulation.proofs.Closures.{last_cases}
 use Rattle.cajita_simulation.proofs.Calling.Names.{shown_apart, other_bound}
-use Rattle.cajita_simulation.proofs.Calling.Head.{frozen_array, entry_of, args_names, args_store, read_store}
-use Rattle.cajita_simulation.proofs.Declaring.Stores.{all_codes, bare_store, bare_heap, bound_names}
+use Rattle.cajita_simulation.proofs.Calling.Head.{frozen_array, entry_of, args_names, args_store}
+use Rattle.cajita_simulation.proofs.Declaring.Stores.{all_codes, bare_store, bound_names}
 use Rattle.cajita_simulation.proofs.Declaring.Names.{Placed, name_new, declared_name, all_objects, bound_pairs, objects_world, functions_other, pairs_other}
-use Rattle.cajita_simulation.proofs.Declaring.Relation.{codes_kept, closures_older}
-use Rattle.cajita_simulation.proofs.Declaring.Awaiting.{AllAwait, await_later, Begun, Later, Granted, granted_alike}
+use Rattle.cajita_simulation.proofs.Declaring.Relation.{codes_kept}
+use Rattle.cajita_simulation.proofs.Declaring.Awaiting.{AllAwait, await_later, Begun, Granted, granted_alike}
 use Rattle.cajita_simulation.proofs.Declaring.Bare.{objects_bare, keeps_bare, await_bare}
 
 -- an array is no closure

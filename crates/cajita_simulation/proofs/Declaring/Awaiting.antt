@@ -1,12 +1,9 @@
 -- The functions that a body declares, where other objects stand behind them when they are marked: each gets its name where it stands.
-use Rattle.std.proofs.Common.{◌≡◌, ◌≢◌, ℕ, suc, ◌+◌, ◌*◌, ◌≤◌, ◌<◌, Bool, true, false, List, [], ◌∷◌, ◌++◌, length, Option, Some, None, cond, refl, sym, ap, ◌∙◌, subst, arith}
+use Rattle.std.proofs.Common.{◌≡◌, ℕ, suc, ◌≤◌, ◌<◌, Bool, true, false, List, length, Some, refl, sym, ap, ◌∙◌, subst, arith}
 use Rattle.std.specs.Prelude.{codes, slice_get, is_some, ◌||◌}
 use Rattle.std.specs.Cmp.Lexicographic.{same_text}
 use Rattle.std.proofs.lemmas.Option.{slice_get_within}
 use Rattle.caja_units.specs.Units.{same_units}
-use Rattle.plans.specs.Plans.{bind}
-use Rattle.acts.specs.Acts.{replied}
-use Rattle.matching.proofs.Rules.{right_enter, left_told}
 use Rattle.es3_tree.specs.Tree as t
 use Rattle.es3_heap.specs.declared.value.Value.TheVariants as es
 use Rattle.es3_heap.specs.declared.value.Class.TheVariants as class
@@ -17,40 +14,27 @@ use Rattle.es3_heap.specs.Properties.{find}
 use Rattle.es3_heap.specs.Making.{count_at}
 use Rattle.es3_language.specs.Store as store
 use Rattle.es3_language.specs.Store.{Store, Code, name_value, with_heap, with_name}
-use Rattle.es3_language.specs.References.{slot, resolve, member}
-use Rattle.es3_language.specs.Meaning as Target
 use Rattle.cajita_tree.specs.Tree as c
-use Rattle.cajita_rewrite.specs.Rewrite.{runtime_name, single, func_mark, marks}
 use Rattle.cajita_meaning.specs.World as World
-use Rattle.cajita_meaning.specs.World.{Pairs, Object, a_closure, made_name, value_at, with_value, with_last, World as State, next_name, with_object, declare, object}
-use Rattle.cajita_meaning.specs.Asking.{Reply, func_name, functions_made}
-use Rattle.cajita_meaning.specs.Direct.{Item, made, printed}
+use Rattle.cajita_meaning.specs.World.{Pairs, Object, a_closure, made_name, value_at, with_value, with_last, object}
+use Rattle.cajita_meaning.specs.Asking.{func_name}
+use Rattle.cajita_meaning.specs.Direct.{made}
 use Rattle.heap_rows.specs.Marks.{simple_mark}
-use Rattle.heap_rows.specs.Opening.{first, place_of, runtime_id}
-use Rattle.page_natives.specs.Natives.{Kept}
+use Rattle.heap_rows.specs.Opening.{first, place_of}
 use Rattle.row_simulation.specs.Correspond as rows
 use Rattle.row_simulation.proofs.Relation.{StillNamed}
 use Rattle.row_simulation.proofs.Changes.{by_number, room}
 use Rattle.row_simulation.proofs.Naming.{where_named, where_other, where_still, where_keeps, objects_where, where_given}
-use Rattle.cajita_simulation.specs.Alike.{shown}
-use Rattle.cajita_simulation.specs.Guest.{Names, Guest, NewFunc, NewFuncs, is_declared}
-use Rattle.cajita_simulation.proofs.Doing as Source
+use Rattle.cajita_simulation.specs.Guest.{Names, Guest, is_declared}
 use Rattle.cajita_simulation.proofs.Heaps.Names.{name_value-with_name}
-use Rattle.cajita_simulation.proofs.Heaps.Guards.{func-guard}
 use Rattle.cajita_simulation.proofs.Heaps.Functions.{function_object, marked_object}
-use Rattle.cajita_simulation.proofs.Relation.{EsValue, ObjectsAre, Here, env_of, Tags, names_at, OptVal, AreScopes, Captured, In, CodeIs, ClosuresAre, objects_step}
-use Rattle.cajita_simulation.proofs.Scopes.{captured_stays, in_stays}
+use Rattle.cajita_simulation.proofs.Relation.{ObjectsAre, Tags, OptVal, AreScopes, Captured, CodeIs, ClosuresAre}
+use Rattle.cajita_simulation.proofs.Scopes.{captured_stays}
 use Rattle.cajita_simulation.proofs.Written.{value_at-with_value}
-use Rattle.cajita_simulation.proofs.Changes.{shaped_heap, code_stays, printed_quiet}
-use Rattle.cajita_simulation.proofs.Slots.{slot_plan}
-use Rattle.cajita_simulation.proofs.Laws.{Cont, Cont', M}
-use Rattle.cajita_simulation.proofs.Rows.{Going}
-use Rattle.cajita_simulation.proofs.Calls.{opened_of, runtime_at, callee_at, guard_at}
+use Rattle.cajita_simulation.proofs.Changes.{shaped_heap, code_stays}
 use Rattle.cajita_simulation.proofs.Closures.{marked_is_new, closures_last}
-use Rattle.cajita_simulation.proofs.Calling.Entering.{here_at}
-use Rattle.cajita_simulation.proofs.Declaring.Stores.{declared_code, bound_names, named_at, func_at}
-use Rattle.cajita_simulation.proofs.Declaring.Names.{Placed, all_objects, bound_pairs, declared_world, functions_other, pairs_other}
-use Rattle.cajita_simulation.proofs.Declaring.Marks.{six, six_is}
+use Rattle.cajita_simulation.proofs.Declaring.Stores.{declared_code, bound_names, named_at}
+use Rattle.cajita_simulation.proofs.Declaring.Names.{bound_pairs, functions_other, pairs_other}
 
 -- a function that awaits its name stands at a place, and its code is there
 pub record Awaits (f : c.Tree c.func) (chain : List ℕ) (by place : ℕ) (codes : List Code) (h : Objects) : Type 0 where

@@ -1,13 +1,12 @@
 -- The marks of the functions that a body declares, where other objects stand behind these: after the last mark each is what the direct meaning made.
-use Rattle.std.proofs.Common.{◌≡◌, ℕ, suc, ◌+◌, ◌*◌, ◌≤◌, ◌<◌, true, false, List, [], ◌∷◌, length, Option, Some, None, refl, sym, ap, ◌∙◌, subst, arith}
+use Rattle.std.proofs.Common.{◌≡◌, ℕ, suc, ◌*◌, ◌≤◌, ◌<◌, true, List, [], ◌∷◌, length, Option, Some, None, refl, sym, ap, ◌∙◌, subst, arith}
 use Rattle.std.specs.Prelude.{codes, is_some}
 use Rattle.plans.specs.Plans.{bind}
 use Rattle.acts.specs.Acts.{replied}
 use Rattle.matching.proofs.Rules.{right_enter, left_told}
 use Rattle.es3_tree.specs.Tree as t
 use Rattle.es3_heap.specs.declared.value.Value.TheVariants as es
-use Rattle.es3_heap.specs.Objects as heap
-use Rattle.es3_heap.specs.Objects.{Objects, object_at}
+use Rattle.es3_heap.specs.Objects.{Objects}
 use Rattle.es3_language.specs.Store.{Store, name_value, with_heap}
 use Rattle.es3_language.specs.References.{slot, resolve, member}
 use Rattle.es3_language.specs.Meaning as Target
@@ -18,7 +17,6 @@ use Rattle.cajita_meaning.specs.Asking.{Reply, func_name, functions_made}
 use Rattle.cajita_meaning.specs.Direct.{Item, made, printed}
 use Rattle.heap_rows.specs.Opening.{first, runtime_id}
 use Rattle.page_natives.specs.Natives.{Kept}
-use Rattle.row_simulation.proofs.Changes.{by_number}
 use Rattle.row_simulation.proofs.Naming.{where_other}
 use Rattle.cajita_simulation.specs.Alike.{shown}
 use Rattle.cajita_simulation.specs.Guest.{Names, Guest, NewFunc, NewFuncs}

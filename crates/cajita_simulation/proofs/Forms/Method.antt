@@ -1,5 +1,5 @@
 -- Method calls and `new`: `o.k(a)` is `___.callPub(o,"k",[a])`, and `new f(a)` is `___.construct(f,[a])`.
-use Rattle.std.proofs.Common.{◌≡◌, ℕ, suc, ◌+◌, ◌-◌, ◌≤◌, ◌<◌, false, List, [], ◌∷◌, ◌++◌, length, inl, Option, Some, refl, sym, ap, ◌∙◌, subst, arith, zero, inr}
+use Rattle.std.proofs.Common.{◌≡◌, ℕ, suc, ◌+◌, ◌-◌, ◌≤◌, ◌<◌, false, List, [], ◌∷◌, ◌++◌, length, inl, Option, Some, refl, sym, ap, ◌∙◌, subst, arith, zero}
 use Rattle.std.specs.Prelude.{codes}
 use Rattle.plans.specs.Plans.{bind}
 use Rattle.matching.proofs.Rules.{right_enter}
