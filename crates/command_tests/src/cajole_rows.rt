@@ -24,7 +24,7 @@ type Row = (&'static str, (usize, &'static str, u8, u32));
 
 static ROWS: [Row; 7] = [
     ("", (86, "", 0, 0)),
-    ("for (var k in {}) ;", (0, "rule", 0, 0)),
+    ("for (var k in {}) ;", (251, "", 0, 0)),
     ("if (a) b;", (0, "rule", 10, 4)),
     ("1; foo_;", (0, "rule", 10, 3)),
     ("1; foo__;", (0, "rule", 1, 3)),
