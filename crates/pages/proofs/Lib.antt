@@ -1,0 +1,4 @@
+pub mod Steady
+pub mod Chain
+pub mod Whole
+pub mod Kept
