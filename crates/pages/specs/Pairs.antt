@@ -5,8 +5,8 @@ use Rattle.matching.specs.Sides.{EndsOf, Sides}
 use Rattle.matching.specs.Sentences.{SimulatedTo}
 use Rattle.pages.specs.Pages.{Turn, Evaluator, GrowsOn}
 
--- two evaluators side by side, and when both go on: `After`, of the results, the stores and what is kept on both sides, each with the count of the steps that
--- were taken. Of the sides it matters what they afford, where they stop, what begins what, what is longer, and how many steps are looked at
+-- two evaluators side by side, and when both go on: `After` speaks of the results, the stores and what is kept, each side's with the count of the steps that it
+-- took. Of `sides` it matters what they afford, how they stop, what begins and what is longer, and how many steps are looked at; their `Ends` are a turn's alone
 pub record PageSides (D R T E X I S D' R' T' E' X' I' S' : Type 0) : Type 1 where
   pub sides : Sides T E X I S T' E' X' I' S'
   pub left : Evaluator D R T E X I S
