@@ -1,0 +1,11 @@
+pub mod Faults
+pub mod Walk
+pub mod Names
+pub mod Page
+pub mod Named
+pub mod Manifest
+pub mod Bound
+pub mod Read
+pub mod Valid
+pub mod View
+pub mod Answers
