@@ -1,0 +1,73 @@
+//! The options that were matched, and the number among them.
+
+ghost use Rattle.std.specs.Prelude.{◌≡◌, Bool, Some, codes, option_map};
+ghost use Rattle.std.specs.Char.{is_ascii_digit};
+ghost use Rattle.std.specs.List.{list_all};
+ghost use Rattle.clap.specs.Words.{first_value, found_of, one_text};
+ghost use Rattle.clap.specs.Values.{bool_text};
+ghost use Rattle.command_words.specs.Words.{number_of, options, within};
+ghost use Rattle.command_words.specs.Matched.{steps_in};
+
+use crate::Options;
+use clap::ArgMatches;
+
+/// The steps where the words give none.
+const DEFAULT_STEPS: u32 = 1_000_000;
+
+/// The most steps that the words may give.
+const MOST_STEPS: u32 = 10_000_000;
+
+/// The most digits of a number.
+const MOST_DIGITS: usize = 8;
+
+/// The options of what was matched.
+pub fn options_in(matches: &ArgMatches) -> Option<Options>
+    ensures { (touch : Bool) → one_text (found_of matches.now) (codes "touch") ≡ Some (bool_text touch)
+        → result ≡ option_map (λ n. options n touch) (steps_in (first_value (found_of matches.now) (codes "steps"))) }
+{
+    let steps = match matches.get_str("steps") {
+        Some(text) => number_of(text)?,
+        None => DEFAULT_STEPS,
+    };
+    let touch = matches.get_flag("touch");
+    Some(Options { steps, touch })
+}
+
+/// A number of steps, where it is from 1 to the most.
+fn within(number: u32) -> Option<u32>
+    ensures { result ≡ within number }
+{
+    if 1 <= number && number <= MOST_STEPS {
+        Some(number)
+    } else {
+        None
+    }
+}
+
+/// Whether a text has decimal digits alone.
+fn are_digits(text: &str) -> bool
+    ensures { result ≡ list_all is_ascii_digit text.now }
+{
+    for byte in text.as_bytes() {
+        if !byte.is_ascii_digit() {
+            return false;
+        }
+    }
+    true
+}
+
+/// The number of steps that a text says, in one to eight decimal digits.
+fn number_of(text: &str) -> Option<u32>
+    ensures { result ≡ number_of text.now }
+{
+    if text.len() > MOST_DIGITS {
+        return None;
+    }
+    if !are_digits(text) {
+        return None;
+    }
+    match text.parse::<u32>() {
+        Ok(number) => within(number),
+        Err(_error) => None,
+    }
+}
