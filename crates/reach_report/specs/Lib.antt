@@ -1,0 +1,4 @@
+pub mod Links
+pub mod Groups
+pub mod Worked
+pub mod Pages
