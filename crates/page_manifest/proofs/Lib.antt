@@ -1,0 +1,4 @@
+pub mod Chains
+pub mod Bytes
+pub mod Told
+pub mod Validity

@@ -24,9 +24,12 @@ unless (Some i) fault a = Err (fault i)
 abbrev pub names_once : List (List ℕ) → Found (List (List ℕ))
 names_once names = unless (once_each names) (λ i. (twice, i)) names
 
+abbrev pub wish_names : Told → List (List ℕ)
+wish_names m = map (λ w. w.0) m.wishes
+
 -- no two grants of module i have one name
 abbrev pub wishes_once : ℕ → Told → Found (List (List ℕ))
-wishes_once i m = unless (once_each (map (λ w. w.0) m.wishes)) (λ _. (twice, i)) (map (λ w. w.0) m.wishes)
+wishes_once i m = unless (once_each (wish_names m)) (λ _. (twice, i)) (wish_names m)
 
 -- the number of a name, or a fault
 abbrev pub number_of : ℕ → ℕ → Option ℕ → Found ℕ
@@ -48,10 +51,10 @@ module _ (cells modules : List (List ℕ)) where
       chain (traverse (λ _. bound_wish i) 0 m.wishes) (λ gs.
       Ok (record { name = m.name; language = m.language; source = m.source; grants = gs }))
 
-  -- what event k asks for
-  abbrev pub bound_event : ℕ → Plan → Found Asked
-  bound_event k (for_call m key vs) = chain (number_of unknown_target k (place_in modules m)) (λ n. Ok (a_call n key vs))
-  bound_event k (for_tick m) = chain (number_of unknown_target k (place_in modules m)) (λ n. Ok (a_tick n))
+-- what event k asks for
+abbrev pub bound_event : List (List ℕ) → ℕ → Plan → Found Asked
+bound_event modules k (for_call m key vs) = chain (number_of unknown_target k (place_in modules m)) (λ n. Ok (a_call n key vs))
+bound_event modules k (for_tick m) = chain (number_of unknown_target k (place_in modules m)) (λ n. Ok (a_tick n))
 
 abbrev pub names_of : List Told → List (List ℕ)
 names_of ms = map (λ m. m.name) ms
@@ -67,5 +70,5 @@ abbrev pub bound : Manifest → Found Page
 bound p =
     chain (all_once p) (λ _.
     chain (traverse (bound_module p.cells (names_of p.modules)) 0 p.modules) (λ ms.
-    chain (traverse (bound_event p.cells (names_of p.modules)) 0 p.events) (λ es.
+    chain (traverse (bound_event (names_of p.modules)) 0 p.events) (λ es.
     Ok (record { cells = p.cells; modules = ms; events = es }))))

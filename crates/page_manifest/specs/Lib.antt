@@ -9,3 +9,4 @@ pub mod Read
 pub mod Valid
 pub mod View
 pub mod Answers
+pub mod NamedView

@@ -20,7 +20,7 @@ AreOnce names = once_each names ≡ None
 pub record IsModule (cells i : ℕ) (m : Module) : Type 0 where
   pub named : IsTrue (is_name m.name)
   pub few : length m.grants ≤ 64
-  pub spelled : All (λ g. IsTrue (is_grant_name g.0)) m.grants
+  pub spelled : All (λ s. IsTrue (is_grant_name s)) (map (λ g. g.0) m.grants)
   pub once : AreOnce (map (λ g. g.0) m.grants)
   pub granted : All (λ g. IsGranted cells i g.1) m.grants
 

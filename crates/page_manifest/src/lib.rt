@@ -1,9 +1,29 @@
 //! The manifest of a page: what its modules are, what each is granted, and what happens once they are loaded.
 #![tactic(auto)]
 
+ghost use Rattle.std.specs.Prelude.{IfOk};
+ghost use Rattle.page_manifest.specs.Answers.{Answers};
+ghost use Rattle.page_manifest.specs.Valid.{IsValid};
+ghost use Rattle.page_manifest.specs.Read.{json, page_of};
+ghost use Rattle.page_manifest.specs.View.{page};
+ghost use Rattle.serde_json.specs.View.{view};
+
+mod bound;
+mod events;
+mod fields;
+mod modules;
+mod named;
+mod names;
+mod pages;
+mod values;
+
+use bound::bound_page;
 use caja_units::{Memory, Units};
 use event_script::Event;
 use host_rules::Plain;
+use pages::manifest_of;
+use serde_json::Value;
+use std::alloc::{AllocError, AllocFailed, Global};
 use thiserror::Error;
 
 /// The language of a module: Cajita, or ECMAScript 3 that runs as it stands.
@@ -59,4 +79,56 @@ impl From<Memory> for PageError {
     fn from(_error: Memory) -> PageError {
         PageError::Memory
     }
+}
+
+impl From<AllocError> for PageError {
+    ghost use Rattle.std.specs.Prelude.{◌≡◌};
+    ghost use Rattle.page_manifest.specs.declared.PageError.TheVariants.{Memory};
+
+    ghost from_gives = { λ _ e. e ≡ Memory };
+
+    fn from(_error: AllocError) -> PageError {
+        PageError::Memory
+    }
+}
+
+impl<T: Drop> From<AllocFailed<T>> for PageError {
+    ghost use Rattle.std.specs.Prelude.{◌≡◌};
+    ghost use Rattle.page_manifest.specs.declared.PageError.TheVariants.{Memory};
+
+    ghost from_gives = { λ _ e. e ≡ Memory };
+
+    fn from(_error: AllocFailed<T>) -> PageError {
+        PageError::Memory
+    }
+}
+
+/// The value that bytes of JSON spell.
+fn value_of(alloc: Global, text: &[u8]) -> Result<Value, PageError>
+    ensures { Answers view result (json text.now) }
+{
+    match Value::from_slice(alloc, text) {
+        Ok(value) => Ok(value),
+        Err(refusal) => {
+            if refusal.is_memory() {
+                Err(PageError::Memory)
+            } else {
+                Err(PageError::Fault(1, 0))
+            }
+        }
+    }
+}
+
+/// The page that bytes are the manifest of: modules in Cajita, or, where `es3` is true, in ECMAScript 3 that runs as it stands.
+///
+/// # Errors
+///
+/// `Fault` with the first fault of the manifest, and `Memory` only where memory is wanting.
+pub fn read_page(alloc: Global, text: &[u8], es3: bool) -> Result<Page, PageError>
+    ensures answer { Answers page result (page_of es3 text.now) }
+    ensures valid { IfOk result (λ p. IsValid (page p)) }
+{
+    let value = value_of(alloc, text)?;
+    let manifest = manifest_of(alloc, &value, es3)?;
+    bound_page(alloc, manifest)
 }

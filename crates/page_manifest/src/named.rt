@@ -1,0 +1,43 @@
+//! A page as its manifest tells of it: cells and modules are known by their names.
+
+ghost use Rattle.std.specs.Prelude.{◌≤◌, vec_len};
+
+use crate::Lang;
+use caja_units::Units;
+use host_rules::Plain;
+
+/// What a module wants to be granted.
+#[derive(Drop)]
+pub enum Wish {
+    Cell(Units),
+    Module(Units),
+    Value(Plain),
+}
+
+/// A module, with its wishes under the names by which it imports them.
+#[derive(Drop)]
+pub struct Told {
+    pub name: Units,
+    pub lang: Lang,
+    pub source: Vec<u8>,
+    pub wishes: Vec<(Units, Wish)>,
+}
+
+/// An event.
+#[derive(Drop)]
+pub enum Plan {
+    /// The module, the key and the arguments.
+    Call(Units, Units, Vec<Plain>),
+    Tick(Units),
+}
+
+/// A page.
+#[derive(Drop)]
+pub struct Manifest {
+    pub cells: Vec<Units>,
+    pub modules: Vec<Told>,
+    pub events: Vec<Plan>,
+    ghost few_cells: { vec_len cells ≤ 64 },
+    ghost few_modules: { vec_len modules ≤ 64 },
+    ghost few_events: { vec_len events ≤ 10000 },
+}

@@ -1,0 +1,49 @@
+//! The fields of a page.
+
+ghost use Rattle.std.specs.Prelude.{◌≡◌, ◌≤◌, ◌∷◌, [], codes, vec_len, IfOk};
+ghost use Rattle.serde_json.specs.View.{view};
+ghost use Rattle.page_manifest.specs.Answers.{Answers};
+ghost use Rattle.page_manifest.specs.Manifest as spec;
+ghost use Rattle.page_manifest.specs.Walk.{may, each};
+ghost use Rattle.page_manifest.specs.NamedView as shown;
+
+use crate::PageError;
+use crate::events::plans;
+use crate::fields::{at_most, check_object, field};
+use crate::modules::{MOST_NAMES, modules};
+use crate::named::Manifest;
+use crate::values::{name, version};
+use caja_units::Units;
+use serde_json::Value;
+use std::alloc::Global;
+
+/// The names of the cells.
+fn cells(alloc: Global, page: &Value) -> Result<Vec<Units>, PageError>
+    ensures answer { Answers (λ list. list.items) result (may [] (each 64 spec.name) (codes "cells") 0 (view page.now)) }
+    ensures few { IfOk result (λ list. vec_len list ≤ 64) }
+{
+    let mut cells = Vec::new(alloc);
+    let Some(list) = page.get("cells") else {
+        return Ok(cells);
+    };
+    for (i, entry) in at_most(list, MOST_NAMES, 0)?.iter().enumerate() {
+        cells.push(name(alloc, entry, i as u32)?)?;
+    }
+    Ok(cells)
+}
+
+/// What the manifest says.
+pub fn manifest_of(alloc: Global, page: &Value, es3: bool) -> Result<Manifest, PageError>
+    ensures { Answers shown.manifest result (spec.manifest es3 (view page.now)) }
+{
+    check_object(page, &[&["version", "cells", "modules", "events"]], 0)?;
+    version(field(page, "version", 0)?, 0)?;
+    let cells = cells(alloc, page)?;
+    let modules = modules(alloc, field(page, "modules", 0)?, es3)?;
+    let events = plans(alloc, page)?;
+    Ok(Manifest {
+        cells,
+        modules,
+        events,
+    })
+}
