@@ -13,7 +13,7 @@ ghost use Rattle.std.specs.Prelude.{◌≡◌, ℕ, ◌+◌, ◌≤◌, List, []
 ghost use Rattle.plans.specs.Plans.{over, count_of, kept_of};
 ghost use Rattle.matching.specs.Sentences.{IsFinished, SimulatedTo};
 ghost use Rattle.pages.specs.Pages.{Evaluator, chain, deed, page, store_of, with_more};
-ghost use Rattle.pages.specs.Pairs.{PageSides, DeedsPair};
+ghost use Rattle.pages.specs.Pairs.{PageSides, DeedsPair, done};
 ghost use Rattle.pages.specs.Keeping.{Wherever, Keeping, DeedsKeep};
 
 /// A page without deeds is where it was, with all its steps.
@@ -52,7 +52,8 @@ pub trait PageBesidePage<D, R, T, E, X, I, S, D1, R1, T1, E1, X1, I1, S1> {
     ghost pages: { PageSides D R T E X I S D1 R1 T1 E1 X1 I1 S1 };
 }
 
-/// The law of a page: two pages whose deeds go in pairs are simulated, from wherever both go on, after t steps of the left side and s of the right one.
+/// The law of a page: two pages whose deeds go in pairs are simulated, from wherever both go on after i other deeds, after t steps of the left side and s of the
+/// right one.
 pub fn pages_in_pairs_are_simulated<
     D,
     R,
@@ -70,8 +71,8 @@ pub fn pages_in_pairs_are_simulated<
     S1,
     P: PageBesidePage<D, R, T, E, X, I, S, D1, R1, T1, E1, X1, I1, S1>,
 >()
-    ensures { (ds : List D) (ds1 : List D1) → DeedsPair P.pages ds ds1 → (r : R) (x : X) (z : S) (t : ℕ) (r1 : R1) (x1 : X1) (z1 : S1) (s : ℕ) → P.pages.After r x z t r1 x1 z1 s
-        → SimulatedTo P.pages.sides P.pages.After t s (λ n. page P.pages.left ds n r x z) (λ m. page P.pages.right ds1 m r1 x1 z1) }
+    ensures { (i : ℕ) (ds : List D) (ds1 : List D1) → DeedsPair P.pages i ds ds1 → (r : R) (x : X) (z : S) (t : ℕ) (r1 : R1) (x1 : X1) (z1 : S1) (s : ℕ) → P.pages.After i r x z t r1 x1 z1 s
+        → SimulatedTo P.pages.sides (P.pages.After (done i ds)) t s (λ n. page P.pages.left ds n r x z) (λ m. page P.pages.right ds1 m r1 x1 z1) }
 {}
 
 /// Nothing that was kept when a page began is lost, wherever it is cut: of the left side.
