@@ -2,3 +2,8 @@ pub mod Chains
 pub mod Bytes
 pub mod Told
 pub mod Validity
+pub mod Languages
+pub mod Tokens
+pub mod JsonSize
+pub mod DataSize
+pub mod Arguments

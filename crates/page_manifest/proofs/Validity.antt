@@ -27,51 +27,56 @@ use Rattle.page_manifest.specs.declared.Page.{Page as Made}
 use Rattle.page_manifest.specs.declared.PageError.{PageError}
 use Rattle.page_manifest.specs.Valid.{IsGranted, AreOnce, IsModule, IsAsked, IsValid}
 
-abbrev given : {A : Type 0} → A → Found A
+abbrev pub given : {A : Type 0} → A → Found A
 given a = Ok a
 
-ok_is : {A : Type 0} (a b : A) → given a ≡ given b → a ≡ b
+pub ok_is : {A : Type 0} (a b : A) → given a ≡ given b → a ≡ b
 ok_is a b e = ap (λ r. unwrap_or (result_ok r) a) e
 
-no_ok : {A P : Type 0} (f : Fault) (b : A) → Err f ≡ Ok b → P
+pub no_ok : {A P : Type 0} (f : Fault) (b : A) → Err f ≡ Ok b → P
 no_ok f b e = absurd (true≢false (sym (ap is_ok e)))
 
 -- what a chain found, each of its steps found
-record Steps {A B : Type 0} (x : Found A) (next : A → Found B) (b : B) : Type 0 where
+pub record Steps {A B : Type 0} (x : Found A) (next : A → Found B) (b : B) : Type 0 where
   pub first : A
   pub found : x ≡ Ok first
   pub after : next first ≡ Ok b
 
-steps : {A B : Type 0} (x : Found A) (next : A → Found B) (b : B) → chain x next ≡ Ok b → Steps x next b
+pub steps : {A B : Type 0} (x : Found A) (next : A → Found B) (b : B) → chain x next ≡ Ok b → Steps x next b
 steps (Ok a) next b e = record { first = a; found = refl; after = e }
 steps (Err f) next b e = no_ok f b e
 
-passed : {A : Type 0} (t : Bool) (a c : A) (f : Fault) → (if t then Ok a else Err f) ≡ Ok c → (t ≡ true) × (a ≡ c)
+pub passed : {A : Type 0} (t : Bool) (a c : A) (f : Fault) → (if t then Ok a else Err f) ≡ Ok c → (t ≡ true) × (a ≡ c)
 passed true a c f e = (refl, ok_is a c e)
 passed false a c f e = no_ok f c e
 
-not_passed : {A : Type 0} (t : Bool) (a c : A) (f : Fault) → (if t then Err f else Ok a) ≡ Ok c → (t ≡ false) × (a ≡ c)
+pub not_passed : {A : Type 0} (t : Bool) (a c : A) (f : Fault) → (if t then Err f else Ok a) ≡ Ok c → (t ≡ false) × (a ≡ c)
 not_passed true a c f e = no_ok f c e
 not_passed false a c f e = (refl, ok_is a c e)
 
 module _ {A B : Type 0} (read : ℕ → A → Found B) where
   -- each entry was read, at its index
-  data Reads : ℕ → List A → List B → Type 0 where
+  pub data Reads : ℕ → List A → List B → Type 0 where
     none : (i : ℕ) → Reads i [] []
     one : (i : ℕ) (a : A) (rest : List A) (b : B) (bs : List B) → read i a ≡ Ok b → Reads (i + 1) rest bs → Reads i (a ∷ rest) (b ∷ bs)
 
-  reads : (i : ℕ) (xs : List A) (bs : List B) → traverse read i xs ≡ Ok bs → Reads i xs bs
+  pub reads : (i : ℕ) (xs : List A) (bs : List B) → traverse read i xs ≡ Ok bs → Reads i xs bs
   reads i [] bs e = subst (λ l. Reads i [] l) (ok_is [] bs e) (none i)
   reads i (a ∷ rest) bs e =
       let s = steps (read i a) (λ b. chain (traverse read (i + 1) rest) (λ bs. Ok (b ∷ bs))) bs e in
       let t = steps (traverse read (i + 1) rest) (λ bs. Ok (s.first ∷ bs)) bs s.after in
       subst (λ l. Reads i (a ∷ rest) l) (ok_is (s.first ∷ t.first) bs t.after) (one i a rest s.first t.first s.found (reads (i + 1) rest t.first t.found))
 
-  all_read : (P : B → Type 0) → ((n : ℕ) (a : A) (b : B) → read n a ≡ Ok b → P b) → (i : ℕ) (xs : List A) (bs : List B) → Reads i xs bs → All P bs
+  pub all_read : (P : B → Type 0) → ((n : ℕ) (a : A) (b : B) → read n a ≡ Ok b → P b) → (i : ℕ) (xs : List A) (bs : List B) → Reads i xs bs → All P bs
   all_read P p i xs bs (none _) = All-nil P
   all_read P p i xs bs (one _ a rest b more e r) = All-cons P b more (p i a b e) (all_read P p (i + 1) rest more r)
 
-  count : (i : ℕ) (xs : List A) (bs : List B) → Reads i xs bs → length bs ≡ length xs
+  -- the same of entries of which something is known
+  pub all_under : (Q : A → Type 0) (P : B → Type 0) → ((n : ℕ) (a : A) (b : B) → Q a → read n a ≡ Ok b → P b) → (i : ℕ) (xs : List A) (bs : List B) → All Q xs → Reads i xs bs → All P bs
+  all_under Q P p i xs bs qs (none _) = All-nil P
+  all_under Q P p i xs bs qs (one _ a rest b more e r) = All-cons P b more (p i a b (All-head Q a rest qs) e) (all_under Q P p (i + 1) rest more (All-tail Q a rest qs) r)
+
+  pub count : (i : ℕ) (xs : List A) (bs : List B) → Reads i xs bs → length bs ≡ length xs
   count i xs bs (none _) = refl
   count i xs bs (one _ a rest b more e r) = ap suc (count (i + 1) rest more r)
 
@@ -90,12 +95,12 @@ module _ {A B : Type 0} (read : ℕ → A → Found B) where
 
 -- ---- the walk
 
-need_is : {A : Type 0} (read : ℕ → Data → Found A) (key : List ℕ) (i : ℕ) (d : Data) (a : A) → need read key i d ≡ Ok a → Steps (there i (get key d)) (read i) a
+pub need_is : {A : Type 0} (read : ℕ → Data → Found A) (key : List ℕ) (i : ℕ) (d : Data) (a : A) → need read key i d ≡ Ok a → Steps (there i (get key d)) (read i) a
 need_is read key i d a e = steps (there i (get key d)) (read i) a e
 
-may_is : {A : Type 0} (P : A → Type 0) (absent : A) (r : Data → Found A) (o : Option Data) (a : A) → P absent → ((d : Data) → r d ≡ Ok a → P a) → read_or absent r o ≡ Ok a → P a
+pub may_is : {A : Type 0} (P : A → Type 0) (absent : A) (r : Data → Found A) (o : Option Data) (a : A) → P absent → ((d : Data) → o ≡ Some d → r d ≡ Ok a → P a) → read_or absent r o ≡ Ok a → P a
 may_is P absent r None a p q e = subst P (ok_is absent a e) p
-may_is P absent r (Some d) a p q e = q d e
+may_is P absent r (Some d) a p q e = q d refl e
 
 few : (most i : ℕ) (d : Data) (ds : List Data) → at_most most i d ≡ Ok ds → length ds ≤ most
 few most i d ds e =
@@ -159,7 +164,7 @@ told_is runs i d t e =
     let name = need_is read.name (codes "name") i d n.first n.found in
     subst IsTold (ok_is _ t w.after) (record {
       named = spelled is_name i name.first n.first name.after;
-      wishes = may_is (Listed IsWish 64) [] (all 64 read.grant i) (get (codes "grants") d) w.first (nothing IsWish 64) (λ v. listed IsWish 64 i (λ _. read.grant i) (λ _. wish_is i) v w.first) w.found;
+      wishes = may_is (Listed IsWish 64) [] (all 64 read.grant i) (get (codes "grants") d) w.first (nothing IsWish 64) (λ v _. listed IsWish 64 i (λ _. read.grant i) (λ _. wish_is i) v w.first) w.found;
     })
 
 manifest_is : (runs : Bool) (d : Data) (m : Manifest) → read.manifest runs d ≡ Ok m → IsManifest m
@@ -171,9 +176,9 @@ manifest_is runs d m e =
     let a = steps (may [] (each 10000 read.event) (codes "events") 0 d) _ m t.after in
     let mods = need_is (each 64 (read.told runs)) (codes "modules") 0 d t.first t.found in
     subst IsManifest (ok_is _ m a.after) (record {
-      cells = may_is (Listed IsNamed 64) [] (each 64 read.name 0) (get (codes "cells") d) c.first (nothing IsNamed 64) (λ x. listed IsNamed 64 0 read.name (spelled is_name) x c.first) c.found;
+      cells = may_is (Listed IsNamed 64) [] (each 64 read.name 0) (get (codes "cells") d) c.first (nothing IsNamed 64) (λ x _. listed IsNamed 64 0 read.name (spelled is_name) x c.first) c.found;
       modules = listed IsTold 64 0 (read.told runs) (told_is runs) mods.first t.first mods.after;
-      events = may_is (Listed (λ _. Unit {0}) 10000) [] (each 10000 read.event 0) (get (codes "events") d) a.first (nothing (λ _. Unit {0}) 10000) (λ x. listed (λ _. Unit {0}) 10000 0 read.event (λ _ _ _ _. tt) x a.first) a.found;
+      events = may_is (Listed (λ _. Unit {0}) 10000) [] (each 10000 read.event 0) (get (codes "events") d) a.first (nothing (λ _. Unit {0}) 10000) (λ x _. listed (λ _. Unit {0}) 10000 0 read.event (λ _ _ _ _. tt) x a.first) a.found;
     })
 
 -- ---- what names stand for

@@ -2,6 +2,7 @@ pub mod Faults
 pub mod Walk
 pub mod Names
 pub mod Page
+pub mod Deeds
 pub mod Named
 pub mod Manifest
 pub mod Bound

@@ -1,5 +1,5 @@
 -- Pages in which no fault of a manifest stands.
-use Rattle.std.specs.Prelude.{◌≡◌, ◌≤◌, ◌<◌, ℕ, List, length, map, All, IsTrue, slice_get, None, Some}
+use Rattle.std.specs.Prelude.{◌≡◌, ◌≤◌, ◌<◌, ℕ, List, [], ◌∷◌, length, map, All, IsTrue, slice_get, None, Some}
 use Rattle.page_deeds.specs.Deeds.{Grant, a_cell, a_result, a_plain}
 use Rattle.event_script.specs.Events.{Asked, a_call, a_tick}
 use Rattle.page_manifest.specs.Names.{is_name, is_grant_name}
@@ -28,6 +28,12 @@ pub record IsModule (cells i : ℕ) (m : Module) : Type 0 where
 abbrev pub IsAsked : ℕ → Asked → Type 0
 IsAsked modules (a_call m key vs) = m < modules
 IsAsked modules (a_tick m) = m < modules
+
+-- each call of a key passes fewer arguments than the greatest number of 32 bits
+abbrev pub FewArguments : List Asked → Type 0
+FewArguments [] = Unit {0}
+FewArguments (a_call m key args ∷ es) = (length args < 4294967295) × FewArguments es
+FewArguments (a_tick m ∷ es) = FewArguments es
 
 pub record IsValid (p : Page) : Type 0 where
   pub few_cells : length p.cells ≤ 64

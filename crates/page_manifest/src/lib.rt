@@ -1,9 +1,13 @@
 //! The manifest of a page: what its modules are, what each is granted, and what happens once they are loaded.
+//!
+//! The functions without a body are laws: their contracts say what holds of the pages that manifests tell of.
 #![tactic(auto)]
 
-ghost use Rattle.std.specs.Prelude.{IfOk};
+ghost use Rattle.std.specs.Prelude.{◌≡◌, ◌<◌, ℕ, Bool, List, length, All, IfOk};
 ghost use Rattle.page_manifest.specs.Answers.{Answers};
-ghost use Rattle.page_manifest.specs.Valid.{IsValid};
+ghost use Rattle.page_manifest.specs.Manifest.{wanted};
+ghost use Rattle.page_manifest.specs.Page as spec;
+ghost use Rattle.page_manifest.specs.Valid.{IsValid, FewArguments};
 ghost use Rattle.page_manifest.specs.Read.{json, page_of};
 ghost use Rattle.page_manifest.specs.View.{page};
 ghost use Rattle.serde_json.specs.View.{view};
@@ -132,3 +136,15 @@ pub fn read_page(alloc: Global, text: &[u8], es3: bool) -> Result<Page, PageErro
     let manifest = manifest_of(alloc, &value, es3)?;
     bound_page(alloc, manifest)
 }
+
+/// Each module of a page is in Cajita, or, where texts run as they stand, in ECMAScript 3.
+#[tactic(auto, using(crate::proofs::Languages::modules_in_language))]
+pub fn a_page_has_modules_of_its_language_alone()
+    ensures { (runs : Bool) (bytes : List ℕ) (p : spec.Page) → page_of runs bytes ≡ Ok p → All (λ m. m.language ≡ (wanted runs).1) p.modules }
+{}
+
+/// Where a manifest has fewer than 4,294,967,295 bytes, each call of a key passes fewer arguments than that.
+#[tactic(auto, using(crate::proofs::Arguments::few_arguments))]
+pub fn arguments_can_be_counted()
+    ensures { (runs : Bool) (bytes : List ℕ) (p : spec.Page) → length bytes < 4294967295 → page_of runs bytes ≡ Ok p → FewArguments p.events }
+{}
