@@ -25,7 +25,7 @@ module _ (rules : Rules) (had : Had) where
   Keeps m r z = Replies (forms rules) noted (reach rules had) (λ y u. Known had y m u) r z
 
   -- what a module has it keeps
-  all_more : {z y : List Item} (m : ℕ) (vs : List Value) → IsMore z y → All (Known had z m) vs → All (Known had y m) vs
+  pub all_more : {z y : List Item} (m : ℕ) (vs : List Value) → IsMore z y → All (Known had z m) vs → All (Known had y m) vs
   all_more {z = z} {y = y} m vs l h = all_map (Known had z m) (Known had y m) (λ u q. known_more had z y m u l q) vs h
 
   -- objects that are made
@@ -43,7 +43,7 @@ module _ (rules : Rules) (had : Had) where
   -- what is passed, and what comes back
 
   -- what is passed is had by who gave it, and then by who takes it
-  passing_kept : (n a b : ℕ) (vs : List Value) (q : A.Reply) (w : World) (z : List Item) → Invariant had w z → All (Known had z a) vs → ((y : List Item) → IsMore z y → Invariant had w y → All (Known had y b) vs → Keeps n q y) → Keeps n (A.passing a b vs q) z
+  pub passing_kept : (n a b : ℕ) (vs : List Value) (q : A.Reply) (w : World) (z : List Item) → Invariant had w z → All (Known had z a) vs → ((y : List Item) → IsMore z y → Invariant had w y → All (Known had y b) vs → Keeps n q y) → Keeps n (A.passing a b vs q) z
   passing_kept n a b [] q w z i h go = go z (no_more z) i tt
   passing_kept n a b (object o ∷ vs) q w z i h go =
       let t = passed a b o in

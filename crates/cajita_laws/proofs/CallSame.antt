@@ -39,14 +39,27 @@ module _ (rules : Rules) (g : Group) (u : World) (x : List Item) where
 
   -- what is passed, and what comes back
 
-  passing_same : (a b : ℕ) (vs : List Value) (r q : A.Reply) (w : World) (z : List Item) (v : World) (y : List Item) → g.modules a ≡ true → Alike g u x w z v y → ((z' y' : List Item) → Alike g u x w z' v y' → Same r z' q y') → Same (A.passing a b vs r) z (A.passing a b vs q) y
+  -- an object is sent by the group
+  abbrev pub Sends : ℕ → Value → Type 0
+  Sends a (object o) = g.modules a ≡ true
+  Sends a p = Unit {0}
+
+  pub sends : (a : ℕ) (p : Value) → g.modules a ≡ true → Sends a p
+  sends a (object o) run = run
+  sends a p run = tt
+
+  pub all_sent : (a : ℕ) (vs : List Value) → g.modules a ≡ true → All (Sends a) vs
+  all_sent a [] run = tt
+  all_sent a (p ∷ vs) run = (sends a p run, all_sent a vs run)
+
+  pub passing_same : (a b : ℕ) (vs : List Value) (r q : A.Reply) (w : World) (z : List Item) (v : World) (y : List Item) → All (Sends a) vs → Alike g u x w z v y → ((z' y' : List Item) → Alike g u x w z' v y' → Same r z' q y') → Same (A.passing a b vs r) z (A.passing a b vs q) y
   passing_same a b [] r q w z v y run l go = go z y l
-  passing_same a b (object o ∷ vs) r q w z v y run l go = passing_same a b vs r q w (noted (passed a b o) z) v (noted (passed a b o) y) run (told g u x (passed a b o) run l) go
-  passing_same a b (p ∷ vs) r q w z v y run l go = passing_same a b vs r q w z v y run l go
+  passing_same a b (object o ∷ vs) r q w z v y run l go = passing_same a b vs r q w (noted (passed a b o) z) v (noted (passed a b o) y) run.1 (told g u x (passed a b o) run.0 l) go
+  passing_same a b (p ∷ vs) r q w z v y run l go = passing_same a b vs r q w z v y run.1 l go
 
   returned_same : (by m : ℕ) (e : Completion) (w : World) (z : List Item) (v : World) (y : List Item) → g.modules m ≡ true → All (Own g) (values_of e) → Alike g u x w z v y → Same (A.returned_reply by m e w) z (A.returned_reply by m e v) y
-  returned_same by m (returned p) w z v y run own a = passing_same m by (p ∷ []) (A.good_value p w) (A.good_value p v) w z v y run a (λ z' y' l. (refl, refl, own, l))
-  returned_same by m (threw p) w z v y run own a = passing_same m by (p ∷ []) (answer A.bad (p ∷ []) w) (answer A.bad (p ∷ []) v) w z v y run a (λ z' y' l. (refl, refl, own, l))
+  returned_same by m (returned p) w z v y run own a = passing_same m by (p ∷ []) (A.good_value p w) (A.good_value p v) w z v y (all_sent m (p ∷ []) run) a (λ z' y' l. (refl, refl, own, l))
+  returned_same by m (threw p) w z v y run own a = passing_same m by (p ∷ []) (answer A.bad (p ∷ []) w) (answer A.bad (p ∷ []) v) w z v y (all_sent m (p ∷ []) run) a (λ z' y' l. (refl, refl, own, l))
   returned_same by m e w z v y run own a = (refl, refl, (tt, tt), a)
 
   -- the statements of a closure
@@ -94,8 +107,8 @@ module _ (rules : Rules) (g : Group) (u : World) (x : List Item) where
       (arguments_same args vs n m (W.with_scope m names w) z (W.with_scope m names v) y made own run (with_scope_alike g u x names m (with_vars_has (Own g) tt vars (W.with_params params vs []) (with_params_has (Own g) tt params vs [] own tt)) run al) (λ w1 z1 v1 y1 l1.
       functions_same fs n a.chain m w1 z1 v1 y1 go run l1 (λ w2 z2 v2 y2 l2. statements_same xs a m by w2 z2 v2 y2 run l2)))
 
-  -- the entry of a closure of the group, called by a module of the group
-  pub entry_same : (f : c.Tree c.func) (chain : List ℕ) (m : ℕ) (vs : List Value) (calls by : ℕ) (w : World) (z : List Item) (v : World) (y : List Item) → All (Own g) vs → g.modules m ≡ true → g.modules by ≡ true → Alike g u x w z v y → Same (A.entry_reply f chain m vs calls by w) z (A.entry_reply f chain m vs calls by v) y
+  -- the entry of a closure of the group, called by a module of the group or without objects
+  pub entry_same : (f : c.Tree c.func) (chain : List ℕ) (m : ℕ) (vs : List Value) (calls by : ℕ) (w : World) (z : List Item) (v : World) (y : List Item) → All (Own g) vs → g.modules m ≡ true → All (Sends by) vs → Alike g u x w z v y → Same (A.entry_reply f chain m vs calls by w) z (A.entry_reply f chain m vs calls by v) y
   entry_same (c.fun name params args body) chain m vs calls by w z v y own mine run a =
       let around : ℕ → A.Around = λ n. record { chain = n ∷ chain; calls = calls + 1 } in
       let inside : ℕ → World → A.Reply = λ n q. A.body_reply body params args vs n (around n) m by q in
@@ -123,7 +136,7 @@ module _ (rules : Rules) (g : Group) (u : World) (x : List Item) where
 
   closure_same : (calls : ℕ) (b : Bool) (o : Option Object) (m n : ℕ) (vs : List Value) (by : ℕ) (w : World) (z : List Item) (v : World) (y : List Item) → g.modules m ≡ true → All (Own g) vs → g.modules by ≡ true → Alike g u x w z v y → Same (A.closure_call calls b o m n vs by w) z (A.closure_call calls b o m n vs by v) y
   closure_same calls b (Some (a_closure f chain)) m n vs by w z v y mine own run a =
-      touching_same b by (made_name m n) (A.entry_reply f chain m vs calls by w) (A.entry_reply f chain m vs calls by v) w z v y run a (λ z' y' l. entry_same f chain m vs calls by w z' v y' own mine run l)
+      touching_same b by (made_name m n) (A.entry_reply f chain m vs calls by w) (A.entry_reply f chain m vs calls by v) w z v y run a (λ z' y' l. entry_same f chain m vs calls by w z' v y' own mine (all_sent by vs run) l)
   closure_same calls b o m n vs by w z v y mine own run a = refused_same by w z v y run a
 
   native_call_same : (calls : ℕ) (b : Bool) (f : Option Native) (n : Name) (t : Value) (vs : List Value) (by : ℕ) (w : World) (z : List Item) (v : World) (y : List Item) → OwnName g n → All (Own g) (t ∷ vs) → g.modules by ≡ true → Alike g u x w z v y → Same (A.native_call calls b f n t vs by w) z (A.native_call calls b f n t vs by v) y

@@ -5,10 +5,13 @@ pub mod Invariant
 pub mod RowReach
 pub mod CallReach
 pub mod Reach
+pub mod EventArguments
+pub mod EventReach
 pub mod Alike
 pub mod RowSame
 pub mod CallSame
 pub mod Same
+pub mod EventSame
 pub mod Told
 pub mod Turns
 pub mod Parts

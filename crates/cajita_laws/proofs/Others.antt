@@ -2,12 +2,14 @@
 use Rattle.std.proofs.Common.{◌≡◌, Bool, true, false, List, [], ◌∷◌, refl, sym, ap, ◌∙◌}
 use Rattle.std.specs.Prelude.{not, if◌then◌else◌}
 use Rattle.plans.specs.Plans.{over, stopped, out, kept_of}
+use Rattle.page_deeds.specs.Deeds.{labelled}
 use Rattle.cajita_meaning.specs.World.{World}
+use Rattle.cajita_meaning.specs.Events.{key_event, tick_event}
 use Rattle.cajita_meaning.specs.Direct.{Item, made, got, touched, passed, granted, said, was_revoked, changed_node, ended, Run, load_run}
 use Rattle.cajita_laws.specs.Parts.{Group, others, side, tells, items_of, SamePart, Closed, Alike}
-use Rattle.cajita_laws.specs.Turns.{world_of, call_run, question_run, SameTurns, LeavesAlone, LoadLeavesAlone, QuestionLeavesAlone, CallLeavesAlone}
+use Rattle.cajita_laws.specs.Turns.{world_of, reply_run, call_run, question_run, SameTurns, LeavesAlone, LoadLeavesAlone, QuestionLeavesAlone, CallLeavesAlone, KeyLeavesAlone, TickLeavesAlone}
 use Rattle.cajita_laws.proofs.Parts.{same_self, closed_alike}
-use Rattle.cajita_laws.proofs.Turns.{load_isolates, question_isolates, call_isolates}
+use Rattle.cajita_laws.proofs.Turns.{load_isolates, question_isolates, call_isolates, key_isolates, tick_isolates}
 
 not_not : (b : Bool) → not (not b) ≡ b
 not_not true = refl
@@ -23,7 +25,7 @@ others_tell g (granted m o) = not_not (g.modules m)
 others_tell g (said m us) = not_not (g.modules m)
 others_tell g (was_revoked m p) = not_not (g.modules m)
 others_tell g (changed_node r k c) = not_not (g.roots r)
-others_tell g (ended m c o) = not_not (g.modules m)
+others_tell g (ended l e) = not_not (g.modules (labelled l))
 
 -- what the others of the others did is what the group did
 others_items : (g : Group) (z : List Item) → items_of false (others g) z ≡ items_of true g z
@@ -63,3 +65,9 @@ question_leaves_alone g rules q m other vs own w z c n = left_alone g w z (quest
 
 pub call_leaves_alone : CallLeavesAlone
 call_leaves_alone g rules calls recorded f t vs m other own w z c n = left_alone g w z (call_run rules calls recorded f t vs m w z n) (call_isolates (others g) w z rules calls recorded f t vs m (ap not other) own w z w z (alike_self (others g) w z c) n)
+
+pub key_leaves_alone : KeyLeavesAlone
+key_leaves_alone g rules m other k p own vs plain w z c n = left_alone g w z (reply_run rules (key_event m k (p ∷ vs) w) z n) (key_isolates (others g) w z rules m (ap not other) k p own vs plain w z w z (alike_self (others g) w z c) n)
+
+pub tick_leaves_alone : TickLeavesAlone
+tick_leaves_alone g rules m other f own w z c n = left_alone g w z (reply_run rules (tick_event m f w) z n) (tick_isolates (others g) w z rules m (ap not other) f own w z w z (alike_self (others g) w z c) n)

@@ -26,7 +26,7 @@ module _ (rules : Rules) (had : Had) (methods : HaveTextMethods had) where
   -- rows
 
   -- what a row told was reached when it told it
-  telling_kept : (m : ℕ) (is : List Item) (q : A.Reply) (z : List Item) → Keeps m q (z ++ is) → Keeps m (A.telling_all is q) z
+  pub telling_kept : (m : ℕ) (is : List Item) (q : A.Reply) (z : List Item) → Keeps m q (z ++ is) → Keeps m (A.telling_all is q) z
   telling_kept m [] q z h = subst (Keeps m q) (append-nil z) h
   telling_kept m (i ∷ is) q z h = telling_kept m is q (noted i z) (subst (Keeps m q) (sym (append_assoc z (i ∷ []) is)) h)
 

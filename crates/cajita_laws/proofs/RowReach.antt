@@ -4,6 +4,7 @@ use Rattle.std.specs.Prelude.{nat_eq, nat_lt, if◌then◌else◌, slice_get, sl
 use Rattle.std.proofs.lemmas.List.{append-nil, append_assoc, length-set}
 use Rattle.plans.specs.Plans.{Fault}
 use Rattle.acts.specs.Laws.{All}
+use Rattle.acts.proofs.Keeps.{all_append}
 use Rattle.rows.specs.Rows as r
 use Rattle.rows.specs.Rows.{Handle, Native, Ending, Row}
 use Rattle.rows.specs.Names.{is_of_text}
@@ -12,10 +13,10 @@ use Rattle.rows.specs.Document.{Node, Change}
 use Rattle.cajita_meaning.specs.World as W
 use Rattle.cajita_meaning.specs.World.{Name, Value, undefined, object, text, made_name, cell_name, own_name, built_name, facet_name, forward_name, Object, World}
 use Rattle.cajita_meaning.specs.Doing as d
-use Rattle.cajita_meaning.specs.Doing.{Item, got, touched, said, Held, Done, Outcome, given, value_of, way_of, names_of, method_value, way_into, got_along, got_from, got_one, got_all, got_values, finish, does}
-use Rattle.cajita_laws.specs.Reach.{IsIn, Had, have, Known, IsMore, Invariant, HaveTextMethods}
+use Rattle.cajita_meaning.specs.Doing.{Item, got, touched, passed, said, Held, Done, Outcome, given, value_of, way_of, names_of, method_value, way_into, got_along, got_from, got_one, got_all, got_values, finish, does}
+use Rattle.cajita_laws.specs.Reach.{IsIn, Had, have, Known, Waits, IsMore, Invariant, HaveTextMethods}
 use Rattle.cajita_laws.proofs.Had.{gain_new, have_keeps, no_more, more_behind, more_onward, known_more, in_noted}
-use Rattle.cajita_laws.proofs.Invariant.{noted, item_told, object_made, made_known, elsewhere_changed}
+use Rattle.cajita_laws.proofs.Invariant.{noted, item_told, object_made, made_known, queue_changed, elsewhere_changed}
 
 -- pairs of lists, item by item
 abbrev pub Both : {A B : Type 0} → (A → B → Type 0) → List A → List B → Type 0
@@ -150,29 +151,51 @@ module _ (had : Had) (methods : HaveTextMethods had) (m : ℕ) where
     where
       at : (o : Option Object) → Invariant had (d.changed_object f k n o w) z
       at None = i
-      at (Some o) = record { names = record { numbered = i.names.numbered; counts = λ j. i.names.counts j ∙ counted_changed k n (f o) w j (nat_eq j k) refl }; reached = i.reached; scopes = i.scopes }
+      at (Some o) = record { names = record { numbered = i.names.numbered; counts = λ j. i.names.counts j ∙ counted_changed k n (f o) w j (nat_eq j k) refl }; reached = i.reached; scopes = i.scopes; queues = i.queues }
   changed_kept f p w z i = i
 
   -- the page's own state holds nothing that the invariant speaks of
   keeping_kept : (v u : Value) (w : World) (z : List Item) → Invariant had w z → Invariant had (d.keeping v u w) z
-  keeping_kept (object (cell_name c j)) u w z i = elsewhere_changed had refl refl i
-  keeping_kept (object (forward_name k p c j)) u w z i = elsewhere_changed had refl refl i
+  keeping_kept (object (cell_name c j)) u w z i = elsewhere_changed had refl refl refl i
+  keeping_kept (object (forward_name k p c j)) u w z i = elsewhere_changed had refl refl refl i
   keeping_kept p u w z i = i
 
-  queueing_kept : (v u : Value) (w : World) (z : List Item) → Invariant had w z → Invariant had (d.queueing v u w) z
-  queueing_kept (object (own_name k j)) u w z i = elsewhere_changed had refl refl i
-  queueing_kept p u w z i = i
+  -- what is put behind a queue goes to its module, but for what a module made
+  last_waits : (k : ℕ) (u : Value) (w : World) (z : List Item) → Invariant had w z → Waits had z k u → Invariant had (W.with_queue k (w.queues k ++ u ∷ []) w) z
+  last_waits k u w z i h = queue_changed had k (w.queues k ++ u ∷ []) i (all_append (Waits had z k) (w.queues k) (u ∷ []) (i.queues k) (h, tt))
+
+  -- what a module has may wait for it
+  pub known_waits : (z : List Item) (k : ℕ) (v : Value) → Known had z k v → Waits had z k v
+  known_waits z k (object (made_name j n)) h = tt
+  known_waits z k v h = h
+
+  passed_waits : (k : ℕ) (way : List Name) (o : Name) (w : World) (z : List Item) → Invariant had w z → OnWay z (object o) way → Invariant had (W.with_queue k (w.queues k ++ object o ∷ []) w) (z ++ (got_along m way o ++ passed m k o ∷ []))
+  passed_waits k way o w z i h =
+      let y = z ++ got_along m way o in
+      let g = along_kept way o w z i h in
+      let t = passed m k o in
+      subst (Invariant had (W.with_queue k (w.queues k ++ object o ∷ []) w)) (append_assoc z (got_along m way o) (t ∷ []))
+      (last_waits k (object o) w (noted t y) (item_told had t tt g.0 g.1) (known_waits (noted t y) k (object o) (in_noted had y t k o (gain_new k o (have had y)))))
+
+  waiting_kept : (k : ℕ) (way : List Name) (u : Value) (w : World) (z : List Item) → Invariant had w z → OnWay z u way → Invariant had (W.with_queue k (w.queues k ++ u ∷ []) w) (z ++ d.to_wait m k way u)
+  waiting_kept k way (object (made_name j n)) w z i h = subst (Invariant had (W.with_queue k (w.queues k ++ object (made_name j n) ∷ []) w)) (sym (append-nil z)) (last_waits k (object (made_name j n)) w z i tt)
+  waiting_kept k way (object o) w z i h = passed_waits k way o w z i h
+  waiting_kept k way u w z i h = subst (Invariant had (W.with_queue k (w.queues k ++ u ∷ []) w)) (sym (append-nil z)) (last_waits k u w z i tt)
+
+  queueing_kept : (v : Value) (way : List Name) (u : Value) (w : World) (z : List Item) → Invariant had w z → OnWay z u way → Invariant had (d.queueing v u w) (z ++ d.handing_over m v way u)
+  queueing_kept (object (own_name k j)) way u w z i h = waiting_kept k way u w z i h
+  queueing_kept p way u w z i h = subst (Invariant had w) (sym (append-nil z)) i
 
   saying_kept : (v : Value) (us : List ℕ) (w : World) (z : List Item) → Invariant had w z → Invariant had w (z ++ d.saying v us)
   saying_kept (object (own_name k j)) us w z i = item_told had (said k us) tt i tt
   saying_kept p us w z i = subst (Invariant had w) (sym (append-nil z)) i
 
   noding_kept : (v : Value) (f : ℕ → List Node → List Node) (w : World) (z : List Item) → Invariant had w z → Invariant had (d.noding v f w) z
-  noding_kept (object (facet_name root e)) f w z i = elsewhere_changed had refl refl i
+  noding_kept (object (facet_name root e)) f w z i = elsewhere_changed had refl refl refl i
   noding_kept p f w z i = i
 
   listening_kept : (v : Value) (us : List ℕ) (f : Value) (w : World) (z : List Item) → Invariant had w z → Invariant had (d.listening v us f w) z
-  listening_kept (object (facet_name root e)) us f w z i = elsewhere_changed had refl refl i
+  listening_kept (object (facet_name root e)) us f w z i = elsewhere_changed had refl refl refl i
   listening_kept p us f w z i = i
 
   node_told_kept : (v : Value) (c : Change) (w : World) (z : List Item) → Invariant had w z → Invariant had w (z ++ d.node_told v c)
@@ -263,7 +286,10 @@ module _ (had : Had) (methods : HaveTextMethods had) (m : ℕ) where
       behind w z y (got_from m (way_into s x) v) (d.gives v) g.0 g.1
   settle_reached (r.keeps x v) s w z y i h = record { inv = keeping_kept (value_of s.values x) (value_of s.values v) w (z ++ y) i; gained = tt }
   settle_reached (r.says x us) s w z y i h = behind w z y (d.saying (value_of s.values x) us) (d.gives undefined) (saying_kept (value_of s.values x) us w (z ++ y) i) tt
-  settle_reached (r.queues x f) s w z y i h = record { inv = queueing_kept (value_of s.values x) (value_of s.values f) w (z ++ y) i; gained = tt }
+  settle_reached (r.queues x f) s w z y i h =
+      let v = value_of s.values x in
+      let u = value_of s.values f in
+      behind (d.queueing v u w) z y (d.handing_over m v (way_of s f) u) (d.gives undefined) (queueing_kept v (way_of s f) u w (z ++ y) i (on_way (z ++ y) s h f)) tt
   settle_reached (r.changes_node x c a) s w z y i h =
       let v = value_of s.values x in
       let is = d.node_told v c in

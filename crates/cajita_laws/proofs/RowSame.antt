@@ -16,7 +16,7 @@ use Rattle.es3_tokens.specs.TextNumber.{text_number}
 use Rattle.cajita_meaning.specs.World as W
 use Rattle.cajita_meaning.specs.World.{Name, Value, undefined, null, truth, number, text, object, made_name, cell_name, own_name, built_name, tools_name, facet_name, forward_name, Pairs, Object, a_record, an_array, an_error, a_closure, World}
 use Rattle.cajita_meaning.specs.Doing as d
-use Rattle.cajita_meaning.specs.Doing.{Item, got, touched, said, made, Held, Done, Outcome, given, value_of, way_of, names_of, method_value, way_into, got_along, got_from, got_one, got_all, got_values, finish, does}
+use Rattle.cajita_meaning.specs.Doing.{Item, got, touched, passed, said, made, Held, Done, Outcome, given, value_of, way_of, names_of, method_value, way_into, got_along, got_from, got_one, got_all, got_values, finish, does}
 use Rattle.cajita_laws.specs.Parts.{Group, OwnName, Own, OwnPairs, OwnObject, SamePart, Closed, Alike}
 use Rattle.cajita_laws.proofs.Scopes.{picked, got_has, with_value_has}
 use Rattle.cajita_laws.proofs.Alike.{Mine, told_behind, with_object_alike, with_made_alike, with_cell_alike, with_queue_alike, with_nodes_alike, with_handler_alike}
@@ -198,6 +198,15 @@ module _ (g : Group) (u : World) (x : List Item) (m : ℕ) (run : g.modules m �
   saying_mine (object (own_name k i)) us own = (own, tt)
   saying_mine p us own = tt
 
+  waiting_mine : (k : ℕ) (way : List Name) (a : Value) → Mine g u x (d.to_wait m k way a)
+  waiting_mine k way (object (made_name j n)) = tt
+  waiting_mine k way (object o) = all_append IsMine (got_along m way o) (passed m k o ∷ []) (along_mine way o) (run, tt)
+  waiting_mine k way p = tt
+
+  handing_mine : (b : Value) (way : List Name) (a : Value) → Mine g u x (d.handing_over m b way a)
+  handing_mine (object (own_name k i)) way a = waiting_mine k way a
+  handing_mine p way a = tt
+
   -- changes of the world
 
   key_own : (k : List ℕ) (a : Value) → Own g a → (o : Object) → OwnObject g o → OwnObject g (d.with_key k a o)
@@ -351,7 +360,10 @@ module _ (g : Group) (u : World) (x : List Item) (m : ℕ) (run : g.modules m �
   settle_same (r.says c us) s w v z y t h a =
       record { outcome = refl; items = refl; own = tt; alike = told_behind g u x t _ _ _ _ (d.saying (value_of s.values c) us) (saying_mine (value_of s.values c) us (value_own s.values h c)) a }
   settle_same (r.queues c f) s w v z y t h a =
-      plain_same (d.gives undefined) tt (d.queueing (value_of s.values c) (value_of s.values f) w) (d.queueing (value_of s.values c) (value_of s.values f) v) z y t (queueing_alike (value_of s.values c) (value_of s.values f) (value_own s.values h c) (value_own s.values h f) w (z ++ t) v (y ++ t) a)
+      let b = value_of s.values c in
+      let e = value_of s.values f in
+      let is = d.handing_over m b (way_of s f) e in
+      record { outcome = refl; items = refl; own = tt; alike = told_behind g u x t _ _ _ _ is (handing_mine b (way_of s f) e) (queueing_alike b e (value_own s.values h c) (value_own s.values h f) w (z ++ t) v (y ++ t) a) }
   settle_same (r.changes_node c k b) s w v z y t h a =
       let n = value_of s.values c in
       let own = value_own s.values h c in

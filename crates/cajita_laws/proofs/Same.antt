@@ -28,7 +28,7 @@ module _ (rules : Rules) (g : Group) (u : World) (x : List Item) where
   -- rows
 
   -- what a row told is told in both
-  telling_same : (is : List Item) (r q : A.Reply) (z y : List Item) → Same r (z ++ is) q (y ++ is) → Same (A.telling_all is r) z (A.telling_all is q) y
+  pub telling_same : (is : List Item) (r q : A.Reply) (z y : List Item) → Same r (z ++ is) q (y ++ is) → Same (A.telling_all is r) z (A.telling_all is q) y
   telling_same [] r q z y h = subst (λ l. Same r l q y) (append-nil z) (subst (λ l. Same r (z ++ []) q l) (append-nil y) h)
   telling_same (i ∷ is) r q z y h =
       telling_same is r q (noted i z) (noted i y) (subst (λ l. Same r l q (noted i y ++ is)) (sym (append_assoc z (i ∷ []) is)) (subst (λ l. Same r (z ++ i ∷ is) q l) (sym (append_assoc y (i ∷ []) is)) h))

@@ -9,22 +9,25 @@ use Rattle.acts.proofs.Same.{run_same, reply_same}
 use Rattle.rows.specs.Nodes.{Rules}
 use Rattle.cajita_meaning.specs.World.{made_name, Value, object, World, undefined}
 use Rattle.cajita_meaning.specs.Asking.{Reply, Shape, bad, a_load, reply, call_reply}
+use Rattle.cajita_meaning.specs.Events.{the_page, key_event, tick_event}
 use Rattle.cajita_meaning.specs.Direct.{Item, Plan, Run, values_of, forms, direct, load_run}
 use Rattle.cajita_laws.specs.Reach.{Had, Known, IsMore, HaveTextMethods, StartsReached}
 use Rattle.cajita_laws.specs.Parts.{Group, Own}
-use Rattle.cajita_laws.specs.Turns.{ended_so, reply_run, Reaches, LoadReaches, QuestionReaches, CallReaches, ClosureReaches, SameTurns, LoadIsolates, QuestionIsolates, CallIsolates}
+use Rattle.cajita_laws.specs.Turns.{ended_so, reply_run, Reaches, LoadReaches, QuestionReaches, CallReaches, ClosureReaches, KeyReaches, TickReaches, SameTurns, LoadIsolates, QuestionIsolates, CallIsolates, KeyIsolates, TickIsolates}
 use Rattle.cajita_laws.proofs.Had.{no_more, more_behind, more_onward}
 use Rattle.cajita_laws.proofs.Made.{all_first, made_of}
 use Rattle.cajita_laws.proofs.Invariant.{noted, reach}
 use Rattle.cajita_laws.proofs.CallReach.{Keeps, call_kept, unrecorded_kept}
 use Rattle.cajita_laws.proofs.Reach.{answers_reach}
+use Rattle.cajita_laws.proofs.EventReach.{page_call_kept, key_kept}
 use Rattle.cajita_laws.proofs.Alike.{twins}
 use Rattle.cajita_laws.proofs.CallSame.{Same, call_same}
 use Rattle.cajita_laws.proofs.Same.{answers_same}
+use Rattle.cajita_laws.proofs.EventSame.{page_call_same, key_same}
 
 -- where nothing was done the invariant holds
 pub at_the_start : StartsReached
-at_the_start had = record { names = record { numbered = tt; counts = λ m. refl }; reached = tt; scopes = λ m. tt }
+at_the_start had = record { names = record { numbered = tt; counts = λ m. refl }; reached = tt; scopes = λ m. tt; queues = λ m. tt }
 
 -- what a turn comes to has values of its answer alone
 ended_has : (P : Value → Type 0) → P undefined → (a : Shape) (vs : List Value) → All P vs → All P (values_of (ended_so a vs))
@@ -70,6 +73,12 @@ pub closure_reaches : ClosureReaches
 closure_reaches had methods rules calls k j t vs m w z i h n =
     reply_reaches rules had methods m (call_reply calls false (object (made_name k j)) t vs m w) z (unrecorded_kept rules had calls (slice_get (w.objects k) j) k j vs m w z i h) n
 
+pub key_reaches : KeyReaches
+key_reaches had methods rules m k v vs w z i h g n = reply_reaches rules had methods the_page (key_event m k (v ∷ vs) w) z (key_kept rules had methods m k v vs w z i h g) n
+
+pub tick_reaches : TickReaches
+tick_reaches had methods rules m f w z i h n = reply_reaches rules had methods the_page (tick_event m f w) z (page_call_kept rules had m f undefined [] w z i h (tt, tt) tt) n
+
 -- isolation
 
 -- runs that are the same are turns that are the same
@@ -92,6 +101,12 @@ reply_isolates rules g u x r q z y h n =
 
 pub question_isolates : QuestionIsolates
 question_isolates g u x rules q m mine vs own w z v y a n = reply_isolates rules g u x (reply q m vs w) (reply q m vs v) z y (answers_same rules g u x q m vs w z v y mine own a) n
+
+pub key_isolates : KeyIsolates
+key_isolates g u x rules m mine k p own vs plain w z v y a n = reply_isolates rules g u x (key_event m k (p ∷ vs) w) (key_event m k (p ∷ vs) v) z y (key_same rules g u x m mine k p own vs plain w z v y a) n
+
+pub tick_isolates : TickIsolates
+tick_isolates g u x rules m mine f own w z v y a n = reply_isolates rules g u x (tick_event m f w) (tick_event m f v) z y (page_call_same rules g u x m f undefined [] w z v y mine (own, (tt, tt)) tt a) n
 
 pub call_isolates : CallIsolates
 call_isolates g u x rules calls recorded f t vs m mine own w z v y a n =

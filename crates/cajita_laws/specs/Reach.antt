@@ -29,7 +29,7 @@ gain (granted m o) had = with_had m o had
 gain (said m us) had = had
 gain (was_revoked m p) had = had
 gain (changed_node r k c) had = had
-gain (ended m c o) had = had
+gain (ended l e) had = had
 
 abbrev pub have : Had → List Item → Had
 have had [] = had
@@ -45,7 +45,7 @@ Lies had (granted m o) = Unit {0}
 Lies had (said m us) = Unit {0}
 Lies had (was_revoked m p) = Unit {0}
 Lies had (changed_node r k c) = Unit {0}
-Lies had (ended m c o) = Unit {0}
+Lies had (ended l e) = Unit {0}
 
 -- each of the items lies in what was had before it
 abbrev pub Reached : Had → List Item → Type 0
@@ -56,6 +56,11 @@ Reached had (i ∷ z) = Lies had i × Reached (gain i had) z
 abbrev pub Known : Had → List Item → ℕ → Value → Type 0
 Known had z m (object o) = IsIn o (have had z m)
 Known had z m v = Unit {0}
+
+-- what may wait for a module: an object that some module made, since a closure is called as its maker's, or what the module has
+abbrev pub Waits : Had → List Item → ℕ → Value → Type 0
+Waits had z m (object (made_name k n)) = Unit {0}
+Waits had z m v = Known had z m v
 
 -- more was told: b is a, and what was told behind it
 pub record IsMore (a b : List Item) : Type 0 where
@@ -88,11 +93,13 @@ pub record Counted (objects : ℕ → List Object) (z : List Item) : Type 0 wher
   pub numbered : Numbered (λ m. 0) z
   pub counts : (m : ℕ) → all_counted (λ m. 0) z m ≡ length (objects m)
 
--- what holds of a world and of what was told: it was reached, names are counted, and each variable of a module holds what the module has
+-- what holds of a world and of what was told: it was reached, names are counted, each variable of a module holds what the module has, and so does its queue,
+-- closures apart
 pub record Invariant (had : Had) (w : World) (z : List Item) : Type 0 where
   pub names : Counted w.objects z
   pub reached : Reached had z
   pub scopes : (m : ℕ) → All (λ ps. All (λ p. Known had z m p.1) ps) (w.scopes m)
+  pub queues : (m : ℕ) → All (Waits had z m) (w.queues m)
 
 -- everybody has the methods of texts, since they are read out of no object
 abbrev pub HaveTextMethods : Had → Type 0

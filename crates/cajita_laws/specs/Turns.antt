@@ -7,8 +7,9 @@ use Rattle.cajita_tree.specs.Tree as c
 use Rattle.rows.specs.Nodes.{Rules}
 use Rattle.cajita_meaning.specs.World.{made_name, Value, object, World}
 use Rattle.cajita_meaning.specs.Asking.{Question, Reply, Shape, bad, first, reply, call_reply}
+use Rattle.cajita_meaning.specs.Events.{the_page, key_event, tick_event}
 use Rattle.cajita_meaning.specs.Direct.{Item, Completion, gave, threw, Run, values_of, direct, load_run}
-use Rattle.cajita_laws.specs.Reach.{Had, Known, IsMore, Invariant, HaveTextMethods}
+use Rattle.cajita_laws.specs.Reach.{Had, Known, Waits, IsMore, Invariant, HaveTextMethods}
 use Rattle.cajita_laws.specs.Parts.{Group, others, Own, SamePart, Closed, Alike}
 
 -- how a turn ends that begins with an answer
@@ -62,6 +63,16 @@ abbrev pub ClosureReaches : Type 0
 ClosureReaches = (had : Had) → HaveTextMethods had → (rules : Rules) (calls k j : ℕ) (t : Value) (vs : List Value) (m : ℕ) (w : World) (z : List Item) → Invariant had w z → All (Known had z m) vs → (n : ℕ) →
     Reaches had m z (call_run rules calls false (object (made_name k j)) t vs m w z n)
 
+-- of an event, whose answer the page then has: of a key that is called of a value which the event's module has, with arguments that both have
+abbrev pub KeyReaches : Type 0
+KeyReaches = (had : Had) → HaveTextMethods had → (rules : Rules) (m : ℕ) (k : List ℕ) (v : Value) (vs : List Value) (w : World) (z : List Item) → Invariant had w z → All (Known had z m) (v ∷ vs) → All (Known had z the_page) vs → (n : ℕ) →
+    Reaches had the_page z (reply_run rules (key_event m k (v ∷ vs) w) z n)
+
+-- and of the call of a function that may wait for the module
+abbrev pub TickReaches : Type 0
+TickReaches = (had : Had) → HaveTextMethods had → (rules : Rules) (m : ℕ) (f : Value) (w : World) (z : List Item) → Invariant had w z → Waits had z m f → (n : ℕ) →
+    Reaches had the_page z (reply_run rules (tick_event m f w) z n)
+
 -- isolation: two turns come to the same for the group, and leave the others' part as it was
 abbrev pub SameTurns : Group → World → List Item → Run → Run → Type 0
 SameTurns g u x (over a w z n) (over b v y k) = (a ≡ b) × (n ≡ k) × All (Own g) (values_of a) × Alike g u x w z v y
@@ -82,6 +93,20 @@ abbrev pub CallIsolates : Type 0
 CallIsolates = (g : Group) (u : World) (x : List Item) (rules : Rules) (calls : ℕ) (recorded : Bool) (f t : Value) (vs : List Value) (m : ℕ) → g.modules m ≡ true → All (Own g) (f ∷ t ∷ vs) → (w : World) (z : List Item) (v : World) (y : List Item) → Alike g u x w z v y → (n : ℕ) →
     SameTurns g u x (call_run rules calls recorded f t vs m w z n) (call_run rules calls recorded f t vs m v y n)
 
+-- no object
+abbrev pub IsPlain : Value → Type 0
+IsPlain (object o) = ⊥
+IsPlain v = Unit {0}
+
+-- an event of the group's module: the call of a key of a value, with arguments that are no objects; and of a function that waits
+abbrev pub KeyIsolates : Type 0
+KeyIsolates = (g : Group) (u : World) (x : List Item) (rules : Rules) (m : ℕ) → g.modules m ≡ true → (k : List ℕ) (p : Value) → Own g p → (vs : List Value) → All IsPlain vs → (w : World) (z : List Item) (v : World) (y : List Item) → Alike g u x w z v y → (n : ℕ) →
+    SameTurns g u x (reply_run rules (key_event m k (p ∷ vs) w) z n) (reply_run rules (key_event m k (p ∷ vs) v) y n)
+
+abbrev pub TickIsolates : Type 0
+TickIsolates = (g : Group) (u : World) (x : List Item) (rules : Rules) (m : ℕ) → g.modules m ≡ true → (f : Value) → Own g f → (w : World) (z : List Item) (v : World) (y : List Item) → Alike g u x w z v y → (n : ℕ) →
+    SameTurns g u x (reply_run rules (tick_event m f w) z n) (reply_run rules (tick_event m f v) y n)
+
 -- a turn leaves the group's part as it was, and what refers to nothing of the group still does
 pub record LeavesAlone (g : Group) (w : World) (z : List Item) (r : Run) : Type 0 where
   pub part : SamePart true g w (world_of r) z (kept_of r)
@@ -99,3 +124,11 @@ QuestionLeavesAlone = (g : Group) (rules : Rules) (q : Question) (m : ℕ) → g
 abbrev pub CallLeavesAlone : Type 0
 CallLeavesAlone = (g : Group) (rules : Rules) (calls : ℕ) (recorded : Bool) (f t : Value) (vs : List Value) (m : ℕ) → g.modules m ≡ false → All (Own (others g)) (f ∷ t ∷ vs) → (w : World) (z : List Item) → Closed (others g) w → (n : ℕ) →
     LeavesAlone g w z (call_run rules calls recorded f t vs m w z n)
+
+abbrev pub KeyLeavesAlone : Type 0
+KeyLeavesAlone = (g : Group) (rules : Rules) (m : ℕ) → g.modules m ≡ false → (k : List ℕ) (p : Value) → Own (others g) p → (vs : List Value) → All IsPlain vs → (w : World) (z : List Item) → Closed (others g) w → (n : ℕ) →
+    LeavesAlone g w z (reply_run rules (key_event m k (p ∷ vs) w) z n)
+
+abbrev pub TickLeavesAlone : Type 0
+TickLeavesAlone = (g : Group) (rules : Rules) (m : ℕ) → g.modules m ≡ false → (f : Value) → Own (others g) f → (w : World) (z : List Item) → Closed (others g) w → (n : ℕ) →
+    LeavesAlone g w z (reply_run rules (tick_event m f w) z n)

@@ -2,22 +2,26 @@
 //!
 //! A module does nothing but with what it has (reach), and a group of modules does the same whatever else there is, and changes nothing else (isolation).
 //! What a module has, and what lies in it, is specs/Reach.antt; a group, its part of the world, and when two worlds are alike for it, specs/Parts.antt; what
-//! is promised of a turn, specs/Turns.antt; that closures run as their makers, specs/Makers.antt. The proofs go by what may be asked of the world and not by forms: one induction is for all rows
-//! (proofs/RowReach.antt, proofs/RowSame.antt), calls of closures have their own (proofs/CallReach.antt, proofs/CallSame.antt), and each other question has a
-//! line or two (proofs/Reach.antt, proofs/Same.antt). There is no code. The functions here have no bodies: their contracts are the laws.
+//! is promised of a turn, specs/Turns.antt; that closures run as their makers, specs/Makers.antt. The proofs go by what may be asked of the world and not by
+//! forms: one induction is for all rows (proofs/RowReach.antt, proofs/RowSame.antt), calls of closures have their own (proofs/CallReach.antt,
+//! proofs/CallSame.antt), so have events (proofs/EventReach.antt, proofs/EventSame.antt), and each other question has a line or two (proofs/Reach.antt,
+//! proofs/Same.antt). There is no code. The functions here have no bodies: their contracts are the laws.
 #![tactic(auto)]
 
 ghost use Rattle.cajita_laws.specs.Reach.{EachLies, EachNew, StartsReached, GrantIsHad, HaveTextMethods, from_the_start};
 ghost use Rattle.cajita_laws.specs.Parts.{StartsClosed, ClosedAlike};
 ghost use Rattle.cajita_laws.specs.Makers.{ClosureIsItsMakers};
-ghost use Rattle.cajita_laws.specs.Turns.{LoadReaches, QuestionReaches, CallReaches, ClosureReaches, LoadIsolates, QuestionIsolates, CallIsolates, LoadLeavesAlone, QuestionLeavesAlone, CallLeavesAlone};
+ghost use Rattle.cajita_laws.specs.Turns.{LoadReaches, QuestionReaches, CallReaches, ClosureReaches, KeyReaches, TickReaches, LoadIsolates, QuestionIsolates, CallIsolates, KeyIsolates, TickIsolates, LoadLeavesAlone, QuestionLeavesAlone, CallLeavesAlone, KeyLeavesAlone, TickLeavesAlone};
 
-/// A turn of a module, wherever it is cut, does nothing but with what the module has: its load, and what begins with a question or with the call of a function.
+/// A turn of a module, wherever it is cut, does nothing but with what the module has: its load, and what begins with a question or with the call of a function;
+/// and what an event begins, where a key is called of what its module has, or a function that waits for the module.
 pub fn a_turn_lies_in_what_its_module_has()
     ensures load { LoadReaches }
     ensures question { QuestionReaches }
     ensures call { CallReaches }
     ensures closure { ClosureReaches }
+    ensures key_event { KeyReaches }
+    ensures tick { TickReaches }
 {}
 
 /// A closure does what it does as the module that made it, whoever calls it.
@@ -58,6 +62,8 @@ pub fn a_turn_is_the_same_for_its_group()
     ensures load { LoadIsolates }
     ensures question { QuestionIsolates }
     ensures call { CallIsolates }
+    ensures key_event { KeyIsolates }
+    ensures tick { TickIsolates }
 {}
 
 /// A turn of a module outside of a group leaves the group's part as it was.
@@ -65,6 +71,8 @@ pub fn a_turn_leaves_other_groups_alone()
     ensures load { LoadLeavesAlone }
     ensures question { QuestionLeavesAlone }
     ensures call { CallLeavesAlone }
+    ensures key_event { KeyLeavesAlone }
+    ensures tick { TickLeavesAlone }
 {}
 
 /// The laws of isolation begin where nothing was done.

@@ -15,15 +15,6 @@ use Rattle.rows.specs.Operators as operators
 pub use Rattle.cajita_meaning.specs.Asking.{Item, made, got, touched, passed, granted, said, was_revoked, changed_node, ended, Completion, gave, normal, broke, continued, returned, threw, Around, Loop, Part, an_expr, a_stmt, a_turn, a_key, a_native, a_load, Task}
 use Rattle.cajita_meaning.specs.Asking.{Question, row, the_value, variable, written, scope, functions, a_record_of, a_closure_of, truth_is, a_null, a_truth, a_number, a_text, Shape, bad, scope_number, decided, keys, first, count_of, reply}
 
--- the items that the log prints
-abbrev pub printed : List Item → List Item
-printed [] = []
-printed (said m us ∷ rest) = said m us ∷ printed rest
-printed (was_revoked m p ∷ rest) = was_revoked m p ∷ printed rest
-printed (changed_node r k c ∷ rest) = changed_node r k c ∷ printed rest
-printed (ended m e o ∷ rest) = ended m e o ∷ printed rest
-printed (i ∷ rest) = printed rest
-
 -- the shape of an ending: with a value; at the end of a statement, without and with one; by a jump, a `return`, a throw
 pub data Ending : Type 0 where
   gives finishes yields : Ending

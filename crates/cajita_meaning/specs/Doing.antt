@@ -1,6 +1,8 @@
 -- What a row does in a world.
 use Rattle.std.specs.Prelude.{ℕ, zero, suc, ◌+◌, ℤ, pos, Bool, true, false, ◌||◌, List, [], ◌∷◌, ◌++◌, Option, Some, None, Result, Ok, Err, length, nat_lt, slice_get, codes, map, not, if◌then◌else◌}
 use Rattle.plans.specs.Plans.{Fault, number_fault, depth_fault}
+use Rattle.page_deeds.specs.Deeds.{Label}
+use Rattle.page_deeds.specs.Shown.{Ended}
 use Rattle.caja_units.specs.Units.{same_units}
 use Rattle.caja_units.specs.Number.{number_text}
 use Rattle.rows.specs.Rows as r
@@ -29,13 +31,14 @@ pub data Item : Type 0 where
   got : ℕ → Name → Name → Item
   touched : ℕ → Touch → Name → List (List ℕ) → Item
   passed : ℕ → ℕ → Name → Item
-  -- a module was granted an object; it said a text; a turn of it ended so, with a value that is this object
+  -- a module was granted an object; it said a text
   granted : ℕ → Name → Item
   said : ℕ → List ℕ → Item
   was_revoked : ℕ → ℕ → Item
   -- a node of a root changed
   changed_node : ℕ → ℕ → Change → Item
-  ended : ℕ → Completion → Option Object → Item
+  -- a turn of a page ended so, or there was nothing to do
+  ended : Label → Ended Name → Item
 
 -- the values that a row holds, and for each the objects through which it was seen, outermost first; none where it was given
 pub record Held : Type 0 where
@@ -329,6 +332,16 @@ abbrev pub queueing : Value → Value → World → World
 queueing (object (own_name m i)) f w = with_queue m (w.queues m ++ f ∷ []) w
 queueing v f w = w
 
+-- what is put there goes to that module, but for what a module made: a closure is called as its maker's
+abbrev pub to_wait : ℕ → ℕ → List Name → Value → List Item
+to_wait by m way (object (made_name k n)) = []
+to_wait by m way (object o) = got_along by way o ++ passed by m o ∷ []
+to_wait by m way v = []
+
+abbrev pub handing_over : ℕ → Value → List Name → Value → List Item
+handing_over by (object (own_name m i)) way f = to_wait by m way f
+handing_over by v way f = []
+
 -- a change of a node; a new one, which has its root's next number; a handler
 
 abbrev pub noding : Value → (ℕ → List Node → List Node) → World → World
@@ -366,7 +379,7 @@ abbrev pub settle : ℕ → r.Settling → Held → World → List Item → Done
 settle by (r.answers_kept x) s w z = let v = kept_in (value_of s.values x) w in record { outcome = gives v; world = w; items = z ++ got_from by (way_into s x) v }
 settle by (r.keeps x y) s w z = record { outcome = gives undefined; world = keeping (value_of s.values x) (value_of s.values y) w; items = z }
 settle by (r.says x us) s w z = record { outcome = gives undefined; world = w; items = z ++ saying (value_of s.values x) us }
-settle by (r.queues x f) s w z = record { outcome = gives undefined; world = queueing (value_of s.values x) (value_of s.values f) w; items = z }
+settle by (r.queues x f) s w z = record { outcome = gives undefined; world = queueing (value_of s.values x) (value_of s.values f) w; items = z ++ handing_over by (value_of s.values x) (way_of s f) (value_of s.values f) }
 settle by (r.changes_node x c y) s w z = answered by y s (noding (value_of s.values x) (doc.changed c) w) (z ++ node_told (value_of s.values x) c)
 settle by (r.adds_node x o) s w z = let v = new_node (value_of s.values x) w in record { outcome = gives v; world = noding (value_of s.values x) (λ k ns. ns ++ o ∷ []) w; items = z ++ got_from by (way_into s x) v }
 settle by (r.listens x us f) s w z = record { outcome = gives undefined; world = listening (value_of s.values x) us (value_of s.values f) w; items = z }

@@ -13,6 +13,10 @@ fixed_imports m =
     ∷ (codes "Number", object (built_name number_from)) ∷ (codes "String", object (built_name text_from)) ∷ (codes "Boolean", object (built_name truth_from))
     ∷ (codes "say", object (own_name m 0)) ∷ (codes "later", object (own_name m 1)) ∷ []
 
--- the values of a module's imports, in their order; undefined for a name that is none of them
+-- the values of imports, in their order, among these; undefined for a name that is none of them
+abbrev pub imports_among : Pairs → List (List ℕ) → List Value
+imports_among ps xs = map (λ x. or_nothing (value_at x ps)) xs
+
+-- those of a module that is granted nothing
 abbrev pub imported : ℕ → List (List ℕ) → List Value
-imported m xs = map (λ x. or_nothing (value_at x (fixed_imports m))) xs
+imported m xs = imports_among (fixed_imports m) xs

@@ -1,6 +1,8 @@
 -- What a row does among the objects of ES3.
 use Rattle.std.specs.Prelude.{ℕ, Bool, true, false, ◌||◌, ◌&&◌, List, [], ◌∷◌, ◌++◌, Option, Some, None, Result, Ok, Err, is_some, not, length, nat_lt, nat_eq, slice_get, codes, map, if◌then◌else◌}
 use Rattle.plans.specs.Plans.{Fault, number_fault}
+use Rattle.page_deeds.specs.Deeds.{Label}
+use Rattle.page_deeds.specs.Shown.{Ended}
 use Rattle.caja_units.specs.Units.{is_hidden}
 use Rattle.es3_heap.specs.declared.value.Value.{Value}
 use Rattle.es3_heap.specs.declared.value.Value.TheVariants as v
@@ -28,10 +30,18 @@ use Rattle.rows.specs.Guards.{maker_name}
 use Rattle.heap_rows.specs.Marks.{is_frozen, grant_read, grant_set, drop_marks, freeze, simple_mark, frozen_mark}
 use Rattle.heap_rows.specs.Natives.{receiver_of, maker_at}
 
--- what the log prints of a row: an object with a name is touched, a module says a text
+-- what the log prints: an object with a name is touched, a module says a text; a turn of a page ended so, or there was nothing to do
 pub data Told : Type 0 where
   touched : ℕ → Touch → Tag → List (List ℕ) → Told
   said : ℕ → List ℕ → Told
+  ended : Label → Ended Tag → Told
+
+-- touches are printed where they are asked for, and all else always
+abbrev pub heard : Bool → List Told → List Told
+heard touching [] = []
+heard touching (touched m t g k ∷ l) = if touching then touched m t g k ∷ heard touching l else heard touching l
+heard touching (said m us ∷ l) = said m us ∷ heard touching l
+heard touching (ended x e ∷ l) = ended x e ∷ heard touching l
 
 abbrev pub or_nothing : Option Value → Value
 or_nothing None = v.Undefined

@@ -19,11 +19,11 @@ pub data Shown (N : Type 0) : Type 0 where
   -- its name among objects, the error's own name, and its message
   error : N → List ℕ → List ℕ → Shown N
 
--- a turn gave a value or threw one; or there was nothing to do
-pub data Came (N : Type 0) : Type 0 where
-  gave : Shown N → Came N
-  threw : Shown N → Came N
-  nothing : Came N
+-- a turn returned a value or threw one; or there was nothing to do
+pub data Ended (N : Type 0) : Type 0 where
+  by_return : Shown N → Ended N
+  by_throw : Shown N → Ended N
+  by_nothing : Ended N
 
 -- under other names
 
@@ -36,7 +36,7 @@ renamed f (text us) = text us
 renamed f (thing s n) = thing s (f n)
 renamed f (error n name message) = error (f n) name message
 
-abbrev pub came_renamed : {N M : Type 0} → (N → M) → Came N → Came M
-came_renamed f (gave v) = gave (renamed f v)
-came_renamed f (threw v) = threw (renamed f v)
-came_renamed f nothing = nothing
+abbrev pub end_renamed : {N M : Type 0} → (N → M) → Ended N → Ended M
+end_renamed f (by_return v) = by_return (renamed f v)
+end_renamed f (by_throw v) = by_throw (renamed f v)
+end_renamed f by_nothing = by_nothing

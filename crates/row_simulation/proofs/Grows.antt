@@ -44,7 +44,7 @@ settle_grows : (by : ℕ) (e : r.Settling) (s : direct.Held) (w : World) (z : Li
 settle_grows by (r.answers_kept x) s w z = told_after z _
 settle_grows by (r.keeps x y) s w z = same_told z
 settle_grows by (r.says x us) s w z = told_after z _
-settle_grows by (r.queues x f) s w z = same_told z
+settle_grows by (r.queues x f) s w z = told_after z _
 settle_grows by (r.changes_node x k y) s w z = told_twice z _ _
 settle_grows by (r.adds_node x o) s w z = told_after z _
 settle_grows by (r.listens x us f) s w z = same_told z

@@ -27,7 +27,7 @@ use Rattle.row_simulation.proofs.Opening.{natives_there, tools_there}
 
 -- pairs as the properties of an object
 
-all_seen : List (List ℕ × EsValue) → Bool
+pub all_seen : List (List ℕ × EsValue) → Bool
 all_seen [] = true
 all_seen ((k, e) ∷ l) = cond (is_hidden k) false (all_seen l)
 
@@ -39,7 +39,7 @@ no_mark ((k, e) ∷ l) m hidden seen =
     rw (apart_too k m q.0 hidden) (no_mark l m hidden q.1)
 
 -- an object without a name whose keys are no marks
-pairs_new : (l : List (List ℕ × EsValue)) → all_seen l ≡ true → IsNew first (record_object (copied l))
+pub pairs_new : (l : List (List ℕ × EsValue)) → all_seen l ≡ true → IsNew first (record_object (copied l))
 pairs_new l seen = record {
   bare = refl;
   above = λ p e. proto_few 0 p (omega arith) e;
@@ -48,7 +48,7 @@ pairs_new l seen = record {
 }
 
 -- the value of each key, and of what is none
-pair_found : (h : Objects) (ps : Pairs) (l : List (List ℕ × EsValue)) → PairsAre h ps l → (k : List ℕ) → Val h (or_nothing (value_at k ps)) (value_of (find k (copied l)))
+pub pair_found : (h : Objects) (ps : Pairs) (l : List (List ℕ × EsValue)) → PairsAre h ps l → (k : List ℕ) → Val h (or_nothing (value_at k ps)) (value_of (find k (copied l)))
 pair_found h [] [] p k = tt
 pair_found h ((j, v) ∷ ps) ((i, e) ∷ l) p k =
     subst (λ x. Val h (or_nothing (value_at k ((j, v) ∷ ps))) (value_of (find k (copied ((x, e) ∷ l))))) p.0
@@ -60,13 +60,13 @@ pair_found h _ _ p k = absurd p
 
 -- where the values of the fixed names are, for a module whose `say` and `later` stand side by side
 
-record FixedThere (h : Objects) (m say : ℕ) : Type 0 where
-  natives : (f : r.Native) → is_common f ≡ true → Named h (built_name f) (place_of f)
-  tools : (t : Tools) → Named h (tools_name t) (place_of_tools t)
-  says : Named h (own_name m 0) say
-  delays : Named h (own_name m 1) (say + 1)
+pub record FixedThere (h : Objects) (m say : ℕ) : Type 0 where
+  pub natives : (f : r.Native) → is_common f ≡ true → Named h (built_name f) (place_of f)
+  pub tools : (t : Tools) → Named h (tools_name t) (place_of_tools t)
+  pub says : Named h (own_name m 0) say
+  pub delays : Named h (own_name m 1) (say + 1)
 
-fixed_there_keep : {a b : Objects} {m say : ℕ} → Keeps a b → FixedThere a m say → FixedThere b m say
+pub fixed_there_keep : {a b : Objects} {m say : ℕ} → Keeps a b → FixedThere a m say → FixedThere b m say
 fixed_there_keep {m = m} {say = say} k f = record {
   natives = λ g common. k.named (built_name g) _ (f.natives g common);
   tools = λ t. k.named (tools_name t) _ (f.tools t);
@@ -74,7 +74,7 @@ fixed_there_keep {m = m} {say = say} k f = record {
   delays = k.named (own_name m 1) (say + 1) f.delays;
 }
 
-fixed_are : {h : Objects} {m say : ℕ} → FixedThere h m say → PairsAre h (fixed_imports m) (fixed_values say)
+pub fixed_are : {h : Objects} {m say : ℕ} → FixedThere h m say → PairsAre h (fixed_imports m) (fixed_values say)
 fixed_are f = (
   refl,
   tt,
@@ -130,16 +130,16 @@ import_found {h = h} {m = m} {say = say} f k =
 -- a module's own functions, behind the built-in ones
 
 module _ (h : Objects) (m : ℕ) where
-  say_keeps : Keeps h (with_object h (own_function m 0))
+  pub say_keeps : Keeps h (with_object h (own_function m 0))
   say_keeps = added_keeps h (own_function m 0) (own_unmade m 0)
 
-  later_keeps : Keeps (with_object h (own_function m 0)) (with_module m h)
+  pub later_keeps : Keeps (with_object h (own_function m 0)) (with_module m h)
   later_keeps = added_keeps (with_object h (own_function m 0)) (own_function m 1) (own_unmade m 1)
 
   one_more : length (with_object h (own_function m 0)).list ≡ length h.list + 1
   one_more = length-append h.list (own_function m 0 ∷ [])
 
-  module_there : ((f : r.Native) → is_common f ≡ true → Named h (built_name f) (place_of f)) → ((t : Tools) → Named h (tools_name t) (place_of_tools t)) → FixedThere (with_module m h) m (length h.list)
+  pub module_there : ((f : r.Native) → is_common f ≡ true → Named h (built_name f) (place_of f)) → ((t : Tools) → Named h (tools_name t) (place_of_tools t)) → FixedThere (with_module m h) m (length h.list)
   module_there natives tools = record {
     natives = λ f common. later_keeps.named (built_name f) _ (say_keeps.named (built_name f) _ (natives f common));
     tools = λ t. later_keeps.named (tools_name t) _ (say_keeps.named (tools_name t) _ (tools t));

@@ -5,6 +5,7 @@ use Rattle.std.specs.Cmp.Lexicographic.{same_text}
 use Rattle.std.proofs.lemmas.List.{append-nil}
 use Rattle.std.proofs.lemmas.Bool.Decides.{nat_tests}
 use Rattle.plans.specs.Plans.{Fault}
+use Rattle.page_deeds.specs.Shown.{end_renamed}
 use Rattle.caja_units.specs.Units.{same_units}
 use Rattle.es3_heap.specs.declared.value.Value.TheVariants as es
 use Rattle.es3_heap.specs.declared.value.Tag.{Tag}
@@ -49,6 +50,7 @@ pub shown-append : (a b : List direct.Item) → shown (a ++ b) ≡ shown a ++ sh
 shown-append [] b = refl
 shown-append (direct.touched m t n k ∷ a) b = ap (λ l. es3.touched m t (tag_of_name n) k ∷ l) (shown-append a b)
 shown-append (direct.said m us ∷ a) b = ap (λ l. es3.said m us ∷ l) (shown-append a b)
+shown-append (direct.ended l e ∷ a) b = ap (λ x. es3.ended l (end_renamed tag_of_name e) ∷ x) (shown-append a b)
 shown-append (i ∷ a) b = shown-append a b
 
 pub keeps_refl : {h : Objects} → Keeps h h
@@ -232,6 +234,16 @@ pub shown_gained : (by : ℕ) (way : List Name) (v : Value) → shown (direct.go
 shown_gained by way (object o) = shown_way by way o
 shown_gained by way v = refl
 
+-- nor what is told of what waits
+shown_waits : (by k : ℕ) (way : List Name) (v : Value) → shown (direct.to_wait by k way v) ≡ []
+shown_waits by k way (object (made_name m n)) = refl
+shown_waits by k way (object o) = shown-append (direct.got_along by way o) _ ∙ rw (shown_way by way o) refl
+shown_waits by k way v = refl
+
+pub shown_handed : (by : ℕ) (v : Value) (way : List Name) (u : Value) → shown (direct.handing_over by v way u) ≡ []
+shown_handed by (object (own_name m n)) way u = shown_waits by m way u
+shown_handed by v way u = refl
+
 keeping_objects : (v u : Value) (w : World) → (direct.keeping v u w).objects ≡ w.objects
 keeping_objects (object (cell_name a b)) u w = refl
 keeping_objects v u w = refl
@@ -254,7 +266,7 @@ settle_law by (r.says x us) a s es w h g z y m few p o k c is = record {
   page = k;
 }
 settle_law {first = first} {places = places} by (r.queues x f) a s es w h g z y m few p o k c is = record {
-  done = record { reply = tt; objects = subst (λ q. ObjectsAre first places q h (suc m)) (sym (queueing_objects (direct.value_of s.values x) (direct.value_of s.values f) w)) (objects_step o); items = is; keeps = keeps_refl };
+  done = record { reply = tt; objects = subst (λ q. ObjectsAre first places q h (suc m)) (sym (queueing_objects (direct.value_of s.values x) (direct.value_of s.values f) w)) (objects_step o); items = shown-append z _ ∙ rw (is, shown_handed by (direct.value_of s.values x) (direct.way_of s f) (direct.value_of s.values f)) (append-nil y); keeps = keeps_refl };
   page = queueing_is h w g o k (direct.value_of s.values f) _ (handle_is o f a.1 s.values es p) (direct.value_of s.values x) _ (handle_is o x a.0 s.values es p);
 }
 settle_law by (r.changes_node x c y) a s es w h g z u m few p o k d is = absurd a

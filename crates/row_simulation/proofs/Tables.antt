@@ -14,6 +14,7 @@ use Rattle.rows.specs.Names.{method, text_methods, array_methods, function_metho
 use Rattle.rows.specs.Public as pub_
 use Rattle.rows.specs.Arguments as args
 use Rattle.rows.specs.Guards as guards
+use Rattle.rows.specs.Events as events
 use Rattle.rows.specs.Operators as operators
 use Rattle.rows.specs.Core as core
 use Rattle.rows.specs.Arrays as arrays
@@ -240,6 +241,20 @@ arguments_array n = values_among 0 n
 
 initialize_array : (n : ℕ) → IsAmongObjects (guards.initialize_array n)
 initialize_array n = values_among 0 n
+
+-- a key of a value that a page calls
+
+found_end_among : (f : Handle) (l : List Handle) (s : Sight) → IsHandleAmong f → AreHandlesAmong l → IsEndAmong (events.found_end f l s)
+found_end_among f l (r.a_function sort) p a = (p, tt, a)
+found_end_among f l s p a = tt
+
+key_row_among : (k : List ℕ) (n : ℕ) (s : Sight) → IsSightAmong s → IsAmongObjects (events.key_row k n s)
+key_row_among k n r.nothing seen = tt
+key_row_among k n r.a_null seen = tt
+key_row_among k n s seen = let p = get_among (r.held 0) s k tt seen in (p, λ f there. found_end_among (pub_.pub_get (r.held 0) s k) (args.arguments n) f p (arguments_among n))
+
+call_key : (k : List ℕ) (n : ℕ) → IsAmongObjects (events.call_key k n)
+call_key k n = (tt, λ s seen. key_row_among k n s seen)
 
 -- operators
 
@@ -542,4 +557,5 @@ tables = record {
   key = key;
   args = arguments_array;
   initialize_array = initialize_array;
+  call_key = call_key;
 }

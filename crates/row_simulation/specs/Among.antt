@@ -5,6 +5,7 @@ use Rattle.es3_tree.specs.declared.UnOp.{UnOp}
 use Rattle.rows.specs.Rows as r
 use Rattle.rows.specs.Rows.{Handle, Sight, Ending, Settling, Row}
 use Rattle.rows.specs.Guards as guards
+use Rattle.rows.specs.Events as events
 use Rattle.rows.specs.Operators as operators
 use Rattle.rows.specs.Operators.{binary_row, unary_row}
 use Rattle.rows.specs.Nodes.{Rules}
@@ -75,7 +76,7 @@ IsAmongObjects (r.touches t x k next) = IsHandleAmong x × IsAmongObjects next
 abbrev pub AreAnswersAmong : Rules → Type 0
 AreAnswersAmong rules = (k : ℕ) (xs : List Handle) → AreHandlesAmong xs → IsHandleAmong (rules.services k xs)
 
--- the rows of the tables: of each built-in, of each operator, of each guard
+-- the rows of the tables: of each built-in, of each operator, of each guard; and of a call by the page itself
 pub record AreTablesAmong : Type 0 where
   pub built_ins : (rules : Rules) → AreAnswersAmong rules → (f : r.Native) (n : ℕ) → IsAmongObjects (row_of rules f n)
   pub binary : (op : BinOp) → IsAmongObjects (binary_row op)
@@ -94,3 +95,4 @@ pub record AreTablesAmong : Type 0 where
   pub key : IsAmongObjects guards.key
   pub args : (n : ℕ) → IsAmongObjects (guards.args n)
   pub initialize_array : (n : ℕ) → IsAmongObjects (guards.initialize_array n)
+  pub call_key : (k : List ℕ) (n : ℕ) → IsAmongObjects (events.call_key k n)

@@ -11,6 +11,7 @@ use Rattle.es3_convert.specs.Conversions as convert
 use Rattle.es3_convert.specs.Conversions.{to_string, value_of_object, is_built_in}
 use Rattle.es3_convert.specs.Numbers as convert_number
 use Rattle.es3_language.specs.Natives.{Reply, value_reply, throw_reply, invoke_reply, stop_reply}
+use Rattle.page_deeds.specs.Shown.{end_renamed}
 use Rattle.rows.specs.Rows.{Row, Ending, Native}
 use Rattle.cajita_meaning.specs.World.{Value, World}
 use Rattle.cajita_meaning.specs.Doing as direct
@@ -31,11 +32,12 @@ ReplyIs h (direct.stops f) (stop_reply g) = f ≡ g
 ReplyIs h (direct.calls a f t vs) (invoke_reply b f' t' es) = (a ≡ b) × Val h f f' × Val h t t' × Vals h vs es
 ReplyIs h _ _ = ⊥
 
--- what the log prints of what a row tells: touches, and what is said
+-- what the log prints of what is told: touches, what is said, and how turns ended
 abbrev pub shown : List direct.Item → List Told
 shown [] = []
 shown (direct.touched m t n k ∷ z) = es3.touched m t (tag_of_name n) k ∷ shown z
 shown (direct.said m us ∷ z) = es3.said m us ∷ shown z
+shown (direct.ended l e ∷ z) = es3.ended l (end_renamed tag_of_name e) ∷ shown z
 shown (i ∷ z) = shown z
 
 -- two rows have come to the same: the objects of both then correspond, and a step pays for a new name

@@ -31,7 +31,7 @@ pub fn every_row_has_its_law()
     ensures { (first : Objects) (places : Native → ℕ) (by : ℕ) → by < 64 → IsFirst first → (q : Row) → IsAmongObjects q → RowLaw first places by q }
 {}
 
-/// The rows of all guards, of all operators and of all built-ins are meant: those of nodes too, where no node is met.
+/// The rows of all guards, of all operators and of all built-ins are meant, and of a call by the page itself: those of nodes too, where no node is met.
 #[tactic(auto, using(crate::proofs::Tables::tables))]
 pub fn the_tables_are_among_objects()
     ensures { AreTablesAmong }

@@ -5,6 +5,7 @@ pub mod Paths
 pub mod Public
 pub mod Arguments
 pub mod Guards
+pub mod Events
 pub mod Arrays
 pub mod Texts
 pub mod Core
