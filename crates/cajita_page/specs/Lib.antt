@@ -1,0 +1,3 @@
+pub mod Shown
+pub mod DirectPage
+pub mod Promises
