@@ -1,23 +1,24 @@
--- The store in which a page of one module begins names live objects alone: the first objects, the two records, the functions, the module's own, and what it may import.
-use Rattle.std.proofs.Common.{◌≡◌, ℕ, suc, ◌+◌, ◌<◌, ◌≤◌, true, rules, List, [], ◌∷◌, ◌++◌, Option, Some, None, All, length, ap, ◌∙◌, sym, subst, arith}
+-- The store in which a page begins names live objects alone: the first objects, the two records, the functions, the modules' own, the cells, and what a module may import.
+use Rattle.std.proofs.Common.{◌≡◌, ℕ, zero, suc, ◌+◌, ◌<◌, ◌≤◌, true, rules, List, [], ◌∷◌, ◌++◌, Option, Some, None, All, length, ap, ◌∙◌, sym, subst, arith}
 use Rattle.std.specs.Prelude.{replicate, drop}
+use Rattle.std.proofs.lemmas.List.{length-append}
 use Rattle.std.proofs.lemmas.List.Elements.{All-nil, All-cons, All-head, All-tail, All-append, All-from_recursion}
 use Rattle.es3_heap.specs.declared.value.Value.TheVariants.{Obj, Bool}
 use Rattle.es3_heap.specs.declared.value.Class.{Class}
 use Rattle.es3_heap.specs.declared.value.Class.TheVariants as class
-use Rattle.es3_heap.specs.Objects.{Property, Callable, Object, Objects, plain_attrs, hidden_attrs}
+use Rattle.es3_heap.specs.Objects.{Property, Callable, Object, Objects, with_object, plain_attrs, hidden_attrs}
 use Rattle.es3_heap.specs.Making.{bare, first_objects}
 use Rattle.es3_convert.specs.Conversions.{to_string}
 use Rattle.es3_live.specs.Live.{IsLive, HoldsLive, AreClosed}
 use Rattle.es3_live.proofs.Reading.{LiveProps}
-use Rattle.es3_live.proofs.Writing.{Grown, grown_trans}
+use Rattle.es3_live.proofs.Writing.{Grown, same_objects, grown_trans}
 use Rattle.es3_live.proofs.Making.{with_object_grown}
 use Rattle.live_rows.proofs.Changes.{defined_live}
 use Rattle.rows.specs.Rows.{Native}
 use Rattle.rows.specs.Names.{Tools, of_cajita, of_math, tools}
 use Rattle.heap_rows.specs.Marks.{frozen_mark}
 use Rattle.heap_rows.specs.Doing.{copied, record_object as record_of}
-use Rattle.heap_rows.specs.Opening.{load_module, guard_names, common, place_of, built_ins_there, opened, own_function, with_module, begun, fixed_values, with_imports, first_say, opened_for_one}
+use Rattle.heap_rows.specs.Opening.{load_module, guard_names, common, place_of, built_ins_there, opened, own_function, cell_function, cell_record, with_module, with_modules, with_cell, with_cells, begun, fixed_values, with_imports, first_say, opened_for_one}
 use Rattle.heap_rows.proofs.Made.{stored, entries, frozen_entries, record_object, native_object, native_objects, opened_is, opened_long, begun_long, one_long}
 use Rattle.row_simulation.proofs.First.{simple_function, holder, hidden, hidden_props, hidden_functions, conversion_names, guards, global_names, conversions, first_list, first_list_is}
 
@@ -131,7 +132,7 @@ opened_closed = subst AreClosed (sym opened_objects) (record {
   objects = subst (λ n. All (HoldsLive n) (first_list ++ later_objects)) (sym objects_long) all_hold;
 })
 
--- a module's own functions, and what it may import
+-- a module's own functions
 
 module_grown : (m : ℕ) (h : Objects) → AreClosed h → Grown h (with_module m h)
 module_grown m h closed =
@@ -142,6 +143,48 @@ module_grown m h closed =
     own_holds : (n i : ℕ) → 10 ≤ n → HoldsLive n (own_function m i)
     own_holds n i ten = record { proto = omega (arith, ten); values = All-nil (λ (p : Property). IsLive n p.value) }
 
+modules_grown : (n : ℕ) (h : Objects) → AreClosed h → Grown h (with_modules n h)
+modules_grown zero h closed = same_objects h closed
+modules_grown (suc n) h closed = let first = modules_grown n h closed in grown_trans first (module_grown n (with_modules n h) first.closed)
+
+-- a cell's functions, and its record
+
+cell_grown : (c : ℕ) (h : Objects) → AreClosed h → Grown h (with_cell c h)
+cell_grown c h closed =
+    let at = length h.list in
+    let one = with_object h (cell_function c 1) in
+    let two = with_object one (cell_function c 2) in
+    let first = with_object_grown h (cell_function c 1) closed (function_live (length h.list) 1 closed.prototypes) in
+    let second = with_object_grown one (cell_function c 2) first.closed (function_live (length one.list) 2 first.closed.prototypes) in
+    let x = length-append h.list (cell_function c 1 ∷ []) in
+    let y = length-append one.list (cell_function c 2 ∷ []) in
+    let third = with_object_grown two (cell_record c at) second.closed (record_live (length two.list) at (omega (arith, x, y))) in
+    grown_trans first (grown_trans second third)
+  where
+    function_live : (n i : ℕ) → 10 ≤ n → HoldsLive n (cell_function c i)
+    function_live n i ten = record { proto = omega (arith, ten); values = All-nil (λ (p : Property). IsLive n p.value) }
+
+    record_live : (n at : ℕ) → at + 1 < n → HoldsLive n (cell_record c at)
+    record_live n at below = record {
+      proto = omega (arith, below);
+      values = All-from_recursion (λ (p : Property). IsLive n p.value) (cell_record c at).props (omega (arith, below), (omega (arith, below), (tt, tt)));
+    }
+
+cells_grown : (k : ℕ) (h : Objects) → AreClosed h → Grown h (with_cells k h)
+cells_grown zero h closed = same_objects h closed
+cells_grown (suc k) h closed = let first = cells_grown k h closed in grown_trans first (cell_grown k (with_cells k h) first.closed)
+
+begun_grown : (modules cells : ℕ) → Grown opened (begun modules cells)
+begun_grown modules cells = let first = modules_grown modules opened opened_closed in grown_trans first (cells_grown cells (with_modules modules opened) first.closed)
+
+pub begun_closed : (modules cells : ℕ) → AreClosed (begun modules cells)
+begun_closed modules cells = (begun_grown modules cells).closed
+
+pub begun_there : (modules cells : ℕ) → built_ins_there (begun modules cells)
+begun_there modules cells = let long = opened_long in let more = (begun_grown modules cells).later.more in omega (arith, long, more)
+
+-- what a module may import
+
 fixed_live : (n say : ℕ) → 82 ≤ n → say + 1 < n → LiveProps n (copied (fixed_values say))
 fixed_live n say many below =
     All-from_recursion (λ (p : Property). IsLive n p.value) (copied (fixed_values say))
@@ -151,12 +194,9 @@ imports_grown : (say : ℕ) (h : Objects) → AreClosed h → 82 ≤ length h.li
 imports_grown say h closed many below =
     with_object_grown h (record_of (copied (fixed_values say))) closed (record { proto = let ten = closed.prototypes in omega (arith, ten); values = fixed_live (length h.list) say many below })
 
-one_grown : Grown opened opened_for_one
+one_grown : Grown (begun 1 0) opened_for_one
 unfolding opened_for_one
-one_grown =
-    let first = module_grown 0 opened opened_closed in
-    let long = begun_long in
-    grown_trans first (imports_grown first_say (begun 1 0) first.closed (omega (arith, long)) (omega (arith, long)))
+one_grown = let long = begun_long in imports_grown first_say (begun 1 0) (begun_closed 1 0) (omega (arith, long)) (omega (arith, long))
 
 pub one_there : built_ins_there opened_for_one
 one_there = let long = one_long in omega (arith, long)

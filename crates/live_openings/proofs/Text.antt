@@ -1,7 +1,7 @@
 -- The global names keep a store closed, and so the store in which a text begins names live objects alone.
 use Rattle.std.proofs.Common.{ℕ, ◌+◌, ◌<◌, ◌≤◌, true, List, [], ◌∷◌, None, All, length, rules, arith, lt_of_lt_of_le, le_trans}
 use Rattle.std.specs.Prelude.{codes}
-use Rattle.std.proofs.lemmas.List.Elements.{All-nil, All-head, All-tail, All-from_recursion}
+use Rattle.std.proofs.lemmas.List.Elements.{All-head, All-tail, All-from_recursion}
 use Rattle.es3_heap.specs.declared.value.Value.TheVariants.{Undefined, Bool, Obj}
 use Rattle.es3_heap.specs.declared.value.Class.TheVariants as class
 use Rattle.es3_heap.specs.declared.value.FuncKind.TheVariants.{Constructor}
@@ -9,16 +9,15 @@ use Rattle.es3_heap.specs.declared.value.Proto.{Proto}
 use Rattle.es3_heap.specs.declared.value.Proto.TheVariants as proto
 use Rattle.es3_heap.specs.Objects.{Object, Objects, with_object, hidden_attrs, fixed_attrs}
 use Rattle.es3_heap.specs.Making.{made, proto_id}
-use Rattle.es3_live.specs.Live.{IsLive, AreClosed}
+use Rattle.es3_live.specs.Live.{AreClosed}
 use Rattle.es3_live.proofs.Writing.{Grown, same_objects, grown_trans, define_grown}
 use Rattle.es3_live.proofs.Making.{new_within, made_grown, made_function_grown, proto_there}
 use Rattle.rows.specs.Names.{function_methods, text_methods, array_methods}
 use Rattle.heap_rows.specs.Marks.{call_mark}
-use Rattle.heap_rows.specs.Opening.{runtime_id, built_ins_there, opened_for_one}
-use Rattle.heap_rows.proofs.Made.{one_long}
+use Rattle.heap_rows.specs.Opening.{runtime_id, built_ins_there, begun}
+use Rattle.module_loader.proofs.Long.{begun_long}
 use Rattle.global_names.specs.Opening.{object_number, function_number, array_number, math_place, constructors, with_hidden, with_constructor, with_constructors, with_names, placed, with_methods, with_call_marks, array_calls, text_calls, with_marks, global_attrs, with_functions, with_globals, with_prototypes, with_global_names, text_objects, text_globals}
-use Rattle.page_natives.specs.Natives.{kept_fits, first_kept}
-use Rattle.live_openings.proofs.Page.{one_there, one_closed}
+use Rattle.live_openings.proofs.Page.{begun_there, begun_closed}
 
 -- a property that holds an object which is there
 
@@ -135,21 +134,15 @@ global_names_kept h there closed =
     let last = grown_trans fifth (marks_grown _ fifth.closed) in
     record { grown = grown_trans four last; globals = lt_of_lt_of_le first.globals (le_trans second.later.more (le_trans third.later.more (le_trans fourth.later.more last.later.more))) }
 
-text_kept : WithNames opened_for_one text_objects
+text_kept : (modules cells : ℕ) → WithNames (begun modules cells) (text_objects modules cells)
 unfolding text_objects
-text_kept = global_names_kept opened_for_one one_there one_closed
+text_kept modules cells = global_names_kept (begun modules cells) (begun_there modules cells) (begun_closed modules cells)
 
-pub text_there : kept_fits first_kept text_objects
-text_there = let long = one_long in let more = text_kept.grown.later.more in record {
-  runtime = omega (arith, long, more);
-  imports = omega (arith, long, more);
-  built_ins = omega (arith, long, more);
-  cells = All-nil (IsLive (length text_objects.list));
-  waiting = All-nil (λ w. IsLive (length text_objects.list) w.function);
-}
+pub text_there : (modules cells : ℕ) → built_ins_there (text_objects modules cells)
+text_there modules cells = let there = begun_there modules cells in let more = (text_kept modules cells).grown.later.more in omega (arith, there, more)
 
-pub text_globals_there : text_globals < length text_objects.list
-text_globals_there = let long = one_long in let more = text_kept.globals in omega (arith, long, more)
+pub text_globals_there : (modules cells : ℕ) → text_globals modules cells < length (text_objects modules cells).list
+text_globals_there modules cells = let long = begun_long modules cells in let more = (text_kept modules cells).globals in omega (arith, long, more)
 
-pub text_closed : AreClosed text_objects
-text_closed = text_kept.grown.closed
+pub text_closed : (modules cells : ℕ) → AreClosed (text_objects modules cells)
+text_closed modules cells = (text_kept modules cells).grown.closed

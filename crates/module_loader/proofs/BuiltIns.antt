@@ -27,13 +27,13 @@ unfolding places_of
 entries_are [] o h = refl
 entries_are ((k, f) ∷ rest) o h = entries_are rest o (define h o k (Obj (place_of f)) plain_attrs)
 
-frozen_is : (t : Tools) (n : ℕ) (h : Objects) → tag.Built n ≡ tag_of_tools t → with_frozen (places_of (tools t)) n h ≡ with_record t h
+frozen_is : (t : Tools) (name : Tag) (h : Objects) → name ≡ tag_of_tools t → with_frozen (places_of (tools t)) name h ≡ with_record t h
 unfolding frozen_entries record_object
-frozen_is t n h same =
+frozen_is t name h same =
     let base = ending h.counts h.list (holder []) in
     let at = length h.list in
-    ap (λ g. tagged (marked g at frozen_mark) at (tag.Built n)) (entries_are (tools t) at base ∙ with_tools_last (tools t) h.counts h.list [])
-    ∙ ap (λ g. tagged g at (tag.Built n)) (define_last h.counts h.list (entries (tools t) []) frozen_mark (Bool true) hidden_attrs)
+    ap (λ g. tagged (marked g at frozen_mark) at name) (entries_are (tools t) at base ∙ with_tools_last (tools t) h.counts h.list [])
+    ∙ ap (λ g. tagged g at name) (define_last h.counts h.list (entries (tools t) []) frozen_mark (Bool true) hidden_attrs)
     ∙ ap (tagged (ending h.counts h.list (holder (frozen_entries t))) at) same
     ∙ tagged_last h.counts h.list class.Object (Some 0) None (frozen_entries t) (tag_of_tools t)
     ∙ sym (with_record_is t h)
@@ -70,16 +70,16 @@ unfolding places_of
 math_table = refl
 
 built : (a b : Tools) (fs : List Native) (h : Objects) → tags fs ≡ map tag_of_native fs → tag.Built 0 ≡ tag_of_tools a → tag.Built 1 ≡ tag_of_tools b
-    → with_functions (map kind_of fs) (with_frozen (places_of (tools b)) 1 (with_frozen (places_of (tools a)) 0 h)) ≡ with_natives fs (with_record b (with_record a h))
+    → with_functions (map kind_of fs) (with_frozen (places_of (tools b)) (tag.Built 1) (with_frozen (places_of (tools a)) (tag.Built 0) h)) ≡ with_natives fs (with_record b (with_record a h))
 built a b fs h numbers zeroth oneth =
     functions_are fs _ numbers
-    ∙ ap (λ g. with_natives fs (with_frozen (places_of (tools b)) 1 g)) (frozen_is a 0 h zeroth)
-    ∙ ap (with_natives fs) (frozen_is b 1 (with_record a h) oneth)
+    ∙ ap (λ g. with_natives fs (with_frozen (places_of (tools b)) (tag.Built 1) g)) (frozen_is a (tag.Built 0) h zeroth)
+    ∙ ap (with_natives fs) (frozen_is b (tag.Built 1) (with_record a h) oneth)
 
 pub opened_is : with_built_ins first ≡ opened
 unfolding opened with_built_ins
 opened_is =
-    subst (λ ks. with_functions ks (with_frozen (map (λ f. (f.0.now, f.1)) MATH_FUNCTIONS) 1 (with_frozen (map (λ f. (f.0.now, f.1)) CAJITA_FUNCTIONS) 0 first)) ≡ opened) (sym kinds_table)
-    (subst (λ ms. with_functions (map kind_of common) (with_frozen ms 1 (with_frozen (map (λ f. (f.0.now, f.1)) CAJITA_FUNCTIONS) 0 first)) ≡ opened) (sym math_table)
-    (subst (λ cs. with_functions (map kind_of common) (with_frozen (places_of (tools of_math)) 1 (with_frozen cs 0 first)) ≡ opened) (sym cajita_table)
+    subst (λ ks. with_functions ks (with_frozen (map (λ f. (f.0.now, f.1)) MATH_FUNCTIONS) (tag.Built 1) (with_frozen (map (λ f. (f.0.now, f.1)) CAJITA_FUNCTIONS) (tag.Built 0) first)) ≡ opened) (sym kinds_table)
+    (subst (λ ms. with_functions (map kind_of common) (with_frozen ms (tag.Built 1) (with_frozen (map (λ f. (f.0.now, f.1)) CAJITA_FUNCTIONS) (tag.Built 0) first)) ≡ opened) (sym math_table)
+    (subst (λ cs. with_functions (map kind_of common) (with_frozen (places_of (tools of_math)) (tag.Built 1) (with_frozen cs (tag.Built 0) first)) ≡ opened) (sym cajita_table)
     (built of_cajita of_math common first common_tags refl refl)))

@@ -1,2 +1,4 @@
 pub mod BuiltIns
 pub mod Imported
+pub mod KeyCalls
+pub mod Long

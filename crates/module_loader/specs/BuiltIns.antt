@@ -4,6 +4,7 @@ use Rattle.es3_heap.specs.declared.value.Value.TheVariants.{Obj}
 use Rattle.es3_heap.specs.declared.value.Class.TheVariants as class
 use Rattle.es3_heap.specs.declared.value.FuncKind.{FuncKind}
 use Rattle.es3_heap.specs.declared.value.FuncKind.TheVariants as kind
+use Rattle.es3_heap.specs.declared.value.Tag.{Tag}
 use Rattle.es3_heap.specs.declared.value.Tag.TheVariants as tag
 use Rattle.es3_heap.specs.Objects.{Objects, plain_attrs}
 use Rattle.es3_heap.specs.Properties.{define}
@@ -31,11 +32,11 @@ abbrev pub with_entries : List (List ℕ × ℕ) → ℕ → Objects → Objects
 with_entries [] o h = h
 with_entries ((k, at) ∷ rest) o h = with_entries rest o (define h o k (Obj at) plain_attrs)
 
--- a frozen record of functions, which bears a number
-abbrev pub with_frozen : List (List ℕ × ℕ) → ℕ → Objects → Objects
-with_frozen entries n h =
+-- a frozen record of functions, which has a name
+abbrev pub with_frozen : List (List ℕ × ℕ) → Tag → Objects → Objects
+with_frozen entries t h =
     let o = length h.list in
-    tagged (marked (with_entries entries o (made class.Object (Some 0) h)) o frozen_mark) o (tag.Built n)
+    tagged (marked (with_entries entries o (made class.Object (Some 0) h)) o frozen_mark) o t
 
 unfoldable pub with_built_ins : Objects → Objects
-with_built_ins h = with_functions FUNCTIONS (with_frozen (map (λ f. (f.0.now, f.1)) MATH_FUNCTIONS) 1 (with_frozen (map (λ f. (f.0.now, f.1)) CAJITA_FUNCTIONS) 0 h))
+with_built_ins h = with_functions FUNCTIONS (with_frozen (map (λ f. (f.0.now, f.1)) MATH_FUNCTIONS) (tag.Built 1) (with_frozen (map (λ f. (f.0.now, f.1)) CAJITA_FUNCTIONS) (tag.Built 0) h))

@@ -1,3 +1,4 @@
 pub mod BuiltIns
-pub mod Imports
+pub mod KeyCalls
 pub mod Page
+pub mod Turns

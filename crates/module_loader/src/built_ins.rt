@@ -123,12 +123,7 @@ fn add_functions(heap: &mut Heap, kinds: &[FuncKind]) -> Result<(), Memory>
 }
 
 /// Gives a record these functions, which need not be there yet.
-pub(crate) fn fill(
-    alloc: Global,
-    heap: &mut Heap,
-    o: ObjId,
-    functions: &[(&[u8], u32)],
-) -> Result<(), Memory>
+fn fill(alloc: Global, heap: &mut Heap, o: ObjId, functions: &[(&[u8], u32)]) -> Result<(), Memory>
     ensures store { OnOk result (heap.new ≡ with_entries (map (λ f. (f.0.now, f.1)) functions.now) o heap.old) }
     ensures live { length heap.new.list ≡ length heap.old.list }
 {
@@ -149,21 +144,21 @@ fn freeze(alloc: Global, heap: &mut Heap, o: ObjId) -> Result<(), Memory>
     heap.define(o, &mark, Value::Bool(true), Attrs::HIDDEN)
 }
 
-/// Makes a frozen record of functions, whose name in the log is a number.
-fn add_record(
+/// Makes a frozen record of functions, with a name in the log.
+pub(crate) fn add_record(
     alloc: Global,
     heap: &mut Heap,
     functions: &[(&[u8], u32)],
-    number: u32,
+    name: Tag,
 ) -> Result<(), Memory>
-    ensures store { OnOk result (heap.new ≡ with_frozen (map (λ f. (f.0.now, f.1)) functions.now) number heap.old) }
+    ensures store { OnOk result (heap.new ≡ with_frozen (map (λ f. (f.0.now, f.1)) functions.now) name heap.old) }
     ensures live { length heap.old.list ≤ length heap.new.list }
 {
     let proto = heap.proto(Proto::Object);
     let record = heap.make(Class::Object, Some(proto))?;
     fill(alloc, heap, record, functions)?;
     freeze(alloc, heap, record)?;
-    heap.set_tag(record, Tag::Built(number));
+    heap.set_tag(record, name);
     Ok(())
 }
 
@@ -173,7 +168,7 @@ pub(crate) fn add_built_ins(alloc: Global, heap: &mut Heap) -> Result<(), Memory
     ensures store { OnOk result (heap.new ≡ with_built_ins heap.old) }
     ensures live { length heap.old.list ≤ length heap.new.list }
 {
-    add_record(alloc, heap, &CAJITA_FUNCTIONS, CAJITA)?;
-    add_record(alloc, heap, &MATH_FUNCTIONS, MATH)?;
+    add_record(alloc, heap, &CAJITA_FUNCTIONS, Tag::Built(CAJITA))?;
+    add_record(alloc, heap, &MATH_FUNCTIONS, Tag::Built(MATH))?;
     add_functions(heap, &FUNCTIONS)
 }

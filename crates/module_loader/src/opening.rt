@@ -1,19 +1,16 @@
-//! The store that the page of one module begins in.
+//! The store that a page begins in.
 
 ghost use Rattle.std.specs.Prelude.{◌≡◌, ◌≤◌, ◌+◌, IfOk, OnOk, length, map};
 ghost use Rattle.es3_heap.specs.Properties.{define};
-ghost use Rattle.heap_rows.specs.Opening.{first, opened, opened_for_one, with_hidden_function, with_hidden_functions, with_guards, with_conversions, runtime_id, imports_id, globals_id};
+ghost use Rattle.heap_rows.specs.Opening.{first, opened, begun, with_hidden_function, with_hidden_functions, with_guards, with_conversions, runtime_id, globals_id};
 
 use crate::built_ins::add_built_ins;
-use crate::imports::{add_imports, add_own_functions};
+use crate::imports::{add_cells, add_modules};
 use caja_units::{Memory, Units};
 use es3_convert::TO_STRING;
 use es3_heap::{Attrs, Class, FuncKind, Heap, ObjId, Proto, Value};
 use page_natives::LOAD_MODULE;
 use std::alloc::Global;
-
-/// The number of the module that a page of one module has.
-const MAIN: u32 = 0;
 
 /// `loadModule` and the guards, in the order of their numbers.
 const GUARD_NAMES: [&[u8]; 16] = [
@@ -44,18 +41,8 @@ pub struct Opened {
     pub heap: Heap,
     /// The object `___` that holds the guards.
     pub runtime: ObjId,
-    /// The object of what the module may import.
-    pub imports: ObjId,
-    /// The global object, whose only name is `___`.
+    /// The global object.
     pub globals: ObjId,
-}
-
-/// A store without built-in functions.
-#[derive(Drop)]
-struct First {
-    heap: Heap,
-    runtime: ObjId,
-    globals: ObjId,
 }
 
 /// Gives an object a hidden property.
@@ -120,9 +107,9 @@ fn add_conversions(alloc: Global, heap: &mut Heap) -> Result<(), Memory>
     add_hidden_functions(alloc, heap, &CONVERSION_NAMES, TO_STRING, proto)
 }
 
-/// A store with the prototypes, the object of the runtime, the global object, and the conversions.
+/// A store with the prototypes, the object of the runtime, the global object, whose only name is `___`, and the conversions.
 #[tactic(auto, unfolding(heap_rows::specs::Opening::first))]
-fn open_first(alloc: Global) -> Result<First, Memory>
+fn open_first(alloc: Global) -> Result<Opened, Memory>
     ensures heap { IfOk result (λ o. o.heap ≡ first) }
     ensures runtime { IfOk result (λ o. o.runtime ≡ runtime_id) }
     ensures globals { IfOk result (λ o. o.globals ≡ globals_id) }
@@ -134,7 +121,7 @@ fn open_first(alloc: Global) -> Result<First, Memory>
     add_guards(alloc, &mut heap, runtime)?;
     hide(alloc, &mut heap, globals, b"___", Value::Obj(runtime))?;
     add_conversions(alloc, &mut heap)?;
-    Ok(First {
+    Ok(Opened {
         heap,
         runtime,
         globals,
@@ -143,7 +130,7 @@ fn open_first(alloc: Global) -> Result<First, Memory>
 
 /// A store with the built-in functions, before any module is there.
 #[tactic(auto, using(crate::proofs::BuiltIns::opened_is))]
-fn open_built_ins(alloc: Global) -> Result<First, Memory>
+fn open_built_ins(alloc: Global) -> Result<Opened, Memory>
     ensures heap { IfOk result (λ o. o.heap ≡ opened) }
     ensures runtime { IfOk result (λ o. o.runtime ≡ runtime_id) }
     ensures globals { IfOk result (λ o. o.globals ≡ globals_id) }
@@ -153,28 +140,21 @@ fn open_built_ins(alloc: Global) -> Result<First, Memory>
     Ok(page)
 }
 
-/// The store that the page of one module begins in, with what the module may import.
+/// The store that a page begins in, with so many modules and so many cells: the functions of each module, and of each cell its
+/// functions and its record. No module has yet what it may import.
 ///
 /// # Errors
 ///
 /// `Memory` where memory is wanting.
-pub fn open(alloc: Global) -> Result<Opened, Memory>
-    ensures heap { IfOk result (λ o. o.heap ≡ opened_for_one) }
+pub fn open_page(alloc: Global, modules: u32, cells: u32) -> Result<Opened, Memory>
+    requires few_modules { modules ≤ 64 }
+    requires few_cells { cells ≤ 64 }
+    ensures heap { IfOk result (λ o. o.heap ≡ begun modules cells) }
     ensures runtime { IfOk result (λ o. o.runtime ≡ runtime_id) }
-    ensures imports { IfOk result (λ o. o.imports ≡ imports_id) }
     ensures globals { IfOk result (λ o. o.globals ≡ globals_id) }
 {
-    let First {
-        mut heap,
-        runtime,
-        globals,
-    } = open_built_ins(alloc)?;
-    let (say, later) = add_own_functions(&mut heap, MAIN)?;
-    let imports = add_imports(alloc, &mut heap, say, later)?;
-    Ok(Opened {
-        heap,
-        runtime,
-        imports,
-        globals,
-    })
+    let mut page = open_built_ins(alloc)?;
+    add_modules(&mut page.heap, modules)?;
+    add_cells(alloc, &mut page.heap, cells)?;
+    Ok(page)
 }

@@ -1,7 +1,6 @@
 -- The functions of a module and of a cell do what their rows do.
-use Rattle.std.proofs.Common.{◌≡◌, ℕ, suc, Bool, true, false, List, [], ◌∷◌, ◌++◌, length, Option, Some, None, Result, Ok, Err, refl, sym, ap, ◌∙◌, subst, append-nil, arith}
+use Rattle.std.proofs.Common.{◌≡◌, ℕ, suc, Bool, true, false, List, [], ◌∷◌, ◌++◌, length, Option, Some, None, Result, Ok, Err, refl, sym, ap, ◌∙◌, subst, append-nil}
 use Rattle.std.specs.Prelude.{nat_eq, is_some, if◌then◌else◌}
-use Rattle.std.proofs.lemmas.Bool.Decides.{nat_tests}
 use Rattle.plans.specs.Plans.{Fault}
 use Rattle.es3_heap.specs.declared.value.Value.{Value}
 use Rattle.es3_heap.specs.declared.value.Value.TheVariants as v
@@ -24,10 +23,9 @@ use Rattle.heap_rows.specs.Opening.{place_of}
 use Rattle.row_outcomes.specs.Arguments.{argument}
 use Rattle.row_outcomes.proofs.Arguments.{argument_held}
 use Rattle.page_natives.specs.declared.natives.Callee.TheVariants as c
-use Rattle.page_natives.specs.declared.natives.Waiting.{Waiting}
-use Rattle.page_natives.specs.Natives.{Kept, page_of, queue_of, cell_value, is_closure, can_wait, can_wait_by, say_done, with_said, later_done, with_waiting}
+use Rattle.page_natives.specs.Natives.{Kept, page_of, queue_of, added, cell_value, is_closure, can_wait, can_wait_by, say_done, with_said, later_done, with_waiting}
 use Rattle.page_natives.specs.OwnFunctions.{IsKept, DoesItsRow}
-use Rattle.page_natives.proofs.Cells.{put_is}
+use Rattle.page_natives.proofs.Padded.{put_is}
 
 -- the argument's value, where nothing more is seen
 held_now : (self : Value) (args : List Value) → value_in place_of (self ∷ args) (rows.argument 0 (suc (length args))) ≡ argument 0 args
@@ -45,8 +43,9 @@ say_kept by m self args h z own (Ok us) = record {
   queues = λ n. refl;
   runtime = refl;
   imports = refl;
+  touching = refl;
 }
-say_kept by m self args h z own (Err f) = record { reply = refl; heap = refl; told = sym (append-nil z.told); cells = λ cell. refl; queues = λ n. refl; runtime = refl; imports = refl }
+say_kept by m self args h z own (Err f) = record { reply = refl; heap = refl; told = sym (append-nil z.told); cells = λ cell. refl; queues = λ n. refl; runtime = refl; imports = refl; touching = refl }
 
 pub say_does_its_row : (m : ℕ) → DoesItsRow (c.Say m) r.say (tag.Own m 0)
 say_does_its_row m rules by this self args h z own =
@@ -85,25 +84,8 @@ module _ (Q : Bool → Row → Type 0) (x : Handle) (waits : Q true (settles (qu
   by_sight n h (v.Obj o) = by_class n h o (class_of (object_at h o))
 
 -- the queue of a module behind which one more waits
-
-abbrev only_if : Bool → Value → List Value
-only_if b f = if b then f ∷ [] else []
-
-behind : (b : Bool) (f : Value) (l k : List Value) → (if b then f ∷ l else l) ++ k ≡ (if b then f ∷ (l ++ k) else l ++ k)
-behind true f l k = refl
-behind false f l k = refl
-
-queue_behind : (n m : ℕ) (f : Value) (ws : List Waiting) → queue_of n (ws ++ record { by = m; function = f } ∷ []) ≡ queue_of n ws ++ only_if (nat_eq n m) f
-queue_behind n m f [] = refl
-queue_behind n m f (w ∷ ws) =
-    ap (λ l. if nat_eq n w.by then w.function ∷ l else l) (queue_behind n m f ws) ∙ sym (behind (nat_eq n w.by) w.function (queue_of n ws) (only_if (nat_eq n m) f))
-
-queue_is : (n m : ℕ) (f : Value) (ws : List Waiting) → (if nat_eq n m then queue_of m ws ++ f ∷ [] else queue_of n ws) ≡ queue_of n (ws ++ record { by = m; function = f } ∷ [])
-queue_is n m f ws =
-    elim (nat_eq n m) as (λ b. nat_eq n m ≡ b → (if b then queue_of m ws ++ f ∷ [] else queue_of n ws) ≡ queue_of n ws ++ only_if b f) [
-      | true ↦ λ e. let same : m ≡ n = grind (arith, nat_tests) in ap (λ k. queue_of k ws ++ f ∷ []) same
-      | false ↦ λ e. sym (append-nil (queue_of n ws))
-    ] refl ∙ sym (queue_behind n m f ws)
+queue_is : (n m : ℕ) (f : Value) (qs : List (List Value)) → (if nat_eq n m then queue_of m qs ++ f ∷ [] else queue_of n qs) ≡ queue_of n (added m f qs)
+queue_is n m f qs = sym (put_is [] m (queue_of m qs ++ f ∷ []) qs n)
 
 later_kept : (by m : ℕ) (self : Value) (args more : List Value) (h : Objects) (z : Kept) → named h self ≡ tag.Own m 1 → (n : ℕ)
     → IsKept (does place_of by (later_row (rows.argument 0 (suc (length args))) (see h n (argument 0 args)).sight) (self ∷ (args ++ more)) h (page_of z) [])
@@ -121,8 +103,9 @@ later_kept by m self args more h z own n =
       queues = λ k. ap (λ q. (queueing_by q f (page_of z)).queues k) own ∙ ap (λ x. if nat_eq k m then queue_of m z.waiting ++ x ∷ [] else queue_of k z.waiting) (argument_held place_of 0 self args more) ∙ queue_is k m (argument 0 args) z.waiting;
       runtime = refl;
       imports = refl;
+      touching = refl;
     })
-    (record { reply = refl; heap = refl; told = sym (append-nil z.told); cells = λ cell. refl; queues = λ k. refl; runtime = refl; imports = refl })
+    (record { reply = refl; heap = refl; told = sym (append-nil z.told); cells = λ cell. refl; queues = λ k. refl; runtime = refl; imports = refl; touching = refl })
     n h (argument 0 args)
 
 pub later_does_its_row : (m : ℕ) → DoesItsRow (c.Later m) r.later (tag.Own m 1)
@@ -142,6 +125,7 @@ get_does_its_row cell rules by this self args h z own = record {
   queues = λ n. refl;
   runtime = refl;
   imports = refl;
+  touching = refl;
 }
 
 pub set_does_its_row : (cell : ℕ) → DoesItsRow (c.Set cell) r.set (tag.Cell cell 2)
@@ -149,8 +133,9 @@ set_does_its_row cell rules by this self args h z own = let x = value_in place_o
   reply = refl;
   heap = refl;
   told = sym (append-nil z.told);
-  cells = λ i. ap (λ q. (keeping_by q x (page_of z)).cells i) own ∙ ap (λ a. if nat_eq i cell then a else cell_value i z.cells) (held_now self args) ∙ sym (put_is cell (argument 0 args) z.cells i);
+  cells = λ i. ap (λ q. (keeping_by q x (page_of z)).cells i) own ∙ ap (λ a. if nat_eq i cell then a else cell_value i z.cells) (held_now self args) ∙ sym (put_is v.Undefined cell (argument 0 args) z.cells i);
   queues = λ n. ap (λ q. (keeping_by q x (page_of z)).queues n) own;
   runtime = refl;
   imports = refl;
+  touching = refl;
 }

@@ -1,6 +1,6 @@
 -- The natives of a page name live objects alone.
-use Rattle.std.proofs.Common.{ℕ, zero, suc, ◌+◌, ◌-◌, Bool, true, false, List, [], ◌∷◌, All, length, replicate, cond, Option, Some, None, Ok, Err, lt_of_lt_of_le, le_trans}
-use Rattle.std.proofs.lemmas.List.Elements.{All-nil, All-cons, All-head, All-tail, All-push, All-append, All-set, All-weaker}
+use Rattle.std.proofs.Common.{ℕ, zero, suc, ◌+◌, ◌-◌, ◌<◌, get_or, Bool, true, false, List, [], ◌∷◌, ◌++◌, All, length, cond, Option, Some, None, Ok, Err, lt_of_lt_of_le, le_trans}
+use Rattle.std.proofs.lemmas.List.Elements.{All-nil, All-head, All-tail, All-push, All-append, All-set, All-replicate, All-weaker}
 use Rattle.std.specs.Prelude.{codes, nat_lt, Result}
 use Rattle.plans.specs.Plans.{Fault}
 use Rattle.es3_heap.specs.declared.value.Value.{Value}
@@ -11,17 +11,19 @@ use Rattle.es3_convert.specs.Conversions.{and_then, text_of}
 use Rattle.es3_language.specs.Natives.{value_reply}
 use Rattle.es3_live.specs.Live.{IsLive, AreClosed, Later}
 use Rattle.es3_live.specs.Keeps.{AfterCall, KeepsLive}
-use Rattle.es3_live.proofs.Growth.{live_more, all_more, later_refl}
+use Rattle.es3_live.proofs.Growth.{all_more, later_refl}
 use Rattle.rows.specs.Rows as r
 use Rattle.rows.specs.Rows.{most_items}
-use Rattle.heap_rows.specs.Doing.{makes, too_long}
+use Rattle.heap_rows.specs.Doing.{Told, said, makes, too_long}
 use Rattle.heap_rows.specs.Opening.{built_ins_there}
 use Rattle.row_outcomes.specs.Arguments.{argument, told}
 use Rattle.row_outcomes.specs.Arrays.{new_array}
 use Rattle.live_rows.specs.Live.{LiveDone}
 use Rattle.live_rows.proofs.Made.{throws_live, array_live, copy_live}
 use Rattle.live_tables.proofs.Among.{built_in_live}
+use Rattle.guard_runtime.specs.Guards as guards
 use Rattle.guard_runtime.proofs.Live.{load_module_live, guard_live}
+use Rattle.page_log.specs.Items.{touch_told}
 use Rattle.page_natives.specs.declared.built_ins.Tool.{Tool}
 use Rattle.page_natives.specs.declared.built_ins.Tool.TheVariants as tool
 use Rattle.page_natives.specs.declared.built_ins.Method.{Method}
@@ -32,8 +34,7 @@ use Rattle.page_natives.specs.declared.natives.Callee.{Callee}
 use Rattle.page_natives.specs.declared.natives.Callee.TheVariants as c
 use Rattle.page_natives.specs.Objects.{object_from, array_from}
 use Rattle.page_natives.specs.BuiltIns.{tool_done, method_done, of_node, done_of}
-use Rattle.page_natives.specs.declared.natives.Waiting.{Waiting}
-use Rattle.page_natives.specs.Natives.{Kept, kept_fits, callee_of, can_wait, cell_value, padded, put_at, say_done, with_said, later_done, with_waiting, done_by, kept_by, turn_by, page_table}
+use Rattle.page_natives.specs.Natives.{Kept, kept_fits, imports_of, tells, callee_of, can_wait, cell_value, queue_of, padded, put_at, added, say_done, with_said, later_done, with_waiting, done_by, kept_by, turn_by, page_table}
 
 -- the functions that are no rows
 
@@ -141,19 +142,32 @@ cell_live n cell [] live = tt
 cell_live n zero (x ∷ cells) live = All-head (IsLive n) x cells live
 cell_live n (suc cell) (x ∷ cells) live = cell_live n cell cells (All-tail (IsLive n) x cells live)
 
-nothing_live : (n k : ℕ) → All (IsLive n) (replicate k v.Undefined)
-nothing_live n zero = All-nil (IsLive n)
-nothing_live n (suc k) = All-cons (IsLive n) v.Undefined (replicate k v.Undefined) tt (nothing_live n k)
+-- what holds of all that stands in a list, and of what was put there, and of what is new beside that
+put_holds : {A : Type 0} (P : A → Type 0) (d : A) (i : ℕ) (x : A) (xs : List A) → P d → P x → All P xs → All P (put_at d i x xs)
+put_holds P d i x xs new here all = All-set P (padded d (i + 1) xs) i x here (All-append P xs _ all (All-replicate P (i + 1 - length xs) d new))
 
-put_live : (n cell : ℕ) (x : Value) (cells : List Value) → All (IsLive n) cells → IsLive n x → All (IsLive n) (put_at cell x cells)
-put_live n cell x cells all live = All-set (IsLive n) (padded (cell + 1) cells) cell x live (All-append (IsLive n) cells _ all (nothing_live n (cell + 1 - length cells)))
+queue_live : (n m : ℕ) (qs : List (List Value)) → All (All (IsLive n)) qs → All (IsLive n) (queue_of m qs)
+queue_live n m [] live = All-nil (IsLive n)
+queue_live n zero (q ∷ qs) live = All-head (All (IsLive n)) q qs live
+queue_live n (suc m) (q ∷ qs) live = queue_live n m qs (All-tail (All (IsLive n)) q qs live)
+
+added_live : (n m : ℕ) (f : Value) (qs : List (List Value)) → All (All (IsLive n)) qs → IsLive n f → All (All (IsLive n)) (added m f qs)
+added_live n m f qs all live =
+    put_holds (All (IsLive n)) [] m (queue_of m qs ++ f ∷ []) qs (All-nil (IsLive n)) (All-push (IsLive n) (queue_of m qs) f (queue_live n m qs all) live) all
+
+-- what a module may import, or the runtime in its place
+imported_live : (n runtime : ℕ) (imports : List ℕ) (m : ℕ) → runtime < n → All (λ o. o < n) imports → get_or imports m runtime < n
+imported_live n runtime [] m there live = there
+imported_live n runtime (o ∷ imports) zero there live = All-head (λ i. i < n) o imports live
+imported_live n runtime (o ∷ imports) (suc m) there live = imported_live n runtime imports m there (All-tail (λ i. i < n) o imports live)
+
+-- what is told names no object
+told_fits : (items : List Told) (h : Objects) (z : Kept) → kept_fits z h → kept_fits (tells items z) h
+told_fits items h z fits = record { runtime = fits.runtime; imports = fits.imports; built_ins = fits.built_ins; cells = fits.cells; waiting = fits.waiting }
 
 said_fits : (m : ℕ) (t : Result (List ℕ) Fault) (h : Objects) (z : Kept) → kept_fits z h → kept_fits (with_said m t z) h
-said_fits m (Ok us) h z fits = record { runtime = fits.runtime; imports = fits.imports; built_ins = fits.built_ins; cells = fits.cells; waiting = fits.waiting }
+said_fits m (Ok us) h z fits = told_fits (said m us ∷ []) h z fits
 said_fits m (Err f) h z fits = fits
-
-abbrev WaitsLive : ℕ → Waiting → Type 0
-WaitsLive n w = IsLive n w.function
 
 waiting_fits : (m : ℕ) (waits : Bool) (x : Value) (h : Objects) (z : Kept) → kept_fits z h → IsLive (length h.list) x → kept_fits (with_waiting m waits x z) h
 waiting_fits m true x h z fits live = record {
@@ -161,7 +175,7 @@ waiting_fits m true x h z fits live = record {
   imports = fits.imports;
   built_ins = fits.built_ins;
   cells = fits.cells;
-  waiting = All-push (WaitsLive (length h.list)) z.waiting (record { by = m; function = x }) fits.waiting live;
+  waiting = added_live (length h.list) m x z.waiting fits.waiting live;
 }
 waiting_fits m false x h z fits live = fits
 
@@ -169,41 +183,42 @@ waiting_fits m false x h z fits live = fits
 
 callee_live : (f : Callee) (by : ℕ) (this : Value) (args : List Value) (h : Objects) (z : Kept) → kept_fits z h → AreClosed h → IsLive (length h.list) this → All (IsLive (length h.list)) args → LiveDone h (done_by f by this args h z)
 callee_live (c.BuiltIn f) by this args h z fits closed a l = done_live f by this args h fits.built_ins closed a l
-callee_live c.LoadModule by this args h z fits closed a l = load_module_live z.runtime z.imports by (argument 0 args) h closed fits.runtime fits.imports (argument_live (length h.list) args l)
+callee_live c.LoadModule by this args h z fits closed a l =
+    load_module_live z.runtime (imports_of by z) by (argument 0 args) h closed fits.runtime (imported_live (length h.list) z.runtime z.imports by fits.runtime fits.imports) (argument_live (length h.list) args l)
 callee_live (c.Guard g) by this args h z fits closed a l = guard_live g by args h fits.built_ins closed l
 callee_live (c.Say m) by this args h z fits closed a l = say_live (text_of h (argument 0 args)) h closed
 callee_live (c.Later m) by this args h z fits closed a l = later_live (can_wait h (argument 0 args)) by h closed
 callee_live (c.Get cell) by this args h z fits closed a l = record { later = later_refl h; closed = closed; answer = cell_live (length h.list) cell z.cells fits.cells }
 callee_live (c.Set cell) by this args h z fits closed a l = record { later = later_refl h; closed = closed; answer = tt }
 
-callee_fits : (f : Callee) (args : List Value) (h : Objects) (z : Kept) → kept_fits z h → All (IsLive (length h.list)) args → kept_fits (kept_by f args h z) h
-callee_fits (c.BuiltIn f) args h z fits live = fits
-callee_fits c.LoadModule args h z fits live = fits
-callee_fits (c.Guard g) args h z fits live = fits
-callee_fits (c.Say m) args h z fits live = said_fits m (text_of h (argument 0 args)) h z fits
-callee_fits (c.Later m) args h z fits live = waiting_fits m (can_wait h (argument 0 args)) (argument 0 args) h z fits (argument_live (length h.list) args live)
-callee_fits (c.Get cell) args h z fits live = fits
-callee_fits (c.Set cell) args h z fits live = record {
+callee_fits : (f : Callee) (by : ℕ) (args : List Value) (h : Objects) (z : Kept) → kept_fits z h → All (IsLive (length h.list)) args → kept_fits (kept_by f by args h z) h
+callee_fits (c.BuiltIn f) by args h z fits live = fits
+callee_fits c.LoadModule by args h z fits live = fits
+callee_fits (c.Guard g) by args h z fits live = told_fits (guards.done_of g by args h).items h z fits
+callee_fits (c.Say m) by args h z fits live = said_fits m (text_of h (argument 0 args)) h z fits
+callee_fits (c.Later m) by args h z fits live = waiting_fits m (can_wait h (argument 0 args)) (argument 0 args) h z fits (argument_live (length h.list) args live)
+callee_fits (c.Get cell) by args h z fits live = fits
+callee_fits (c.Set cell) by args h z fits live = record {
   runtime = fits.runtime;
   imports = fits.imports;
   built_ins = fits.built_ins;
-  cells = put_live (length h.list) cell (argument 0 args) z.cells fits.cells (argument_live (length h.list) args live);
+  cells = put_holds (IsLive (length h.list)) v.Undefined cell (argument 0 args) z.cells tt (argument_live (length h.list) args live) fits.cells;
   waiting = fits.waiting;
 }
 
 fits_later : (z : Kept) (h g : Objects) → kept_fits z h → Later h g → kept_fits z g
 fits_later z h g fits later = record {
   runtime = lt_of_lt_of_le fits.runtime later.more;
-  imports = lt_of_lt_of_le fits.imports later.more;
+  imports = All-weaker (λ o. o < length h.list) (λ o. o < length g.list) (λ o there. lt_of_lt_of_le there later.more) z.imports fits.imports;
   built_ins = le_trans fits.built_ins later.more;
   cells = all_more z.cells later.more fits.cells;
-  waiting = All-weaker (WaitsLive (length h.list)) (WaitsLive (length g.list)) (λ w. live_more w.function later.more) z.waiting fits.waiting;
+  waiting = All-weaker (All (IsLive (length h.list))) (All (IsLive (length g.list))) (λ q. all_more q later.more) z.waiting fits.waiting;
 }
 
 answer_live : (f : Option Callee) (by : ℕ) (this : Value) (args : List Value) (h : Objects) (z : Kept) → kept_fits z h → AreClosed h → IsLive (length h.list) this → All (IsLive (length h.list)) args → AfterCall kept_fits h (turn_by f by this args h z)
 answer_live (Some f) by this args h z fits closed a l =
     let d = callee_live f by this args h z fits closed a l in
-    record { later = d.later; closed = d.closed; answer = d.answer; kept = fits_later (kept_by f args h z) h (done_by f by this args h z).heap (callee_fits f args h z fits l) d.later }
+    record { later = d.later; closed = d.closed; answer = d.answer; kept = fits_later (kept_by f by args h z) h (done_by f by this args h z).heap (callee_fits f by args h z fits l) d.later }
 answer_live None by this args h z fits closed a l =
     let d = throws_live by (codes "not a function") h [] closed in
     record { later = d.later; closed = d.closed; answer = d.answer; kept = fits_later z h _ fits d.later }
@@ -211,6 +226,6 @@ answer_live None by this args h z fits closed a l =
 pub page_keeps_live : KeepsLive kept_fits page_table
 page_keeps_live = record {
   called = λ which by this args h z fits closed a l. answer_live (callee_of which) by this args h z fits closed a l;
-  touched = λ i h z fits. fits;
+  touched = λ i h z fits. told_fits (touch_told i ∷ []) h z fits;
   later = λ h g z fits later. fits_later z h g fits later;
 }

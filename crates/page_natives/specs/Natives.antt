@@ -1,5 +1,5 @@
 -- The natives of a page: what each answers, by its number, and what they keep.
-use Rattle.std.specs.Prelude.{ℕ, ◌+◌, ◌-◌, ◌/◌, ◌%◌, ◌<◌, Bool, false, List, [], ◌∷◌, ◌++◌, All, Option, Some, None, Result, Ok, Err, is_some, map, length, get_or, set, replicate, codes, nat_eq, nat_lt, if◌then◌else◌}
+use Rattle.std.specs.Prelude.{ℕ, ◌+◌, ◌-◌, ◌/◌, ◌%◌, ◌<◌, Bool, false, List, [], ◌∷◌, ◌++◌, All, Option, Some, None, Result, Ok, Err, is_some, map, length, get_or, set, replicate, codes, nat_eq, nat_lt, drop, if◌then◌else◌}
 use Rattle.plans.specs.Plans.{Fault}
 use Rattle.es3_heap.specs.declared.value.Value.{Value}
 use Rattle.es3_heap.specs.declared.value.Value.TheVariants as v
@@ -14,47 +14,56 @@ use Rattle.es3_convert.specs.Conversions.{text_of}
 use Rattle.es3_language.specs.Natives.{Turn, Table}
 use Rattle.es3_live.specs.Live.{IsLive}
 use Rattle.heap_rows.specs.Marks.{simple_mark}
-use Rattle.heap_rows.specs.Doing.{Told, said, Done, Page, gives}
+use Rattle.heap_rows.specs.Doing.{Told, said, heard, Done, Page, gives}
 use Rattle.heap_rows.specs.Opening.{load_module as load_module_number, built_ins_there, runtime_id, imports_id}
 use Rattle.row_outcomes.specs.Comes.{throws}
 use Rattle.row_outcomes.specs.Arguments.{argument, after}
 use Rattle.guard_runtime.specs.declared.Guard.{Guard}
 use Rattle.guard_runtime.specs.Guards as guards
+use Rattle.page_log.specs.Items.{touch_told, all_told}
 use Rattle.page_natives.specs.Answered.{turn_of}
 use Rattle.page_natives.specs.declared.built_ins.BuiltIn.{BuiltIn}
 use Rattle.page_natives.specs.declared.natives.Callee.{Callee}
 use Rattle.page_natives.specs.declared.natives.Callee.TheVariants as c
-use Rattle.page_natives.specs.declared.natives.Said.{Said}
-use Rattle.page_natives.specs.declared.natives.Waiting.{Waiting}
 use Rattle.page_natives.specs.declared.natives.PageNatives.{PageNatives}
 use Rattle.page_natives.specs.BuiltIns.{done_of, built_in}
 
--- what is kept: the object of the runtime and that of the imports; what the log prints; what each cell holds; the functions that wait to be called, each in the queue
--- of a module
+-- what is kept: the object of the runtime; for each module the object of what it may import; whether touches are printed; what the log
+-- prints; what each cell holds; for each module the functions that wait to be called, the first in front
 pub record Kept : Type 0 where
   pub runtime : ℕ
-  pub imports : ℕ
+  pub imports : List ℕ
+  pub touching : Bool
   pub told : List Told
   pub cells : List Value
-  pub waiting : List Waiting
-
-abbrev pub told_of : List Said → List Told
-told_of texts = map (λ t. said t.by t.text) texts
+  pub waiting : List (List Value)
 
 abbrev pub kept_of : PageNatives → Kept
-kept_of n = record { runtime = n.runtime; imports = n.imports; told = told_of n.told.items; cells = n.cells.items; waiting = n.waiting.items }
+kept_of n = record { runtime = n.runtime; imports = n.imports.items; touching = n.touching; told = all_told n.told.items; cells = n.cells.items; waiting = map (λ q. q.items) n.waiting.items }
 
-abbrev pub new_kept : ℕ → ℕ → Kept
-new_kept runtime imports = record { runtime = runtime; imports = imports; told = []; cells = []; waiting = [] }
+-- a page has 64 modules at most; before a module is loaded the runtime stands in the place of what it may import
+abbrev pub new_kept : ℕ → Bool → Kept
+new_kept runtime touching = record { runtime = runtime; imports = replicate 64 runtime; touching = touching; told = []; cells = []; waiting = [] }
 
+-- a module may import what this object has
+abbrev pub importing : ℕ → ℕ → Kept → Kept
+importing m o z = record z { imports = set z.imports m o }
+
+abbrev pub imports_of : ℕ → Kept → ℕ
+imports_of m z = get_or z.imports m z.runtime
+
+-- something is told, touches where they are asked for
+abbrev pub tells : List Told → Kept → Kept
+tells items z = record z { told = z.told ++ heard z.touching items }
+
+-- where one module begins that is loaded by itself, without touches
 abbrev pub first_kept : Kept
-first_kept = new_kept runtime_id imports_id
+first_kept = importing 0 imports_id (new_kept runtime_id false)
 
--- what is kept, as rows see it: a cell into which nothing was put holds nothing
+-- what is kept, as rows see it: nothing waits in a queue in which nothing was put, and a cell into which nothing was put holds nothing
 
-abbrev pub queue_of : ℕ → List Waiting → List Value
-queue_of m [] = []
-queue_of m (w ∷ ws) = if nat_eq m w.by then w.function ∷ queue_of m ws else queue_of m ws
+abbrev pub queue_of : ℕ → List (List Value) → List Value
+queue_of m qs = get_or qs m []
 
 abbrev pub cell_value : ℕ → List Value → Value
 cell_value cell cells = get_or cells cell v.Undefined
@@ -96,16 +105,35 @@ abbrev pub say_done : Result (List ℕ) Fault → Objects → Done
 say_done t h = after t h (λ us. gives v.Undefined h [])
 
 abbrev pub with_said : ℕ → Result (List ℕ) Fault → Kept → Kept
-with_said m (Ok us) z = record z { told = z.told ++ said m us ∷ [] }
+with_said m (Ok us) z = tells (said m us ∷ []) z
 with_said m (Err f) z = z
+
+-- so many at least, of which the new ones are d
+abbrev pub padded : {A : Type 0} → A → ℕ → List A → List A
+padded d n xs = xs ++ replicate (n - length xs) d
+
+-- x stands at a place; those before it of which there were none yet are d
+abbrev pub put_at : {A : Type 0} → A → ℕ → A → List A → List A
+put_at d i x xs = set (padded d (i + 1) xs) i x
 
 -- later(f) of a module: f waits
 
 abbrev pub later_done : Bool → ℕ → Objects → Done
 later_done waits by h = if waits then gives v.Undefined h [] else throws (codes "bad argument") by h
 
+-- a function waits behind all others in the queue of a module
+abbrev pub added : ℕ → Value → List (List Value) → List (List Value)
+added m f qs = put_at [] m (queue_of m qs ++ f ∷ []) qs
+
+-- the first function in the queue of a module no longer waits
+abbrev pub rest_of : ℕ → List (List Value) → List (List Value)
+rest_of m qs = set qs m (drop 1 (queue_of m qs))
+
+abbrev pub without_first : ℕ → Kept → Kept
+without_first m z = record z { waiting = rest_of m z.waiting }
+
 abbrev pub with_waiting : ℕ → Bool → Value → Kept → Kept
-with_waiting m waits x z = if waits then record z { waiting = z.waiting ++ record { by = m; function = x } ∷ [] } else z
+with_waiting m waits x z = if waits then record z { waiting = added m x z.waiting } else z
 
 -- get() and set(v) of a cell
 
@@ -115,49 +143,43 @@ cell_done cell cells h = gives (cell_value cell cells) h []
 abbrev pub set_done : Objects → Done
 set_done h = gives v.Undefined h []
 
--- so many at least
-abbrev pub padded : ℕ → List Value → List Value
-padded n cells = cells ++ replicate (n - length cells) v.Undefined
-
-abbrev pub put_at : ℕ → Value → List Value → List Value
-put_at cell x cells = set (padded (cell + 1) cells) cell x
-
 abbrev pub with_kept : ℕ → Value → Kept → Kept
-with_kept cell x z = record z { cells = put_at cell x z.cells }
+with_kept cell x z = record z { cells = put_at v.Undefined cell x z.cells }
 
 -- what a callee comes to, and what is kept then
 
 abbrev pub done_by : Callee → ℕ → Value → List Value → Objects → Kept → Done
 done_by (c.BuiltIn f) by this args h z = done_of f by this args h
-done_by c.LoadModule by this args h z = guards.load_module z.runtime z.imports by (argument 0 args) h
+done_by c.LoadModule by this args h z = guards.load_module z.runtime (imports_of by z) by (argument 0 args) h
 done_by (c.Guard g) by this args h z = guards.done_of g by args h
 done_by (c.Say m) by this args h z = say_done (text_of h (argument 0 args)) h
 done_by (c.Later m) by this args h z = later_done (can_wait h (argument 0 args)) by h
 done_by (c.Get cell) by this args h z = cell_done cell z.cells h
 done_by (c.Set cell) by this args h z = set_done h
 
-abbrev pub kept_by : Callee → List Value → Objects → Kept → Kept
-kept_by (c.Say m) args h z = with_said m (text_of h (argument 0 args)) z
-kept_by (c.Later m) args h z = with_waiting m (can_wait h (argument 0 args)) (argument 0 args) z
-kept_by (c.Set cell) args h z = with_kept cell (argument 0 args) z
-kept_by f args h z = z
+-- what a callee leaves: a guard tells what it touches
+abbrev pub kept_by : Callee → ℕ → List Value → Objects → Kept → Kept
+kept_by (c.Guard g) by args h z = tells (guards.done_of g by args h).items z
+kept_by (c.Say m) by args h z = with_said m (text_of h (argument 0 args)) z
+kept_by (c.Later m) by args h z = with_waiting m (can_wait h (argument 0 args)) (argument 0 args) z
+kept_by (c.Set cell) by args h z = with_kept cell (argument 0 args) z
+kept_by f by args h z = z
 
 -- no function of a page has another number
 abbrev pub turn_by : Option Callee → ℕ → Value → List Value → Objects → Kept → Turn Kept
-turn_by (Some f) by this args h z = turn_of (done_by f by this args h z) (kept_by f args h z)
+turn_by (Some f) by this args h z = turn_of (done_by f by this args h z) (kept_by f by args h z)
 turn_by None by this args h z = turn_of (throws (codes "not a function") by h) z
 
--- touches aren't kept yet
 abbrev pub page_table : Table Kept
-page_table = record { answer = λ which by this args h z. turn_by (callee_of which) by this args h z; touch = λ i z. z }
+page_table = record { answer = λ which by this args h z. turn_by (callee_of which) by this args h z; touch = λ i z. tells (touch_told i ∷ []) z }
 
--- what is kept fits a store's objects: the runtime and the imports are there, the built-in functions and their two records, and so is all that a cell holds and that waits
+-- what is kept fits a store's objects: the runtime and what modules may import are there, the built-in functions and their two records, and so is all that a cell holds and that waits
 pub record Fits (z : Kept) (h : Objects) : Type 0 where
   pub runtime : z.runtime < length h.list
-  pub imports : z.imports < length h.list
+  pub imports : All (λ o. o < length h.list) z.imports
   pub built_ins : built_ins_there h
   pub cells : All (IsLive (length h.list)) z.cells
-  pub waiting : All (λ w. IsLive (length h.list) w.function) z.waiting
+  pub waiting : All (All (IsLive (length h.list))) z.waiting
 
 abbrev pub kept_fits : Kept → Objects → Type 0
 kept_fits z h = Fits z h

@@ -24,12 +24,13 @@ pub record IsKept (came : Came) (d : Done) (z kept : Kept) : Type 0 where
   pub queues : (m : ℕ) → came.page.queues m ≡ (page_of kept).queues m
   pub runtime : kept.runtime ≡ z.runtime
   pub imports : kept.imports ≡ z.imports
+  pub touching : kept.touching ≡ z.touching
 
 -- a callee does what its row does, for a function of this name
 abbrev pub DoesItsRow : Callee → Native → Tag → Type 0
 DoesItsRow callee f name =
     (rules : Rules) (by : ℕ) (this self : Value) (args : List Value) (h : Objects) (z : Kept) → named h self ≡ name
-    → IsKept (does place_of by (row_of rules f (suc (length args))) (self ∷ args) h (page_of z) []) (done_by callee by this args h z) z (kept_by callee args h z)
+    → IsKept (does place_of by (row_of rules f (suc (length args))) (self ∷ args) h (page_of z) []) (done_by callee by this args h z) z (kept_by callee by args h z)
 
 -- the function of a module or of a cell has its number
 abbrev pub HasItsNumber : Callee → ℕ → Type 0

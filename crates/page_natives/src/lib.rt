@@ -16,7 +16,7 @@ mod objects;
 mod waiting;
 
 pub use built_ins::{BuiltIn, Method, NodeMethod, Tool};
-pub use natives::{Callee, LOAD_MODULE, PageNatives, Said, Waiting, answer_of};
+pub use natives::{Callee, LOAD_MODULE, PageNatives, answer_of};
 pub use objects::{array_from, function_from, object_from, to_string, value_of};
 
 /// What `say` and `later` of a module and `get` and `set` of a cell answer, and what they keep, is what their rows do among objects.

@@ -1,29 +1,40 @@
 //! What the modules of a page and a text may call, each by its number, and what that keeps.
 
-ghost use Rattle.std.specs.Prelude.{◌≡◌, ◌≤◌, ◌%◌, ◌/◌, ◌-◌, true, OnOk, Ok, length};
+ghost use Rattle.std.specs.Prelude.{◌≡◌, ◌≤◌, ◌%◌, ◌/◌, ◌-◌, ◌++◌, ◌∷◌, [], true, IfOk, OnOk, OnErr, Ok, length, slice_get, replicate};
+ghost use Rattle.std.specs.Option.{option_copied};
 ghost use Rattle.es3_convert.specs.Conversions.{text_of};
 ghost use Rattle.es3_moves.specs.Answers.{Answers};
+ghost use Rattle.heap_rows.specs.Doing.{ended};
+ghost use Rattle.guard_runtime.specs.Guards as guards;
+ghost use Rattle.page_log.specs.Items.{label_of, end_of};
+ghost use Rattle.guard_touches.specs.Touches.{told_if};
 ghost use Rattle.page_natives.specs.Answered.{answered, turn_of};
-ghost use Rattle.page_natives.specs.Natives.{Kept, kept_of, new_kept, kept_fits, own_callee, callee_of, can_wait, say_done, with_said, later_done, with_waiting, cell_done, set_done, padded, put_at, with_kept, done_by, kept_by, page_table};
+ghost use Rattle.page_natives.specs.Natives.{Kept, kept_of, new_kept, importing, imports_of, tells, queue_of, without_first, kept_fits, own_callee, callee_of, can_wait, say_done, with_said, later_done, with_waiting, cell_done, set_done, padded, put_at, with_kept, done_by, kept_by, page_table};
 ghost use Rattle.page_natives.specs.Keeps.{page_keeps_live};
 
 use crate::built_ins::{BuiltIn, built_in, done};
 use crate::objects::value_of;
-use crate::waiting::can_wait;
+use crate::waiting::{can_wait, take_first, wait_in};
 use caja_units::{Memory, Units};
 use es3_convert::{out_of_memory, to_text};
 use es3_heap::{Heap, ObjId, Stop, Tag, Value};
 use es3_language::Touch;
 use es3_moves::natives::{Answer, Natives};
 use guard_runtime::{Guard, call_guard, guard_at, load_module};
+use guard_touches::touched_by;
+use page_log::{Ended, Item, Label};
 use row_outcomes::{Outcome, thrown, value_or};
 use std::alloc::Global;
+use std::collections::VecDeque;
 
 /// The number of `loadModule`; those of the guards follow it.
 pub const LOAD_MODULE: u32 = 64;
 
 /// The number of the first function that a module or a cell has: four numbers for each.
 const FIRST_OWN: u32 = 128;
+
+/// The most modules that a page has.
+const MOST_MODULES: usize = 64;
 
 /// What a module or a text may call.
 #[derive(Clone, Copy, Debug)]
@@ -85,40 +96,26 @@ pub fn answer_of(outcome: Result<Outcome, Stop>) -> Answer
     }
 }
 
-/// A text that a module said.
-#[derive(Drop)]
-pub struct Said {
-    /// The module's number.
-    pub by: u32,
-    pub text: Units,
-}
-
-/// A function that waits to be called.
-#[derive(Drop)]
-pub struct Waiting {
-    /// The number of the module in whose queue it stands.
-    pub by: u32,
-    pub function: Value,
-}
-
 /// The natives of a page, and what they keep.
 #[derive(Drop)]
 pub struct PageNatives {
     /// The object of the runtime.
     pub runtime: ObjId,
-    /// The object of what a module may import.
-    pub imports: ObjId,
-    /// What was said, in order.
-    pub told: Vec<Said>,
+    /// For each module the object of what it may import; that of the runtime stands in its place before the module is loaded.
+    pub imports: Vec<ObjId>,
+    /// Whether touches are printed.
+    pub touching: bool,
+    /// What the log prints, in order.
+    pub told: Vec<Item>,
     /// What each cell holds; nothing was put into a cell behind them.
     pub cells: Vec<Value>,
-    /// The functions that wait to be called, in order.
-    pub waiting: Vec<Waiting>,
+    /// For each module the functions that wait to be called, the first in front; none waits in a queue behind them.
+    pub waiting: Vec<VecDeque<Value>>,
 }
 
 /// Makes so many cells at least; new ones hold nothing.
 fn pad(cells: &mut Vec<Value>, count: usize) -> Result<(), Memory>
-    ensures items { OnOk result (cells.new.items ≡ padded count cells.old.items) }
+    ensures items { OnOk result (cells.new.items ≡ padded Value.Undefined count cells.old.items) }
     ensures long { OnOk result (count ≤ length cells.new.items) }
 {
     while cells.len() < count {
@@ -129,7 +126,7 @@ fn pad(cells: &mut Vec<Value>, count: usize) -> Result<(), Memory>
 
 /// Puts a value into a cell. The cells before it of which there were none yet hold nothing.
 fn put_at(cells: &mut Vec<Value>, cell: u32, value: Value) -> Result<(), Memory>
-    ensures { OnOk result (cells.new.items ≡ put_at cell value cells.old.items) }
+    ensures { OnOk result (cells.new.items ≡ put_at Value.Undefined cell value cells.old.items) }
 {
     let at = cell as usize;
     pad(cells, at + 1)?;
@@ -137,34 +134,132 @@ fn put_at(cells: &mut Vec<Value>, cell: u32, value: Value) -> Result<(), Memory>
     Ok(())
 }
 
+/// An object for each module of a page, the same for all.
+fn all_alike(alloc: Global, o: ObjId) -> Result<Vec<ObjId>, Memory>
+    ensures { IfOk result (λ places. places.items ≡ replicate 64 o) }
+{
+    let mut places = Vec::with_capacity(alloc, MOST_MODULES)?;
+    for _module in 0..MOST_MODULES {
+        places.push(o)?;
+    }
+    Ok(places)
+}
+
+/// The same key once more, where there is one.
+fn key_copy(alloc: Global, key: Option<&Units>) -> Result<Option<Units>, Memory>
+    ensures { IfOk result (λ same. same ≡ option_copied key.entry) }
+{
+    match key {
+        Some(key) => Ok(Some(key.copy(alloc)?)),
+        None => Ok(None),
+    }
+}
+
 impl PageNatives {
-    /// Natives of which none was called.
-    pub fn new(alloc: Global, runtime: ObjId, imports: ObjId) -> PageNatives
-        ensures { kept_of result ≡ new_kept runtime imports }
+    /// Natives of which none was called, for at most 64 modules. Touches are told where they are asked for. The only error is want
+    /// of memory.
+    pub fn new(alloc: Global, runtime: ObjId, touching: bool) -> Result<PageNatives, Memory>
+        ensures { IfOk result (λ natives. kept_of natives ≡ new_kept runtime touching) }
     {
-        PageNatives {
+        Ok(PageNatives {
             runtime,
-            imports,
+            imports: all_alike(alloc, runtime)?,
+            touching,
             told: Vec::new(alloc),
             cells: Vec::new(alloc),
             waiting: Vec::new(alloc),
+        })
+    }
+
+    /// A module, by its number, may import what this object has. Nothing changes where there is no place for the module.
+    pub fn importing(&mut self, owner: u32, imports: ObjId)
+        ensures { kept_of self.new ≡ importing owner imports (kept_of self.old) }
+    {
+        if let Some(place) = self.imports.get_mut(owner as usize) {
+            *place = imports;
         }
+    }
+
+    /// Takes the first function that waits in the queue of a module, by its number; None exactly where none waits. It takes no
+    /// memory.
+    pub fn take_waiting(&mut self, owner: u32) -> Option<Value>
+        ensures taken { result ≡ slice_get (queue_of owner (kept_of self.old).waiting) 0 }
+        ensures left { kept_of self.new ≡ without_first owner (kept_of self.old) }
+        ensures none { queue_of owner (kept_of self.old).waiting ≡ [] → kept_of self.new ≡ kept_of self.old }
+    {
+        take_first(&mut self.waiting, owner)
+    }
+
+    /// Tells how a turn of the page ended. The only error is want of memory; then nothing was told.
+    pub fn tell_end(&mut self, label: Label, end: Ended) -> Result<(), Memory>
+        ensures ok { OnOk result (kept_of self.new ≡ tells (ended (label_of label) (end_of end) ∷ []) (kept_of self.old)) }
+        ensures err { OnErr result (kept_of self.new ≡ kept_of self.old) }
+    {
+        self.told.push(Item::Ended(label, end))?;
+        Ok(())
+    }
+
+    /// Tells an item, where there is one.
+    fn tell(&mut self, item: Option<Item>) -> Result<(), Memory>
+        ensures { OnOk result (kept_of self.new ≡ record (kept_of self.old) { told = (kept_of self.old).told ++ told_if item }) }
+    {
+        if let Some(item) = item {
+            self.told.push(item)?;
+        }
+        Ok(())
+    }
+
+    /// Tells what a guard is about to touch, where touches are asked for.
+    #[tactic(auto, using(crate::proofs::Telling::guard_told))]
+    fn tell_touch(
+        &mut self,
+        alloc: Global,
+        h: &Heap,
+        guard: Guard,
+        by: u32,
+        args: &[Value],
+    ) -> Result<(), Memory>
+        ensures { OnOk result (kept_of self.new ≡ tells (guards.done_of guard by args.now h.now).items (kept_of self.old)) }
+    {
+        if !self.touching {
+            return Ok(());
+        }
+        let item = touched_by(alloc, h, guard, by, args)?;
+        self.tell(item)?;
+        Ok(())
+    }
+
+    /// What a guard comes to, behind what it touches.
+    #[tactic(auto, using(crate::proofs::Answered::comes_answers))]
+    fn guard(
+        &mut self,
+        alloc: Global,
+        h: &mut Heap,
+        guard: Guard,
+        by: u32,
+        args: &[Value],
+    ) -> Result<Outcome, Stop>
+        ensures answers { Answers (turn_of (guards.done_of guard by args.now h.old) (tells (guards.done_of guard by args.now h.old).items (kept_of self.old))) (answered result) h.new (kept_of self.new) }
+        ensures live { length h.old.list ≤ length h.new.list }
+    {
+        self.tell_touch(alloc, h, guard, by, args)
+            .map_err(out_of_memory)?;
+        call_guard(alloc, h, guard, by, args)
     }
 
     /// Keeps a text as the last one that was said.
     fn keep_said(&mut self, by: u32, text: Units) -> Result<(), Memory>
         ensures { OnOk result (kept_of self.new ≡ with_said by (Ok text) (kept_of self.old)) }
     {
-        self.told.push(Said { by, text })?;
+        self.told.push(Item::Said(by, text))?;
         Ok(())
     }
 
-    /// Keeps a function as the last one that waits.
-    fn keep_waiting(&mut self, by: u32, function: Value) -> Result<(), Memory>
-        ensures { OnOk result (kept_of self.new ≡ with_waiting by true function (kept_of self.old)) }
+    /// Keeps a function as the last one that waits in the queue of a module.
+    fn keep_waiting(&mut self, alloc: Global, owner: u32, function: Value) -> Result<(), Memory>
+        ensures { OnOk result (kept_of self.new ≡ with_waiting owner true function (kept_of self.old)) }
     {
-        self.waiting.push(Waiting { by, function })?;
-        Ok(())
+        wait_in(alloc, &mut self.waiting, owner, function)
     }
 
     /// `say(v)` of a module: the text of the argument is said. The run stops where it has none.
@@ -193,7 +288,8 @@ impl PageNatives {
             return thrown(alloc, h, by, b"bad argument");
         }
         let function = value.copy(alloc).map_err(out_of_memory)?;
-        self.keep_waiting(owner, function).map_err(out_of_memory)?;
+        self.keep_waiting(alloc, owner, function)
+            .map_err(out_of_memory)?;
         Ok(Outcome::Value(Value::Undefined))
     }
 
@@ -214,6 +310,16 @@ impl PageNatives {
         Ok(Outcome::Value(Value::Undefined))
     }
 
+    /// The object of what a module may import; that of the runtime stands in its place before the module is loaded.
+    fn imports_of(&self, by: u32) -> ObjId
+        ensures { result ≡ imports_of by (kept_of self.now) }
+    {
+        match self.imports.get(by as usize) {
+            Some(o) => *o,
+            None => self.runtime,
+        }
+    }
+
     /// What a callee comes to.
     #[tactic(auto, using(crate::proofs::Answered::comes_answers))]
     fn outcome(
@@ -225,15 +331,18 @@ impl PageNatives {
         this: &Value,
         args: &[Value],
     ) -> Result<Outcome, Stop>
-        ensures answers { Answers (turn_of (done_by callee by this.now args.now h.old (kept_of self.old)) (kept_by callee args.now h.old (kept_of self.old))) (answered result) h.new (kept_of self.new) }
+        ensures answers { Answers (turn_of (done_by callee by this.now args.now h.old (kept_of self.old)) (kept_by callee by args.now h.old (kept_of self.old))) (answered result) h.new (kept_of self.new) }
         ensures live { length h.old.list ≤ length h.new.list }
     {
         let absent = Value::Undefined;
         let first = value_or(args, 0, &absent);
         match callee {
             Callee::BuiltIn(function) => done(alloc, h, function, by, this, args),
-            Callee::LoadModule => load_module(alloc, h, by, first, self.runtime, self.imports),
-            Callee::Guard(guard) => call_guard(alloc, h, guard, by, args),
+            Callee::LoadModule => {
+                let imports = self.imports_of(by);
+                load_module(alloc, h, by, first, self.runtime, imports)
+            }
+            Callee::Guard(guard) => self.guard(alloc, h, guard, by, args),
             Callee::Say(owner) => self.say(alloc, h, owner, first),
             Callee::Later(owner) => self.later(alloc, h, owner, by, first),
             Callee::Get(cell) => self.get(alloc, h, cell),
@@ -268,12 +377,17 @@ impl Natives for PageNatives {
 
     fn touch(
         &mut self,
-        _alloc: Global,
-        _by: u32,
-        _what: Touch,
-        _on: Tag,
-        _key: Option<&Units>,
+        alloc: Global,
+        by: u32,
+        what: Touch,
+        on: Tag,
+        key: Option<&Units>,
     ) -> Result<(), Memory> {
+        if !self.touching {
+            return Ok(());
+        }
+        let key = key_copy(alloc, key)?;
+        self.told.push(Item::Touched(by, what, on, key))?;
         Ok(())
     }
 
