@@ -20,9 +20,9 @@ use Rattle.cajita_rewrite.specs.Rewrite.{temps}
 use Rattle.source_sizes.specs.Sizes.{inner_temps, temps_everywhere}
 use Rattle.scope_rules.specs.Free.{free}
 use Rattle.scope_rules.specs.Resolve.{resolved, declared_functions, imports_of, module_of}
-use Rattle.cajita_simulation.specs.Guest.{is_among, Names, GuestModule, a_guest}
+use Rattle.cajita_simulation.specs.Guest.{is_among, Names, GuestName, GuestModule, a_guest}
 use Rattle.cajita_simulation.specs.Jumps.{no_jumps, Targets}
-use Rattle.accepted_modules.proofs.Declared.{never, not_true, both_true, no_front, no_back, fixed_guest, once_same}
+use Rattle.accepted_modules.proofs.Declared.{never, not_true, both_true, no_front, no_back, known_guest, once_same}
 use Rattle.accepted_modules.proofs.Formed.{FormedBody, formed_script}
 use Rattle.accepted_modules.proofs.Names.{not_there}
 use Rattle.accepted_modules.proofs.Words.{list_words}
@@ -127,35 +127,35 @@ none_mapped (m ∷ ms) e = absurd cc
 
 -- ---- modules
 
-module _ (body : Placed t.stmts) (h : FormedBody body) (fs : c.Tree c.funcs) (is : declared_functions body ≡ Some fs) (list : c.Tree c.stmts) (lists : resolved t.stmts body ≡ Some list) (clean : all_faults [] body ≡ []) where
+module _ (grants : List (List ℕ)) (each : (k : List ℕ) → is_among grants k ≡ true → GuestName k) (body : Placed t.stmts) (h : FormedBody body) (fs : c.Tree c.funcs) (is : declared_functions body ≡ Some fs) (list : c.Tree c.stmts) (lists : resolved t.stmts body ≡ Some list) (clean : all_faults grants body ≡ []) where
   abbrev ds : List Declaration
   ds = declarations t.stmts body
 
   abbrev given : List (List ℕ)
-  given = imports_of [] body
+  given = imports_of grants body
 
   abbrev vars : List (List ℕ)
   vars = vars_of body
 
   abbrev foreign : Names
-  foreign = outside ds given vars fs (each_kind [] body h fs is)
+  foreign = outside (grants ++ fixed_names) ds given vars fs (each_kind [] body h fs is)
 
   abbrev P : Place given foreign
-  P = in_the_module ds given vars fs (each_kind [] body h fs is)
+  P = in_the_module (grants ++ fixed_names) ds given vars fs (each_kind [] body h fs is)
 
   once : redeclared [] ds ≡ []
   once = no_front (redeclared [] ds) _ (no_front _ (map bad_label (misplaced in_program t.stmts body)) clean)
 
-  without_faults : faults_in (module_scope [] body) t.stmts body ≡ []
+  without_faults : faults_in (module_scope grants body) t.stmts body ≡ []
   without_faults = no_back (redeclared [] ds) _ (no_front _ (map bad_label (misplaced in_program t.stmts body)) clean)
 
   placed : misplaced in_program t.stmts body ≡ []
-  placed = none_mapped _ (no_back (redeclared [] ds ++ faults_in (module_scope [] body) t.stmts body) _ clean)
+  placed = none_mapped _ (no_back (redeclared [] ds ++ faults_in (module_scope grants body) t.stmts body) _ clean)
 
-  given_same : (k : List ℕ) → is_among given k ≡ is_among (free (module_scope [] body) t.stmts body) k
-  given_same k = once_same [] (free (module_scope [] body) t.stmts body) k
+  given_same : (k : List ℕ) → is_among given k ≡ is_among (free (module_scope grants body) t.stmts body) k
+  given_same k = once_same [] (free (module_scope grants body) t.stmts body) k
 
-  clear : Clear P (about (module_scope [] body) in_program t.stmts body)
+  clear : Clear P (about (module_scope grants body) in_program t.stmts body)
   clear = record {
     usable = λ k e. let here = each_kind [] body h fs is k e in (within_own [] vars fs false (is_among given) k here, within_own [] vars fs false (λ x. false) k here);
     granted = λ k e. given_same k ∙ e;
@@ -164,34 +164,34 @@ module _ (body : Placed t.stmts) (h : FormedBody body) (fs : c.Tree c.funcs) (is
     placed = placed;
   }
 
-  held : HoldsBody P (about (module_scope [] body) in_program t.stmts body) (Some fs) (Some list)
+  held : HoldsBody P (about (module_scope grants body) in_program t.stmts body) (Some fs) (Some list)
   held =
       let both_held = (part given foreign body).in_body h P in_program in
-      subst (λ o. HoldsBody P (about (module_scope [] body) in_program t.stmts body) (Some fs) o) lists (subst (λ o. HoldsBody P (about (module_scope [] body) in_program t.stmts body) o (resolved t.stmts body)) is both_held)
+      subst (λ o. HoldsBody P (about (module_scope grants body) in_program t.stmts body) (Some fs) o) lists (subst (λ o. HoldsBody P (about (module_scope grants body) in_program t.stmts body) o (resolved t.stmts body)) is both_held)
 
-  words : (k : List ℕ) → declares ds k ≡ true → Rattle.cajita_simulation.specs.Guest.GuestName k
-  words = list_words (module_scope [] body) body without_faults
+  words : (k : List ℕ) → declares ds k ≡ true → GuestName k
+  words = list_words (module_scope grants body) body without_faults
 
   guest_module : Few (temps c.stmts list + (inner_temps c.funcs fs + inner_temps c.stmts list)) → GuestModule (c.a_module given (c.a_body fs vars list))
   guest_module few =
       let own_few : Few (temps c.stmts list) = fewer _ (temps c.stmts list + (inner_temps c.funcs fs + inner_temps c.stmts list)) (omega arith) few in
       let inner_few : Few (inner_temps c.funcs fs + inner_temps c.stmts list) = fewer _ (temps c.stmts list + (inner_temps c.funcs fs + inner_temps c.stmts list)) (omega arith) few in
       let fine = body_there P held inner_few clear in
-      let from_outside : (k : List ℕ) → is_among given k ≡ true → (not (declares ds k) ≡ true) × (is_among fixed_names k ≡ true) = λ k e. both_true (not (declares ds k)) (is_among fixed_names k) (fine.fixed k (sym (given_same k) ∙ e)) in
+      let from_outside : (k : List ℕ) → is_among given k ≡ true → (not (declares ds k) ≡ true) × (is_among (grants ++ fixed_names) k ≡ true) = λ k e. both_true (not (declares ds k)) (is_among (grants ++ fixed_names) k) (fine.fixed k (sym (given_same k) ∙ e)) in
       let targets : Targets no_jumps [] c.stmts list = subst (λ o. IfSome o (Targets no_jumps [] c.stmts)) lists (module_jumps body h placed) in
-      a_guest given vars fs list (declared_variable body list lists) (λ k e. fixed_guest k (from_outside k e).1) (λ k e. words k (variable_declared body k e)) own_few targets
+      a_guest given vars fs list (declared_variable body list lists) (λ k e. known_guest grants each k (from_outside k e).1) (λ k e. words k (variable_declared body k e)) own_few targets
       (new_functions given vars fs (names_of is_function ds) (named_functions [] body h fs is) (distinct_functions [] body h fs is once)
       (λ k e. (words k (function_declared body k e), not_there (is_among given k) (λ g. sym (not_true (declares ds k) (from_outside k g).0) ∙ function_declared body k e), no_variables_name [] body h fs is once k e)))
       fine.functions fine.statements
 
-of_body : (body : Placed t.stmts) → FormedBody body → all_faults [] body ≡ [] → (fs : Option (c.Tree c.funcs)) (list : Option (c.Tree c.stmts)) → declared_functions body ≡ fs → resolved t.stmts body ≡ list
-    → IfSome (one (c.a_module (imports_of [] body)) (both (λ fs ss. c.a_body fs (vars_of body) ss) fs list)) (λ m. Few (temps_everywhere m) → GuestModule m)
+of_body : (grants : List (List ℕ)) → ((k : List ℕ) → is_among grants k ≡ true → GuestName k) → (body : Placed t.stmts) → FormedBody body → all_faults grants body ≡ [] → (fs : Option (c.Tree c.funcs)) (list : Option (c.Tree c.stmts)) → declared_functions body ≡ fs → resolved t.stmts body ≡ list
+    → IfSome (one (c.a_module (imports_of grants body)) (both (λ fs ss. c.a_body fs (vars_of body) ss) fs list)) (λ m. Few (temps_everywhere m) → GuestModule m)
 unfolding inner_temps
-of_body body h clean None list a b = tt
-of_body body h clean (Some fs) None a b = tt
-of_body body h clean (Some fs) (Some list) a b = λ few. guest_module body h fs a list b clean few
+of_body grants each body h clean None list a b = tt
+of_body grants each body h clean (Some fs) None a b = tt
+of_body grants each body h clean (Some fs) (Some list) a b = λ few. guest_module grants each body h fs a list b clean few
 
 -- the module of a tree that tokens spell and that breaks no rule is a guest, where it and its functions take few temporaries
-pub guest_of : (body : Placed t.stmts) (u : List Spot) (m : c.Tree c.program) → Spells t.program grammar.free 0 (p.script body) u → first (faults [] body) ≡ None → module_of [] body ≡ Some m → temps_everywhere m < 18446744073709551616 → GuestModule m
-guest_of body u m spelled clean is few =
-    subst (λ o. IfSome o (λ m. Few (temps_everywhere m) → GuestModule m)) is (of_body body (formed_script spelled) (ordered_none (all_faults [] body) (first_none (faults [] body) clean)) (declared_functions body) (resolved t.stmts body) refl refl) few
+pub guest_of : (grants : List (List ℕ)) → ((k : List ℕ) → is_among grants k ≡ true → GuestName k) → (body : Placed t.stmts) (u : List Spot) (m : c.Tree c.program) → Spells t.program grammar.free 0 (p.script body) u → first (faults grants body) ≡ None → module_of grants body ≡ Some m → temps_everywhere m < 18446744073709551616 → GuestModule m
+guest_of grants each body u m spelled clean is few =
+    subst (λ o. IfSome o (λ m. Few (temps_everywhere m) → GuestModule m)) is (of_body grants each body (formed_script spelled) (ordered_none (all_faults grants body) (first_none (faults grants body) clean)) (declared_functions body) (resolved t.stmts body) refl refl) few

@@ -117,6 +117,10 @@ fixed_guest k there = each_guest fixed_names (b refl refl, (b refl refl, (b refl
     b : {x : List ℕ} → is_hidden x ≡ false → same_units x (codes "arguments") ≡ false → GuestName x
     b p q = record { open_name = p; own_name = q }
 
+-- those that are granted, where these are such, and the fixed ones
+pub known_guest : (grants : List (List ℕ)) → ((k : List ℕ) → is_among grants k ≡ true → GuestName k) → (k : List ℕ) → is_among (grants ++ fixed_names) k ≡ true → GuestName k
+known_guest grants each k there = either (is_among grants k) (is_among fixed_names k) (sym (list_any-append (same_units k) grants fixed_names) ∙ there) (each k) (fixed_guest k)
+
 -- each name once is the same names
 
 or_false : (a : Bool) → (a || false) ≡ a

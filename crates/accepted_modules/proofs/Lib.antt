@@ -10,3 +10,4 @@ pub mod Expressions
 pub mod Functions
 pub mod Statements
 pub mod Accepted
+pub mod Granted

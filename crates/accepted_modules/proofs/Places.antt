@@ -6,7 +6,6 @@ use Rattle.caja_units.specs.Units.{same_units}
 use Rattle.es3_heap.proofs.Keys.{same_key-refl}
 use Rattle.es3_tree.specs.Placed.{Word}
 use Rattle.cajita_tree.specs.Tree as c
-use Rattle.cajita_names.specs.Rules.{fixed_names}
 use Rattle.cajita_names.specs.Declarations.{Declaration}
 use Rattle.cajita_names.specs.Scope.{Scope, in_module, in_function, in_catch, in_named, changing, settled, imported, unbound, is_unbound, is_settled, is_imported, declares, declares_function, own, is_arguments, lacks, keeps}
 use Rattle.cajita_names.specs.Scope as scope
@@ -58,14 +57,14 @@ within_outer params names fs args n k e = right_there (args && same_units k argu
 pub within_copy : (params names : List (List ℕ)) (fs : c.Tree c.funcs) (args : Bool) (n : Names) → args ≡ true → within params names fs args n arguments_copy ≡ true
 within_copy params names fs args n e = subst (λ b. within params names fs b n arguments_copy ≡ true) (sym e) refl
 
--- a module's own names
+-- a module's own names, and those that it may import
 
-module _ (ds : List Declaration) (imports names : List (List ℕ)) (fs : c.Tree c.funcs) (usable : (k : List ℕ) → declares ds k ≡ true → (is_declared fs k || is_among names k) ≡ true) where
+module _ (known : List (List ℕ)) (ds : List Declaration) (imports names : List (List ℕ)) (fs : c.Tree c.funcs) (usable : (k : List ℕ) → declares ds k ≡ true → (is_declared fs k || is_among names k) ≡ true) where
   abbrev pub around : Scope
-  around = in_module ds fixed_names
+  around = in_module ds known
 
   abbrev pub outside : Names
-  outside k = not (declares ds k) && is_among fixed_names k
+  outside k = not (declares ds k) && is_among known k
 
   pub module_fixed : (k : List ℕ) → scope.imports around k ≡ true → outside k ≡ true
   module_fixed k e = by_declared (declares ds k) (both_true _ _ e).1
@@ -78,30 +77,30 @@ module _ (ds : List Declaration) (imports names : List (List ℕ)) (fs : c.Tree 
       by_fixed true h = refl
       by_fixed false h = never h
 
-      by_declared : (b : Bool) → is_imported (cond b (own ds k) (cond (is_among fixed_names k) imported unbound)) ≡ true → (not b && is_among fixed_names k) ≡ true
+      by_declared : (b : Bool) → is_imported (cond b (own ds k) (cond (is_among known k) imported unbound)) ≡ true → (not b && is_among known k) ≡ true
       by_declared true h = no_own (declares_function ds k) h
-      by_declared false h = by_fixed (is_among fixed_names k) h
+      by_declared false h = by_fixed (is_among known k) h
 
   -- a name that isn't lacking is declared or imported
   pub module_known : (x : Word) → is_arguments x.text ≡ false → lacks around x.text ≡ false → AllIn (import_at around x) (is_among imports) → within [] names fs false (is_among imports) x.text ≡ true
   module_known x bare lacked all =
-      let cases = elim (declares ds x.text) as (λ b. declares ds x.text ≡ b → is_unbound (cond b (own ds x.text) (cond (is_among fixed_names x.text) imported unbound)) ≡ false → within [] names fs false (is_among imports) x.text ≡ true) [
+      let cases = elim (declares ds x.text) as (λ b. declares ds x.text ≡ b → is_unbound (cond b (own ds x.text) (cond (is_among known x.text) imported unbound)) ≡ false → within [] names fs false (is_among imports) x.text ≡ true) [
         | true ↦ λ is e. within_own [] names fs false (is_among imports) x.text (usable x.text is)
-        | false ↦ λ is e. within_outer [] names fs false (is_among imports) x.text (all x.text (ap (λ b. is_among (cond b (x.text ∷ []) []) x.text) (here is (by_fixed (is_among fixed_names x.text) e)) ∙ left_there (same_units x.text x.text) false (same_key-refl x.text)))
+        | false ↦ λ is e. within_outer [] names fs false (is_among imports) x.text (all x.text (ap (λ b. is_among (cond b (x.text ∷ []) []) x.text) (here is (by_fixed (is_among known x.text) e)) ∙ left_there (same_units x.text x.text) false (same_key-refl x.text)))
       ] in cases refl (bound_lacks around x.text bare lacked)
     where
       by_fixed : (b : Bool) → is_unbound (cond b imported unbound) ≡ false → b ≡ true
       by_fixed true h = refl
       by_fixed false h = absurd cc
 
-      here : declares ds x.text ≡ false → is_among fixed_names x.text ≡ true → scope.imports around x.text ≡ true
+      here : declares ds x.text ≡ false → is_among known x.text ≡ true → scope.imports around x.text ≡ true
       here d f = rw (bare, d, f) refl
 
   pub module_writable : (x : Word) → is_arguments x.text ≡ false → lacks around x.text ≡ false → keeps around x.text ≡ false → within [] names fs false (λ y. false) x.text ≡ true
   module_writable x bare lacked kept =
-      let cases = elim (declares ds x.text) as (λ b. declares ds x.text ≡ b → is_unbound (cond b (own ds x.text) (cond (is_among fixed_names x.text) imported unbound)) ≡ false → is_settled (cond b (own ds x.text) (cond (is_among fixed_names x.text) imported unbound)) ≡ false → within [] names fs false (λ y. false) x.text ≡ true) [
+      let cases = elim (declares ds x.text) as (λ b. declares ds x.text ≡ b → is_unbound (cond b (own ds x.text) (cond (is_among known x.text) imported unbound)) ≡ false → is_settled (cond b (own ds x.text) (cond (is_among known x.text) imported unbound)) ≡ false → within [] names fs false (λ y. false) x.text ≡ true) [
         | true ↦ λ is e h. within_own [] names fs false (λ y. false) x.text (usable x.text is)
-        | false ↦ λ is e h. neither (is_among fixed_names x.text) e h
+        | false ↦ λ is e h. neither (is_among known x.text) e h
       ] in cases refl (bound_lacks around x.text bare lacked) (bound_keeps around x.text bare kept)
     where
       neither : (b : Bool) → is_unbound (cond b imported unbound) ≡ false → is_settled (cond b imported unbound) ≡ false → within [] names fs false (λ y. false) x.text ≡ true

@@ -12,13 +12,14 @@ use Rattle.es3_language.specs.References.{member}
 use Rattle.es3_language.specs.Meaning as Target
 use Rattle.cajita_rewrite.specs.Rewrite.{runtime_name, runtime_call}
 use Rattle.cajita_meaning.specs.World.{Object, World}
-use Rattle.cajita_meaning.specs.Direct.{Item, printed}
+use Rattle.cajita_meaning.specs.Direct.{Item}
 use Rattle.heap_rows.specs.Opening.{first, first_count, place_of, runtime_id}
 use Rattle.page_natives.specs.Natives.{Kept, page_table}
-use Rattle.cajita_simulation.specs.Alike.{shown}
+use Rattle.cajita_simulation.specs.Alike.{heard_by}
 use Rattle.cajita_simulation.proofs.Doing as Source
 use Rattle.cajita_simulation.proofs.Heaps.Opened.{IsOpened}
 use Rattle.cajita_simulation.proofs.Heaps.Guards.{IsGuard, guard_call}
+use Rattle.cajita_simulation.proofs.Heaps.Silent.{IsSilent}
 use Rattle.cajita_simulation.proofs.Relation.{EsValue, ObjectsAre, Tags, names_at, Temps, Here, env_of, In, Rel, rel_pay}
 use Rattle.cajita_simulation.proofs.Slots.{slot_plan}
 use Rattle.cajita_simulation.proofs.Laws.{Cont', M, most_steps, steps_hold, begins_there}
@@ -57,13 +58,18 @@ abbrev pub with_array : List ℕ → Here → Cont' → Cont'
 with_array guard H next' e s = bind (Target.on_value_of (λ v s1. Target.arguments (Target.called (member (es.Obj runtime_id) guard)) (v ∷ []) t.no_exprs (env_of H) s1) e s) next'
 
 -- a guard is called with its arguments, where the steps are still looked at: nothing but the first objects and the steps is wanted
-pub guard_at : (H : Here) {d : ℕ} {guard : List ℕ} {number : ℕ} (is : IsGuard guard number) (vs : List EsValue) (s : Store) {p : Source.Plan} {z : List Item} {n : ℕ} {y : Kept} {m : ℕ} (next' : Cont') → IsOpened s.heap → m ≤ 64 * n → printed z ≡ shown y → (suc m ≤ 4294967295 → M H d p z n (bind (Target.task_plan page_table (Target.native_call number (es.Obj runtime_id) vs (env_of H)) s y) next') (Target.task_state page_table (Target.native_call number (es.Obj runtime_id) vs (env_of H)) s y) (suc m)) → M H d p z n (bind (Target.do_call (Target.called (member (es.Obj runtime_id) guard)) vs (env_of H) s) next') y m
-guard_at H {d = d} {guard = guard} {number = number} is vs s {p = p} {z = z} {n = n} {y = y} {m = m} next' opened fits items f =
+guard_enters : (H : Here) {d : ℕ} {guard : List ℕ} {number : ℕ} (is : IsGuard guard number) (vs : List EsValue) (s : Store) {p : Source.Plan} {z : List Item} {n : ℕ} {y : Kept} {m : ℕ} (next' : Cont') → IsOpened s.heap → m ≤ 64 * n → heard_by y z ≡ y.told → (suc m ≤ 4294967295 → M H d p z n (bind (Target.task_plan page_table (Target.native_call number (es.Obj runtime_id) vs (env_of H)) s y) next') (Target.task_state page_table (Target.native_call number (es.Obj runtime_id) vs (env_of H)) s y) (suc m)) → M H d p z n (bind (Target.do_call (Target.called (member (es.Obj runtime_id) guard)) vs (env_of H) s) next') y m
+guard_enters H {d = d} {guard = guard} {number = number} is vs s {p = p} {z = z} {n = n} {y = y} {m = m} next' opened fits items f =
     let cases = elim (nat_lt most_steps m) as (λ b. nat_lt most_steps m ≡ b → M H d p z n (enter (Target.native_call number (es.Obj runtime_id) vs (env_of H)) s next') y m) [
       | true ↦ λ past. right_past (grind (arith, nat_tests)) fits (begins_there z y items)
       | false ↦ λ few. right_enter (f (grind (arith, nat_tests)))
     ] in
     subst (λ q. M H d p z n (bind q next') y m) (sym (guard_call guard number is vs (env_of H) s opened)) (cases refl)
 
+-- one that touches nothing
+pub guard_at : (H : Here) {d : ℕ} {guard : List ℕ} {number : ℕ} (is : IsGuard guard number) → IsSilent number → (vs : List EsValue) (s : Store) {p : Source.Plan} {z : List Item} {n : ℕ} {y : Kept} {m : ℕ} (next' : Cont') → IsOpened s.heap → m ≤ 64 * n → heard_by y z ≡ y.told → (suc m ≤ 4294967295 → M H d p z n (bind (Target.task_plan page_table (Target.native_call number (es.Obj runtime_id) vs (env_of H)) s y) next') y (suc m)) → M H d p z n (bind (Target.do_call (Target.called (member (es.Obj runtime_id) guard)) vs (env_of H) s) next') y m
+guard_at H {d = d} {number = number} is silent vs s {p = p} {z = z} {n = n} {y = y} {m = m} next' opened fits items f =
+    guard_enters H is vs s next' opened fits items (λ small. subst (λ o. M H d p z n (bind (Target.task_plan page_table (Target.native_call number (es.Obj runtime_id) vs (env_of H)) s y) next') o (suc m)) (sym (silent H.by (es.Obj runtime_id) vs s.heap y)) (f small))
+
 pub guard_match : {H : Here} {T : Temps} {d k : ℕ} {guard : List ℕ} {number : ℕ} (is : IsGuard guard number) (vs : List EsValue) {p : Source.Plan} {w : World} {z : List Item} {n : ℕ} {g : Tags} {s : Store} {y : Kept} {m : ℕ} (next' : Cont') → Rel H T k w z n g s y m → (suc m ≤ 4294967295 → M H d p z n (bind (Target.task_plan page_table (Target.native_call number (es.Obj runtime_id) vs (env_of H)) s y) next') (Target.task_state page_table (Target.native_call number (es.Obj runtime_id) vs (env_of H)) s y) (suc m)) → M H d p z n (bind (Target.do_call (Target.called (member (es.Obj runtime_id) guard)) vs (env_of H) s) next') y m
-guard_match {H = H} is vs {s = s} next' r f = guard_at H is vs s next' (opened_of r.all.objects) (steps_hold r) r.all.items f
+guard_match {H = H} is vs {s = s} next' r f = guard_enters H is vs s next' (opened_of r.all.objects) (steps_hold r) r.all.items f

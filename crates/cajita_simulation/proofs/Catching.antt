@@ -32,6 +32,7 @@ catch_tags by w g = g ++ tag_of_scope by (next_scope by w) ∷ []
 abbrev pub catching : Here → World → Store → List ℕ → Here
 catching H w s x = record {
   rules = H.rules;
+  turn = H.turn;
   around = record { chain = next_scope H.by w ∷ H.around.chain; calls = H.around.calls };
   by = H.by;
   chain = length s.scopes ∷ H.chain;

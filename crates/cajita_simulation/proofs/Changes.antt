@@ -1,5 +1,5 @@
 -- What a change of objects leaves of the relation, and what is told.
-use Rattle.std.proofs.Common.{◌≡◌, ℕ, ◌+◌, ◌*◌, ◌≤◌, List, [], ◌∷◌, ◌++◌, length, Option, Some, refl, sym, ap, ◌∙◌, subst, arith}
+use Rattle.std.proofs.Common.{Bool, ◌≡◌, ℕ, ◌+◌, ◌*◌, ◌≤◌, List, [], ◌++◌, length, Option, Some, refl, sym, ap, ◌∙◌, subst, arith}
 use Rattle.std.specs.Prelude.{slice_get, is_some}
 use Rattle.std.proofs.lemmas.Option.{slice_get_within}
 use Rattle.es3_heap.specs.declared.value.Class.TheVariants as class
@@ -10,21 +10,22 @@ use Rattle.es3_heap.specs.Making.{count_at}
 use Rattle.es3_language.specs.Store.{Store, with_heap}
 use Rattle.cajita_tree.specs.Tree as c
 use Rattle.cajita_meaning.specs.World.{made_name, Pairs, Object, a_closure, World}
-use Rattle.cajita_meaning.specs.Direct.{Item, made, got, touched, passed, granted, said, was_revoked, changed_node, ended, printed}
+use Rattle.cajita_meaning.specs.Direct.{Item}
 use Rattle.heap_rows.specs.Marks.{simple_mark}
-use Rattle.heap_rows.specs.Doing.{Page}
+use Rattle.heap_rows.specs.Doing.{Page, Told, heard}
 use Rattle.heap_rows.specs.Opening.{first, place_of}
-use Rattle.page_natives.specs.Natives.{Kept, page_of}
+use Rattle.page_natives.specs.Natives.{Kept, page_of, tells}
 use Rattle.row_simulation.specs.Correspond as rows
-use Rattle.row_simulation.specs.RowLaw.{PagesAre}
+use Rattle.row_simulation.specs.RowLaw.{shown, PagesAre}
 use Rattle.row_simulation.proofs.Changes.{named_within}
 use Rattle.row_simulation.proofs.Relation as row_relation
-use Rattle.cajita_simulation.specs.Alike.{shown}
+use Rattle.cajita_simulation.specs.Alike.{heard_by}
 use Rattle.cajita_simulation.specs.Related.{KnowsPage}
-use Rattle.cajita_simulation.proofs.Relation.{Named, ObjectsAre, Tags, AreScopes, Temps, Slot, unknown, declared, holds, keys, SlotIs, ScopesAre, Here, CodeIs, ClosuresAre, Related, Rel, Closed, Shaped, Stays, optval_keep, list_keep}
+use Rattle.cajita_simulation.proofs.Relation.{WaitersAre, RelAt, Named, ObjectsAre, Tags, AreScopes, Temps, Slot, unknown, declared, holds, keys, SlotIs, ScopesAre, Here, CodeIs, ClosuresAre, Related, Rel, Closed, Shaped, Stays, optval_keep, list_keep}
 use Rattle.row_simulation.proofs.Quiet.{Quiet, quiet_keeps, objects_quiet}
+use Rattle.cajita_simulation.proofs.Told.{items_told, shown_quiet}
 use Rattle.cajita_simulation.proofs.Shared.{shared_keep}
-use Rattle.cajita_simulation.proofs.Scopes.{captured_stays, in_stays}
+use Rattle.cajita_simulation.proofs.Scopes.{stands_stays, captured_stays}
 
 -- objects changed on both sides, and correspond again when m' steps are taken, with a page that keeps this; no closure of a module came or went, and no scope of the world changed
 pub record Changes (g : Page) (w : World) (s : Store) (w' : World) (h' : Objects) (m' : ℕ) : Type 0 where
@@ -34,6 +35,11 @@ pub record Changes (g : Page) (w : World) (s : Store) (w' : World) (h' : Objects
   pub scopes : w'.scopes ≡ w.scopes
   pub older : (m n : ℕ) (f : c.Tree c.func) (chain : List ℕ) → slice_get (w'.objects m) n ≡ Some (a_closure f chain) → slice_get (w.objects m) n ≡ Some (a_closure f chain)
   pub closed : Closed w w'
+  pub waiters : WaitersAre w → WaitersAre w'
+
+-- the natives still know where these are
+pub knows_still : {y y' : Kept} → y'.runtime ≡ y.runtime → y'.imports ≡ y.imports → KnowsPage y → KnowsPage y'
+knows_still runtime imports k = record { runtime = runtime ∙ k.runtime; imports = ap length imports ∙ k.imports }
 
 -- other objects, and the same scopes
 pub shaped_heap : (g : Tags) (s : Store) (h' : Objects) → Shaped g s g (with_heap s h')
@@ -108,28 +114,29 @@ pub stays_changed : {p : Page} {w w' : World} {h' : Objects} {s : Store} {m m' :
 stays_changed {h' = h'} {s = s} g x le = record { heap = record { objects = x.keeps; more = le }; shaped = shaped_heap g s h'; closed = x.closed }
 
 -- what natives keep may change too, and what is printed
-pub related_settled : {T : Temps} {j k : ℕ} {w w' : World} {h' : Objects} {z z' : List Item} {n : ℕ} {g : Tags} {s : Store} {y y' : Kept} {m m' : ℕ} → Changes (page_of y') w s w' h' m' → KnowsPage y' → printed z' ≡ shown y' → m ≤ m' → m' + k ≤ 64 * n → Related T j w z n g s y m → Related T k w' z' n g (with_heap s h') y' m'
+pub related_settled : {T : Temps} {j k : ℕ} {w w' : World} {h' : Objects} {z z' : List Item} {n : ℕ} {g : Tags} {s : Store} {y y' : Kept} {m m' : ℕ} → Changes (page_of y') w s w' h' m' → KnowsPage y' → heard_by y' z' ≡ y'.told → m ≤ m' → m' + k ≤ 64 * n → Related T j w z n g s y m → Related T k w' z' n g (with_heap s h') y' m'
 related_settled {T = T} {h' = h'} {g = g} {s = s} x knows items le fits r = record {
   steps = fits;
   items = items;
   objects = x.objects;
   pages = x.pages;
   closures = closures_changed x r.scopes.are r.objects r.closures;
+  waiters = x.waiters r.waiters;
   scopes = subst (λ q. ScopesAre T g q (with_heap s h')) (sym x.scopes) (scopes_keep x.keeps r.scopes);
   globals = r.globals;
   kept = knows;
 }
 
-pub rel_settled : {H : Here} {T : Temps} {j k : ℕ} {w w' : World} {h' : Objects} {z z' : List Item} {n : ℕ} {g : Tags} {s : Store} {y y' : Kept} {m m' : ℕ} → Changes (page_of y') w s w' h' m' → KnowsPage y' → printed z' ≡ shown y' → m ≤ m' → m' + k ≤ 64 * n → Rel H T j w z n g s y m → Rel H T k w' z' n g (with_heap s h') y' m'
-rel_settled {h' = h'} {g = g} {s = s} x knows items le fits r = record {
+pub rel_settled : {form : Bool} {H : Here} {T : Temps} {j k : ℕ} {w w' : World} {h' : Objects} {z z' : List Item} {n : ℕ} {g : Tags} {s : Store} {y y' : Kept} {m m' : ℕ} → Changes (page_of y') w s w' h' m' → KnowsPage y' → heard_by y' z' ≡ y'.told → m ≤ m' → m' + k ≤ 64 * n → RelAt form H T j w z n g s y m → RelAt form H T k w' z' n g (with_heap s h') y' m'
+rel_settled {form = form} {H = H} {h' = h'} {g = g} {s = s} x knows items le fits r = record {
   all = related_settled x knows items le fits r.all;
-  here = in_stays (shaped_heap g s h') r.all.scopes.are r.all.scopes.are r.here;
+  here = stands_stays form H (shaped_heap g s h') r.all.scopes.are r.all.scopes.are r.here;
 }
 
 pub related_changed : {T : Temps} {j k : ℕ} {w w' : World} {h' : Objects} {z : List Item} {n : ℕ} {g : Tags} {s : Store} {y : Kept} {m m' : ℕ} → Changes (page_of y) w s w' h' m' → m ≤ m' → m' + k ≤ 64 * n → Related T j w z n g s y m → Related T k w' z n g (with_heap s h') y m'
 related_changed x le fits r = related_settled x r.kept r.items le fits r
 
-pub rel_changed : {H : Here} {T : Temps} {j k : ℕ} {w w' : World} {h' : Objects} {z : List Item} {n : ℕ} {g : Tags} {s : Store} {y : Kept} {m m' : ℕ} → Changes (page_of y) w s w' h' m' → m ≤ m' → m' + k ≤ 64 * n → Rel H T j w z n g s y m → Rel H T k w' z n g (with_heap s h') y m'
+pub rel_changed : {form : Bool} {H : Here} {T : Temps} {j k : ℕ} {w w' : World} {h' : Objects} {z : List Item} {n : ℕ} {g : Tags} {s : Store} {y : Kept} {m m' : ℕ} → Changes (page_of y) w s w' h' m' → m ≤ m' → m' + k ≤ 64 * n → RelAt form H T j w z n g s y m → RelAt form H T k w' z n g (with_heap s h') y m'
 rel_changed x le fits r = rel_settled x r.all.kept r.all.items le fits r
 
 -- objects without names change
@@ -143,30 +150,26 @@ quiet_changes {w = w} q r =
       scopes = refl;
       older = λ m n f chain e. e;
       closed = Rattle.cajita_simulation.proofs.Relation.closed_refl;
+      waiters = λ f. f;
     }
 
-pub rel_quiet : {H : Here} {T : Temps} {k : ℕ} {w : World} {z : List Item} {n : ℕ} {g : Tags} {s : Store} {y : Kept} {m : ℕ} {h' : Objects} → Quiet first s.heap h' → Rel H T k w z n g s y m → Rel H T k w z n g (with_heap s h') y m
+pub rel_quiet : {form : Bool} {H : Here} {T : Temps} {k : ℕ} {w : World} {z : List Item} {n : ℕ} {g : Tags} {s : Store} {y : Kept} {m : ℕ} {h' : Objects} → Quiet first s.heap h' → RelAt form H T k w z n g s y m → RelAt form H T k w z n g (with_heap s h') y m
 rel_quiet q r = rel_changed (quiet_changes q r.all) (omega arith) r.all.steps r
 
 pub stays_quiet : {w : World} {s : Store} {m : ℕ} {h' : Objects} (g : Tags) → Quiet first s.heap h' → Stays w g s m w g (with_heap s h') m
 stays_quiet {s = s} {h' = h'} g q = record { heap = record { objects = quiet_keeps q; more = omega arith }; shaped = shaped_heap g s h'; closed = Rattle.cajita_simulation.proofs.Relation.closed_refl }
 
--- what is told that the log doesn't print
+-- what is told that no page tells
 
-pub printed_quiet : (z more : List Item) → printed more ≡ [] → printed (z ++ more) ≡ printed z
-printed_quiet [] more quiet = quiet
-printed_quiet (made m n ∷ z) more quiet = printed_quiet z more quiet
-printed_quiet (got m n u ∷ z) more quiet = printed_quiet z more quiet
-printed_quiet (touched m t n k ∷ z) more quiet = printed_quiet z more quiet
-printed_quiet (passed m n u ∷ z) more quiet = printed_quiet z more quiet
-printed_quiet (granted m n ∷ z) more quiet = printed_quiet z more quiet
-printed_quiet (said m us ∷ z) more quiet = ap (λ l. said m us ∷ l) (printed_quiet z more quiet)
-printed_quiet (was_revoked m p ∷ z) more quiet = ap (λ l. was_revoked m p ∷ l) (printed_quiet z more quiet)
-printed_quiet (changed_node r k c ∷ z) more quiet = ap (λ l. changed_node r k c ∷ l) (printed_quiet z more quiet)
-printed_quiet (ended m e o ∷ z) more quiet = ap (λ l. ended m e o ∷ l) (printed_quiet z more quiet)
+pub related_told : {T : Temps} {k : ℕ} {w : World} {z z' : List Item} {n : ℕ} {g : Tags} {s : Store} {y : Kept} {m : ℕ} → shown z' ≡ shown z → Related T k w z n g s y m → Related T k w z' n g s y m
+related_told {y = y} same r = record { steps = r.steps; items = ap (heard y.touching) same ∙ r.items; objects = r.objects; pages = r.pages; closures = r.closures; waiters = r.waiters; scopes = r.scopes; globals = r.globals; kept = r.kept }
 
-pub related_told : {T : Temps} {k : ℕ} {w : World} {z z' : List Item} {n : ℕ} {g : Tags} {s : Store} {y : Kept} {m : ℕ} → printed z' ≡ printed z → Related T k w z n g s y m → Related T k w z' n g s y m
-related_told same r = record { steps = r.steps; items = same ∙ r.items; objects = r.objects; pages = r.pages; closures = r.closures; scopes = r.scopes; globals = r.globals; kept = r.kept }
+pub rel_told : {form : Bool} {H : Here} {T : Temps} {k : ℕ} {w : World} {z : List Item} {n : ℕ} {g : Tags} {s : Store} {y : Kept} {m : ℕ} (more : List Item) → shown more ≡ [] → RelAt form H T k w z n g s y m → RelAt form H T k w (z ++ more) n g s y m
+rel_told {z = z} more quiet r = record { all = related_told (shown_quiet z more quiet) r.all; here = r.here }
 
-pub rel_told : {H : Here} {T : Temps} {k : ℕ} {w : World} {z : List Item} {n : ℕ} {g : Tags} {s : Store} {y : Kept} {m : ℕ} (more : List Item) → printed more ≡ [] → Rel H T k w z n g s y m → Rel H T k w (z ++ more) n g s y m
-rel_told {z = z} more quiet r = record { all = related_told (printed_quiet z more quiet) r.all; here = r.here }
+-- what both sides tell
+pub rel_tells : {form : Bool} {H : Here} {T : Temps} {k : ℕ} {w : World} {z : List Item} {n : ℕ} {g : Tags} {s : Store} {y : Kept} {m : ℕ} (is : List Item) (items : List Told) → shown is ≡ items → RelAt form H T k w z n g s y m → RelAt form H T k w (z ++ is) n g s (tells items y) m
+rel_tells {z = z} {y = y} is items same r = record {
+  all = record { steps = r.all.steps; items = items_told y z is items same r.all.items; objects = r.all.objects; pages = r.all.pages; closures = r.all.closures; waiters = r.all.waiters; scopes = r.all.scopes; globals = r.all.globals; kept = knows_still refl refl r.all.kept };
+  here = r.here;
+}

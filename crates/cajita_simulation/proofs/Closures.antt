@@ -35,7 +35,7 @@ use Rattle.cajita_simulation.proofs.Heaps.Lists.{slice_get-push, slice_get-push-
 use Rattle.cajita_simulation.proofs.Heaps.Made.{tagged, next_name as next_tag, with_named}
 use Rattle.cajita_simulation.proofs.Heaps.Grown.{grown_last, grown_kept}
 use Rattle.cajita_simulation.proofs.Heaps.Functions.{function_object, prototype_object, function_new, marked_object, marked_new, named_before}
-use Rattle.cajita_simulation.proofs.Relation.{Named, ObjectsAre, Tags, Temps, AreScopes, Here, Captured, In, CodeIs, ClosuresAre, Related, Shaped, shaped_trans, Stays}
+use Rattle.cajita_simulation.proofs.Relation.{closures_wait, Named, ObjectsAre, Tags, Temps, AreScopes, Here, Captured, In, CodeIs, ClosuresAre, Related, Shaped, shaped_trans, Stays}
 use Rattle.cajita_simulation.proofs.Scopes.{captured_stays, in_stays}
 use Rattle.cajita_simulation.proofs.Written.{same_place}
 use Rattle.cajita_simulation.proofs.Changes.{shaped_heap, closures_kept, scopes_keep}
@@ -181,6 +181,7 @@ module _ (g : Tags) (s : Store) (by : ℕ) (f : c.Tree c.func) (direct chain : L
         objects = closure_objects below few r.objects;
         pages = record { cells = λ a. row_relation.val_keep keeps (w.cells a) _ (r.pages.cells a); queues = λ a. row_relation.vals_keep keeps (w.queues a) _ (r.pages.queues a) };
         closures = closures_with below few r.scopes.are r.objects captured guest r1.closures;
+        waiters = λ j. closures_wait w.objects (World.with_object by (a_closure f direct) w).objects (λ a n q chain' e. last_kept by a n (a_closure f direct) (a_closure q chain') w.objects e) (w.queues j) (r.waiters j);
         scopes = scopes_keep keeps r1.scopes;
         globals = r.globals;
         kept = r.kept;

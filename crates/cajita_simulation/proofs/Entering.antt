@@ -184,6 +184,7 @@ related_scope {w = w} {g = g} {s = s} {owner = owner} {names = names} m new r = 
   objects = r.objects;
   pages = record { cells = r.pages.cells; queues = r.pages.queues };
   closures = closures_shaped w.objects {g = g} {s = s} refl (shaped_scope g (tag_of_scope m (next_scope m w)) owner names s) r.scopes.are (scopes_are owner names s new.own r.scopes.are) r.closures;
+  waiters = r.waiters;
   scopes = scopes_more m new r.scopes;
   globals = r.globals;
   kept = r.kept;
@@ -235,6 +236,7 @@ function_changes {w = w} {s = s} {y = y} {m = m} code params maker r =
       scopes = refl;
       older = λ m n f chain e. e;
       closed = closed_refl;
+      waiters = λ f. f;
     })
 
 pub shaped_code : (g : Tags) (code : Code) (s : Store) → Shaped g s g (record s { codes = s.codes ++ code ∷ [] })
@@ -258,6 +260,7 @@ related_code {w = w} {g = g} {s = s} code r = record {
   objects = r.objects;
   pages = r.pages;
   closures = closures_shaped w.objects {g = g} {s = s} refl (shaped_code g code s) r.scopes.are (λ c. r.scopes.are c) r.closures;
+  waiters = r.waiters;
   scopes = scopes_coded (s.codes ++ code ∷ []) r.scopes;
   globals = r.globals;
   kept = r.kept;

@@ -5,6 +5,7 @@ pub mod Names
 pub mod Opened
 pub mod Functions
 pub mod Guards
+pub mod Silent
 pub mod Arrays
 pub mod Pairs
 pub mod Records

@@ -1,7 +1,7 @@
 -- How forms are matched: what goes on after a part, and the law of a part.
 use Rattle.std.proofs.Common.{◌≡◌, ℕ, zero, suc, ◌+◌, ◌*◌, ◌≤◌, ◌<◌, Bool, true, false, List, [], ◌∷◌, ◌++◌, Option, Some, None, cond, refl, sym, ap, ◌∙◌, subst, arith}
 use Rattle.std.specs.Prelude.{nat_eq, ◌||◌}
-use Rattle.std.proofs.lemmas.List.{append-nil}
+use Rattle.std.proofs.lemmas.List.{append-nil, append_assoc}
 use Rattle.plans.specs.Plans.{enter, bind}
 use Rattle.plans.proofs.Laws.{bind_assoc}
 use Rattle.matching.specs.Unlimited.{Grows}
@@ -17,64 +17,67 @@ use Rattle.cajita_tree.specs.Tree as c
 use Rattle.rows.specs.Nodes.{Rules}
 use Rattle.cajita_rewrite.specs.Rewrite.{result_name, temp_name}
 use Rattle.cajita_meaning.specs.World.{Value, World}
-use Rattle.cajita_meaning.specs.Direct.{Item, printed, direct}
+use Rattle.cajita_meaning.specs.Direct.{Item, direct}
+use Rattle.heap_rows.specs.Doing.{heard}
+use Rattle.row_simulation.specs.RowLaw.{shown}
+use Rattle.page_log.specs.Items.{touch_told}
 use Rattle.page_natives.specs.Natives.{Kept, page_table}
 pub use Rattle.cajita_simulation.specs.Alike.{most_steps}
-use Rattle.cajita_simulation.specs.Alike.{IsPrefix, printed_told, shown}
+use Rattle.cajita_simulation.specs.Alike.{heard_by, IsPrefix}
 pub use Rattle.cajita_simulation.specs.Jumps.{Jumps, no_jumps, all_jumps, in_loop, in_switch, in_label, Targets}
 use Rattle.cajita_simulation.specs.Sides.{Ends, Stops, Outs, Begins, Affords}
 use Rattle.cajita_simulation.proofs.Doing as Source
-use Rattle.cajita_simulation.proofs.Told.{told_more, told_grows, printed_append, items_append}
-use Rattle.cajita_simulation.proofs.Relation.{EsValue, Val, Here, env_of, Tags, Temps, Slot, declared, holds, Rel, Stays, stays_refl, stays_trans, stays_step, stays_before, more, rel_less, rel_both}
+use Rattle.cajita_simulation.proofs.Told.{TellsMore, as_before, tells_after, tells_more, told_grows, heard_more}
+use Rattle.cajita_simulation.proofs.Relation.{RelAt, EsValue, Val, Turn, Here, env_of, Tags, Temps, Slot, declared, holds, Rel, Stays, stays_refl, stays_trans, stays_step, stays_before, more, rel_less, rel_both}
 
-pub prefix_refl : (xs : List Item) → IsPrefix xs xs
+pub prefix_refl : {A : Type 0} (xs : List A) → IsPrefix xs xs
 prefix_refl xs = record { rest = []; is = sym (append-nil xs) }
 
-pub prefix_trans : (xs ys zs : List Item) → IsPrefix xs ys → IsPrefix ys zs → IsPrefix xs zs
-prefix_trans xs ys zs p q = record { rest = p.rest ++ q.rest; is = q.is ∙ ap (λ l. l ++ q.rest) p.is ∙ simp Rattle.std.proofs.Common.append_assoc }
+pub prefix_trans : {A : Type 0} (xs ys zs : List A) → IsPrefix xs ys → IsPrefix ys zs → IsPrefix xs zs
+prefix_trans xs ys zs p q = record { rest = p.rest ++ q.rest; is = q.is ∙ ap (λ l. l ++ q.rest) p.is ∙ append_assoc xs p.rest q.rest }
 
 abbrev pub direct_grows : (rules : Rules) → Grows (direct rules) IsPrefix
 direct_grows rules = record { same = prefix_refl; more = prefix_trans; note = λ i z. record { rest = i ∷ []; is = refl }; kept = λ t w z. prefix_refl z }
 
--- what natives print only grows
-abbrev pub PrintsMore : Kept → Kept → Type 0
-PrintsMore a b = IsPrefix (shown a) (shown b)
+-- what natives tell only grows
+pub target_kept : (t : Target.Task) (s : Store) (y : Kept) → TellsMore y (Target.task_state page_table t s y)
+target_kept (Target.native_call w this vs env) s y = told_grows w env.by this vs s.heap y
+target_kept t s y = as_before y
 
-pub target_kept : (t : Target.Task) (s : Store) (y : Kept) → PrintsMore y (Target.task_state page_table t s y)
-target_kept (Target.native_call w this vs env) s y = record { rest = printed_told (told_more w vs s.heap); is = ap printed_told (told_grows w env.by this vs s.heap y) ∙ printed_append y.told _ }
-target_kept t s y = prefix_refl (shown y)
+abbrev pub target_grows : Grows (es3 page_table) TellsMore
+target_grows = record { same = as_before; more = tells_after; note = λ i y. tells_more (touch_told i ∷ []) y; kept = target_kept }
 
-abbrev pub target_grows : Grows (es3 page_table) PrintsMore
-target_grows = record { same = λ y. prefix_refl (shown y); more = λ a b c p q. prefix_trans (shown a) (shown b) (shown c) p q; note = λ i y. prefix_refl (shown y); kept = target_kept }
+-- the same is told on both sides, so one is the beginning of the other
+pub begins_there : (z : List Item) (y : Kept) → heard_by y z ≡ y.told → Begins y z
+begins_there z y e = record { rest = []; is = e ∙ sym (append-nil y.told) }
 
--- the same is printed on both sides, so one is the beginning of the other
-pub begins_there : (z : List Item) (y : Kept) → printed z ≡ shown y → Begins y z
-begins_there z y e = record { rest = []; is = e ∙ sym (append-nil (shown y)) }
+pub ends_there : (t : Turn) (e : Source.Completion) (x : World) (z : List Item) (n : ℕ) (e' : Target.Completion) (x' : Store) (y : Kept) (n' : ℕ) → Ends t e x z n e' x' y n' → Begins y z
+ends_there t (Source.gave v) x z n e' x' y n' p = begins_there z y p.1.1.items
+ends_there t (Source.threw v) x z n (Target.threw u) x' y n' p = begins_there z y p.1.1.items
+ends_there t _ x z n _ x' y n' p = absurd p
 
-pub ends_there : (e : Source.Completion) (x : World) (z : List Item) (n : ℕ) (e' : Target.Completion) (x' : Store) (y : Kept) (n' : ℕ) → Ends e x z n e' x' y n' → Begins y z
-ends_there (Source.gave v) x z n (Target.normal (Some u)) x' y n' p = begins_there z y p.1.1.items
-ends_there (Source.threw v) x z n (Target.threw u) x' y n' p = begins_there z y p.1.1.items
-ends_there _ x z n _ x' y n' p = absurd p
+pub begins_still : (a' b' : Kept) (a b : List Item) → TellsMore a' b' → Begins b' a → IsPrefix a b → Begins a' b
+begins_still a' b' a b p q r =
+    let grown : heard_by b' b ≡ heard_by b' a ++ heard_by b' r.rest = ap (heard_by b') r.is ∙ heard_more b' a r.rest in
+    let begun : IsPrefix a'.told (heard_by b' b) = prefix_trans a'.told b'.told _ (record { rest = p.more; is = p.told }) (prefix_trans b'.told (heard_by b' a) _ q (record { rest = heard_by b' r.rest; is = grown })) in
+    subst (λ t. IsPrefix a'.told (heard t (shown b))) p.touching begun
 
-pub begins_still : (a' b' : Kept) (a b : List Item) → PrintsMore a' b' → Begins b' a → IsPrefix a b → Begins a' b
-begins_still a' b' a b p q r = prefix_trans (shown a') (printed a) (printed b) (prefix_trans (shown a') (shown b') (printed a) p q) (record { rest = printed r.rest; is = ap printed r.is ∙ items_append a r.rest })
-
-abbrev pub sides : Rules → Sides Source.Task Source.Completion World Item (List Item) Target.Task Target.Completion Store Touched Kept
-sides rules = record {
+abbrev pub sides : Rules → Turn → Sides Source.Task Source.Completion World Item (List Item) Target.Task Target.Completion Store Touched Kept
+sides rules turn = record {
   left = direct rules;
   right = es3 page_table;
   Longer = IsPrefix;
   grows = direct_grows rules;
-  Longer' = PrintsMore;
+  Longer' = TellsMore;
   grows' = target_grows;
   Affords = Affords;
   affords_more = λ n k m le few. omega (arith, le, few);
   most = most_steps;
-  Ends = Ends;
+  Ends = Ends turn;
   Stops = Stops;
   Outs = Outs;
   Begins = Begins;
-  ends_begin = ends_there;
+  ends_begin = ends_there turn;
   stops_begin = λ f x z f' x' z' p. begins_there z z' p.2;
   outs_begin = λ z z' p. begins_there z z' p;
   begins_more = begins_still;
@@ -82,7 +85,7 @@ sides rules = record {
 
 -- the two plans, with what is kept and counted
 abbrev pub M : Here → ℕ → Source.Plan → List Item → ℕ → Target.Plan → Kept → ℕ → Type 0
-M H d p z n q y m = Match (sides H.rules) d p z n q y m
+M H d p z n q y m = Match (sides H.rules H.turn) d p z n q y m
 
 abbrev pub Cont : Type 0
 Cont = Source.Completion → World → Source.Plan
@@ -99,12 +102,18 @@ pub room_part : {H : Here} {T : Temps} {b q c u : ℕ} → b ≤ c → c + u ≤
 room_part le less room = record { declared = λ i from to. room.declared i (omega (arith, le, from)) (omega (arith, less, to)); few = omega (arith, room.few, less) }
 
 -- both go on alike after a throw, with k steps in hand
-pub record Throws (H : Here) (T : Temps) (d k : ℕ) (w0 : World) (g0 : Tags) (s0 : Store) (i : ℕ) (next : Cont) (next' : Cont') : Type 0 where
-  pub on : (c : ℕ) → c ≤ d → (v : Value) (e : EsValue) (w : World) (z : List Item) (n : ℕ) (g : Tags) (s : Store) (y : Kept) (m : ℕ) → Val s.heap v e → Rel H T k w z n g s y m → Stays w0 g0 s0 i w g s m → M H c (next (Source.threw v) w) z n (next' (Target.threw e) s) y m
+pub record ThrowsAt (form : Bool) (H : Here) (T : Temps) (d k : ℕ) (w0 : World) (g0 : Tags) (s0 : Store) (i : ℕ) (next : Cont) (next' : Cont') : Type 0 where
+  pub on : (c : ℕ) → c ≤ d → (v : Value) (e : EsValue) (w : World) (z : List Item) (n : ℕ) (g : Tags) (s : Store) (y : Kept) (m : ℕ) → Val s.heap v e → RelAt form H T k w z n g s y m → Stays w0 g0 s0 i w g s m → M H c (next (Source.threw v) w) z n (next' (Target.threw e) s) y m
+
+abbrev pub Throws : Here → Temps → ℕ → ℕ → World → Tags → Store → ℕ → Cont → Cont' → Type 0
+Throws H T d k w g s i next next' = ThrowsAt true H T d k w g s i next next'
 
 -- the same after a value
-pub record Gives (H : Here) (T : Temps) (d k : ℕ) (w0 : World) (g0 : Tags) (s0 : Store) (i : ℕ) (next : Cont) (next' : Cont') : Type 0 where
-  pub on : (c : ℕ) → c ≤ d → (v : Value) (e : EsValue) (w : World) (z : List Item) (n : ℕ) (g : Tags) (s : Store) (y : Kept) (m : ℕ) → Val s.heap v e → Rel H T k w z n g s y m → Stays w0 g0 s0 i w g s m → M H c (next (Source.gave v) w) z n (next' (Target.gave e) s) y m
+pub record GivesAt (form : Bool) (H : Here) (T : Temps) (d k : ℕ) (w0 : World) (g0 : Tags) (s0 : Store) (i : ℕ) (next : Cont) (next' : Cont') : Type 0 where
+  pub on : (c : ℕ) → c ≤ d → (v : Value) (e : EsValue) (w : World) (z : List Item) (n : ℕ) (g : Tags) (s : Store) (y : Kept) (m : ℕ) → Val s.heap v e → RelAt form H T k w z n g s y m → Stays w0 g0 s0 i w g s m → M H c (next (Source.gave v) w) z n (next' (Target.gave e) s) y m
+
+abbrev pub Gives : Here → Temps → ℕ → ℕ → World → Tags → Store → ℕ → Cont → Cont' → Type 0
+Gives H T d k w g s i next next' = GivesAt true H T d k w g s i next next'
 
 -- this is known of a hidden name of a scope; that it holds a value
 abbrev pub puts : ℕ → List ℕ → Slot → Temps → Temps
@@ -155,29 +164,32 @@ pub record Finishes (u : Standing) (J : Jumps) (H : Here) (T : Temps) (d k : ℕ
   pub continues : (c : ℕ) → c ≤ d → (l : Option (List ℕ)) → J.continues l ≡ true → (b : Option EsValue) (w : World) (z : List Item) (n : ℕ) (g : Tags) (s : Store) (y : Kept) (m : ℕ) → Rel H T k w z n g s y m → Stays w0 g0 s0 i w g s m → M H c (next (Source.continued l) w) z n (next' (Target.continued l b) s) y m
 
 -- what goes on after an expression, and after a statement
-pub record NextValue (H : Here) (T : Temps) (d k : ℕ) (w0 : World) (g0 : Tags) (s0 : Store) (i : ℕ) (next : Cont) (next' : Cont') : Type 0 where
-  pub gives : Gives H T d k w0 g0 s0 i next next'
-  pub throws : Throws H T d k w0 g0 s0 i next next'
+pub record NextAt (form : Bool) (H : Here) (T : Temps) (d k : ℕ) (w0 : World) (g0 : Tags) (s0 : Store) (i : ℕ) (next : Cont) (next' : Cont') : Type 0 where
+  pub gives : GivesAt form H T d k w0 g0 s0 i next next'
+  pub throws : ThrowsAt form H T d k w0 g0 s0 i next next'
+
+abbrev pub NextValue : Here → Temps → ℕ → ℕ → World → Tags → Store → ℕ → Cont → Cont' → Type 0
+NextValue H T d k w g s i next next' = NextAt true H T d k w g s i next next'
 
 pub record NextEffect (u : Standing) (J : Jumps) (H : Here) (T : Temps) (d k : ℕ) (w0 : World) (g0 : Tags) (s0 : Store) (i : ℕ) (next : Cont) (next' : Cont') : Type 0 where
   pub finishes : Finishes u J H T d k w0 g0 s0 i next next'
   pub returns : J.returns ≡ true → Returns H T d k w0 g0 s0 i next next'
   pub throws : Throws H T d k w0 g0 s0 i next next'
 
-pub throws_from : {H : Here} {T : Temps} {d c j k : ℕ} {w w' : World} {g g' : Tags} {s s' : Store} {i l : ℕ} {next : Cont} {next' : Cont'} → c ≤ d → j ≤ k → Stays w g s i w' g' s' l → Throws H T d j w g s i next next' → Throws H T c k w' g' s' l next next'
+pub throws_from : {form : Bool} {H : Here} {T : Temps} {d c j k : ℕ} {w w' : World} {g g' : Tags} {s s' : Store} {i l : ℕ} {next : Cont} {next' : Cont'} → c ≤ d → j ≤ k → Stays w g s i w' g' s' l → ThrowsAt form H T d j w g s i next next' → ThrowsAt form H T c k w' g' s' l next next'
 throws_from le less keep x = record { on = λ c' le' v e w z n g s y m is r k. x.on c' (omega arith) v e w z n g s y m is (rel_less less r) (stays_trans keep k) }
 
 pub returns_from : {H : Here} {T : Temps} {d c j k : ℕ} {w w' : World} {g g' : Tags} {s s' : Store} {i l : ℕ} {next : Cont} {next' : Cont'} → c ≤ d → j ≤ k → Stays w g s i w' g' s' l → Returns H T d j w g s i next next' → Returns H T c k w' g' s' l next next'
 returns_from le less keep x = record { on = λ c' le' v e w z n g s y m is r k. x.on c' (omega arith) v e w z n g s y m is (rel_less less r) (stays_trans keep k) }
 
-pub gives_from : {H : Here} {T : Temps} {d c j k : ℕ} {w w' : World} {g g' : Tags} {s s' : Store} {i l : ℕ} {next : Cont} {next' : Cont'} → c ≤ d → j ≤ k → Stays w g s i w' g' s' l → Gives H T d j w g s i next next' → Gives H T c k w' g' s' l next next'
+pub gives_from : {form : Bool} {H : Here} {T : Temps} {d c j k : ℕ} {w w' : World} {g g' : Tags} {s s' : Store} {i l : ℕ} {next : Cont} {next' : Cont'} → c ≤ d → j ≤ k → Stays w g s i w' g' s' l → GivesAt form H T d j w g s i next next' → GivesAt form H T c k w' g' s' l next next'
 gives_from le less keep x = record { on = λ c' le' v e w z n g s y m is r k. x.on c' (omega arith) v e w z n g s y m is (rel_less less r) (stays_trans keep k) }
 
-pub value_from : {H : Here} {T : Temps} {d c j k : ℕ} {w w' : World} {g g' : Tags} {s s' : Store} {i l : ℕ} {next : Cont} {next' : Cont'} → c ≤ d → j ≤ k → Stays w g s i w' g' s' l → NextValue H T d j w g s i next next' → NextValue H T c k w' g' s' l next next'
+pub value_from : {form : Bool} {H : Here} {T : Temps} {d c j k : ℕ} {w w' : World} {g g' : Tags} {s s' : Store} {i l : ℕ} {next : Cont} {next' : Cont'} → c ≤ d → j ≤ k → Stays w g s i w' g' s' l → NextAt form H T d j w g s i next next' → NextAt form H T c k w' g' s' l next next'
 value_from le less keep x = record { gives = gives_from le less keep x.gives; throws = throws_from le less keep x.throws }
 
 -- the same later, with as many steps in hand
-pub value_since : {H : Here} {T : Temps} {d c k : ℕ} {w w' : World} {g g' : Tags} {s s' : Store} {i l : ℕ} {next : Cont} {next' : Cont'} → c ≤ d → Stays w g s (suc i) w' g' s' l → NextValue H T d k w g s i next next' → NextValue H T c k w' g' s' l next next'
+pub value_since : {form : Bool} {H : Here} {T : Temps} {d c k : ℕ} {w w' : World} {g g' : Tags} {s s' : Store} {i l : ℕ} {next : Cont} {next' : Cont'} → c ≤ d → Stays w g s (suc i) w' g' s' l → NextAt form H T d k w g s i next next' → NextAt form H T c k w' g' s' l next next'
 value_since {k = k} le keep x = value_from {j = k} {k = k} le (omega arith) (stays_before keep) x
 
 pub finishes_from : {u : Standing} {J : Jumps} {H : Here} {T : Temps} {d c j k : ℕ} {w w' : World} {g g' : Tags} {s s' : Store} {i l : ℕ} {next : Cont} {next' : Cont'} → c ≤ d → j ≤ k → Stays w g s i w' g' s' l → Finishes u J H T d j w g s i next next' → Finishes u J H T c k w' g' s' l next next'
@@ -232,6 +244,10 @@ pub record ValueBody (H : Here) (d b q : ℕ) (e : c.Tree c.expr) (e' : t.Tree t
 pub record EffectBody (H : Here) (d b q : ℕ) (x : c.Tree c.stmt) (x' : t.Tree t.stmt) : Type 0 where
   pub on : {J : Jumps} {T : Temps} {a k : ℕ} {w : World} {z : List Item} {n : ℕ} {g : Tags} {s : Store} {y : Kept} {m : ℕ} {next : Cont} {next' : Cont'} (ls : List (List ℕ)) → Targets J ls c.stmt x → a < d → Room H T b q → Rel H T (more k) w z n g s y m → NextEffect nested J H T a (suc k) w g s m next next' → M H a (bind (Source.stmt_plan x ls H w) next) z n (bind (Target.stmt_plan x' ls (env_of H) s) next') y m
 
+-- the same of a statement that both have entered, where fewer than d tasks were left before
+pub record EffectEntered (H : Here) (d b q : ℕ) (x : c.Tree c.stmt) (x' : t.Tree t.stmt) : Type 0 where
+  pub on : {J : Jumps} {T : Temps} {a k : ℕ} {w : World} {z : List Item} {n : ℕ} {g : Tags} {s : Store} {y : Kept} {m : ℕ} {next : Cont} {next' : Cont'} (ls : List (List ℕ)) → Targets J ls c.stmt x → suc a < d → Room H T b q → Rel H T (more k) w z n g s y m → NextEffect nested J H T a (suc k) w g s m next next' → M H a (bind (Source.stmt_plan x ls H w) next) z n (bind (Target.stmt_plan x' ls (env_of H) s) next') y m
+
 pub record OwnBody (H : Here) (d b q : ℕ) (x : c.Tree c.stmt) (x' : t.Tree t.stmt) : Type 0 where
   pub on : {J : Jumps} {T : Temps} {a k : ℕ} {w : World} {z : List Item} {n : ℕ} {g : Tags} {s : Store} {y : Kept} {m : ℕ} {next : Cont} {next' : Cont'} → Targets J [] c.stmt x → a < d → HasResult H T → Room H T b q → Rel H T (more k) w z n g s y m → NextEffect own J H T a (suc k) w g s m next next' → M H a (bind (Source.stmt_plan x [] H w) next) z n (bind (Target.stmt_plan x' [] (env_of H) s) next') y m
 
@@ -245,7 +261,7 @@ bare_effect go = record { on = λ ls to lt room r y. go.on ls to lt room r (nest
 pub bare_own : {H : Here} {d b q : ℕ} {x : c.Tree c.stmt} {x' : t.Tree t.stmt} → BareBody H d b q x x' → OwnBody H d b q x x'
 bare_own go = record { on = λ to lt has room r y. go.on [] to lt room r (own_bare y) }
 
-pub steps_hold : {H : Here} {T : Temps} {k : ℕ} {w : World} {z : List Item} {n : ℕ} {g : Tags} {s : Store} {y : Kept} {m : ℕ} → Rel H T k w z n g s y m → m ≤ 64 * n
+pub steps_hold : {form : Bool} {H : Here} {T : Temps} {k : ℕ} {w : World} {z : List Item} {n : ℕ} {g : Tags} {s : Store} {y : Kept} {m : ℕ} → RelAt form H T k w z n g s y m → m ≤ 64 * n
 steps_hold r = omega (arith, r.all.steps)
 
 value_at : {H : Here} {d b q : ℕ} {e : c.Tree c.expr} {e' : t.Tree t.expr} (go : ValueBody H d b q e e') {T : Temps} (a k : ℕ) {w : World} {z : List Item} {n : ℕ} {g : Tags} {s : Store} {y : Kept} {m : ℕ} {next : Cont} {next' : Cont'} → a < suc d → Room H T b q → Rel H T k w z n g s y m → NextValue H T a (suc k) w g s (suc m) next next' → M H a (enter (Source.value_of e H) w next) z n (enter (Target.value_of e' (env_of H)) s next') y m
@@ -262,6 +278,9 @@ effect_at go (suc a) k ls to lt room r x = both_enter (go.on ls to (omega arith)
 pub effect_law : {H : Here} {d b q : ℕ} {u : c.Tree c.stmt} {u' : t.Tree t.stmt} → EffectBody H d b q u u' → EffectLaw H (suc d) b q u u'
 effect_law go = record { on = λ ls to lt room r x. effect_at go _ _ ls to lt room r x }
 
+pub effect_entered : {H : Here} {d b q : ℕ} {u : c.Tree c.stmt} {u' : t.Tree t.stmt} → EffectBody H d b q u u' → EffectEntered H (suc d) b q u u'
+effect_entered go = record { on = λ ls to lt room r x. go.on ls to (omega arith) room r x }
+
 own_at : {H : Here} {d b q : ℕ} {u : c.Tree c.stmt} {u' : t.Tree t.stmt} (go : OwnBody H d b q u u') {J : Jumps} {T : Temps} (a k : ℕ) {w : World} {z : List Item} {n : ℕ} {g : Tags} {s : Store} {y : Kept} {m : ℕ} {next : Cont} {next' : Cont'} → Targets J [] c.stmt u → a < suc d → HasResult H T → Room H T b q → Rel H T k w z n g s y m → NextEffect own J H T a (suc k) w g s (suc m) next next' → M H a (enter (Source.effect_of u [] H) w next) z n (enter (Target.effect_of u' [] (env_of H)) s next') y m
 own_at go zero k to lt has room r x = both_cut (steps_hold r) r.all.items
 own_at go (suc a) k to lt has room r x = both_enter (go.on to (omega arith) has room (rel_both r) (effect_from (omega arith) (omega arith) stays_refl x))
@@ -274,6 +293,9 @@ value_zero = record { on = λ lt room r x. absurd (omega arith) }
 
 pub effect_zero : {H : Here} {b q : ℕ} {u : c.Tree c.stmt} {u' : t.Tree t.stmt} → EffectLaw H 0 b q u u'
 effect_zero = record { on = λ ls to lt room r x. absurd (omega arith) }
+
+pub entered_zero : {H : Here} {b q : ℕ} {u : c.Tree c.stmt} {u' : t.Tree t.stmt} → EffectEntered H 0 b q u u'
+entered_zero = record { on = λ ls to lt room r x. absurd (omega arith) }
 
 pub own_zero : {H : Here} {b q : ℕ} {u : c.Tree c.stmt} {u' : t.Tree t.stmt} → OwnLaw H 0 b q u u'
 own_zero = record { on = λ to lt has room r x. absurd (omega arith) }

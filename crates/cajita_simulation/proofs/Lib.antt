@@ -25,4 +25,7 @@ pub mod Load
 pub mod Calling
 pub mod Declaring
 pub mod Simulation
+pub mod Sentences
 pub mod Theorem
+pub mod Turns
+pub mod Waiting

@@ -39,7 +39,7 @@ use Rattle.row_simulation.proofs.Operators.Unary.{unary_comes}
 use Rattle.row_simulation.proofs.Operators.Steps.{next_comes, before_law, behind_law}
 use Rattle.row_simulation.proofs.Operators.Functions.{typed}
 use Rattle.page_natives.specs.Natives.{Kept}
-use Rattle.cajita_simulation.proofs.Pure.{EndsPurely, IsPure, pure_plain, binary_pure, unary_pure, next_pure}
+use Rattle.cajita_simulation.proofs.Pure.{EndsPurely, IsPure, pure_plain, pure_touches, binary_pure, unary_pure, next_pure}
 use Rattle.cajita_simulation.proofs.Relation.{EsValue, Val, Vals, ObjectsAre, Here, Tags, Temps, Rel}
 use Rattle.cajita_simulation.proofs.Changes.{rel_told}
 use Rattle.cajita_simulation.proofs.Laws.{Cont, Cont', M, steps_hold}
@@ -113,7 +113,7 @@ pub operator_match : {H : Here} {T : Temps} {d k : ℕ} (q : Row) → IsAmongObj
 operator_match {H = H} {T = T} {d = d} {k = k} q among pure vs es o {w = w} {z = z} {n = n} {g = g} {s = s} {y = y} {m = m} go go' next next' same is r f =
     let a = direct.does H.by q (direct.given vs) w [] in
     let p = answers_are H.by r.all.objects (conversions first place_of first_is w s.heap m r.all.objects) empty_page q pure among (direct.given vs) es [] [] is in
-    let r1 = rel_told a.items (quiet_row H.by q (plain_settling q (pure_plain q pure)) (direct.given vs) w [] refl) r in
+    let r1 = rel_told a.items (quiet_row H.by q (plain_settling q (pure_plain q pure)) (pure_touches q pure) (direct.given vs) w [] refl) r in
     left_tell H a.items (outcome_reply H.around.calls H.by a.outcome a.world) go next z
     (subst (λ u. M H d (bind (replied (outcome_reply H.around.calls H.by a.outcome u) go) next) (z ++ a.items) n (bind (Target.with_given o s go') next') y m) (sym p.world)
     (ends a.outcome o refl (plain_row H.by q (pure_plain q pure) (direct.given vs) w []) (z ++ a.items) (given_is s.heap o (es3.does place_of H.by q es s.heap empty_page []) a.outcome (plain_row H.by q (pure_plain q pure) (direct.given vs) w []) same p.reply) r1))

@@ -13,7 +13,7 @@ use Rattle.rows.specs.Operators as operators
 use Rattle.rows.specs.Operators.{binary_row, unary_row, next_number, is_object, is_nothing}
 use Rattle.row_simulation.specs.OperatorLaw.{IsOfValues}
 use Rattle.cajita_simulation.specs.Alike.{GuestFault}
-use Rattle.cajita_simulation.proofs.Rows.{EndsPlainly, IsPlain}
+use Rattle.cajita_simulation.proofs.Rows.{EndsPlainly, IsPlain, NoTouches}
 
 abbrev pub EndsPurely : Ending → Type 0
 EndsPurely (r.answers x) = Unit {0}
@@ -40,6 +40,14 @@ pure_plain (r.as_number x go) p = λ n. pure_plain (go n) (p n)
 pure_plain (r.as_same x y go) p = λ b. pure_plain (go b) (p b)
 pure_plain (r.looks x go) p = λ s. pure_plain (go s) (p s)
 pure_plain _ p = absurd p
+
+pub pure_touches : (q : Row) → IsPure q → NoTouches q
+pure_touches (r.ends e) p = tt
+pure_touches (r.as_text x go) p = λ us. pure_touches (go us) (p us)
+pure_touches (r.as_number x go) p = λ n. pure_touches (go n) (p n)
+pure_touches (r.as_same x y go) p = λ b. pure_touches (go b) (p b)
+pure_touches (r.looks x go) p = λ s. pure_touches (go s) (p s)
+pure_touches _ p = absurd p
 
 pure_if : (b : Bool) (x y : Row) → IsPure x → IsPure y → IsPure (cond b x y)
 pure_if true x y p q = p

@@ -45,7 +45,8 @@ use Rattle.cajita_simulation.proofs.Heaps.Pairs.{pairs_defined, in_turn, NoKey, 
 use Rattle.cajita_simulation.proofs.Heaps.Records.{record_object, makes_record}
 use Rattle.cajita_simulation.proofs.Heaps.Opened.{opened_kept}
 use Rattle.cajita_simulation.proofs.Heaps.Guards.{IsGuard, guard_call, initialize_map-guard}
-use Rattle.cajita_simulation.proofs.Relation.{EsValue, Val, Named, ObjectsAre, Here, env_of, Tags, Temps, Rel, closed_refl, Stays, stays_trans}
+use Rattle.cajita_simulation.proofs.Heaps.Silent.{initialize_map-silent}
+use Rattle.cajita_simulation.proofs.Relation.{closures_wait, EsValue, Val, Named, ObjectsAre, Here, env_of, Tags, Temps, Rel, closed_refl, Stays, stays_trans}
 use Rattle.cajita_simulation.proofs.Changes.{Changes, stays_changed, rel_changed, rel_told}
 use Rattle.cajita_simulation.proofs.Calls.{opened_of, guard_match}
 use Rattle.cajita_simulation.proofs.Laws.{Gives, Cont, Cont', M, most_steps, steps_hold, begins_there}
@@ -135,6 +136,7 @@ array_changes vs {w = w} {s = s} page few o p =
       scopes = refl;
       older = λ m n f chain e. e;
       closed = closed_refl;
+      waiters = λ f. f;
     }
 
 -- the record, with the module's next name on both sides
@@ -153,6 +155,7 @@ record_changes by below ks vs qs {w = w} {s = s} {m = m} page small p o pages =
       scopes = refl;
       older = λ m n f chain e. push_older by ps w.objects m n f chain e;
       closed = record { closures = λ m n f chain e. push_kept by (a_record false ps) w.objects m n (a_closure f chain) e };
+      waiters = λ f j. closures_wait w.objects (with_object by (a_record false ps) w).objects (λ m n f chain e. push_kept by (a_record false ps) w.objects m n (a_closure f chain) e) (w.queues j) (f j);
     }
 
 record_named : (by : ℕ) → by < 64 → (w : State) {h : Objects} {m : ℕ} (x : heap.Object) → ObjectsAre first place_of w.objects h m → Named (with_named h x by) (next_name by w) (length h.list)
@@ -180,8 +183,12 @@ pub record_match : {H : Here} {T : Temps} {d k : ℕ} → H.by < 64 → (ks : Li
     → M H d (bind (Source.act_plan H 1 (Source.kept vs) (Direct.asked (a_record_of ks) (0 ∷ []) Direct.give) w) next) z n (bind (Target.do_call (Target.called (member (es.Obj runtime_id) (codes "initializeMap"))) (es.Obj (length s.heap.list) ∷ []) (env_of H) (with_heap s (heap.with_object s.heap (array_object (in_turn qs))))) next') y m
 record_match {H = H} {T = T} {d = d} {k = k} below ks vs qs {w = w} {z = z} {n = n} {g = g} {s = s} {y = y} {m = m} next next' p many r x =
     new_array_match initialize_map-guard [] (in_turn qs) next' many r (λ small r1 k1.
-    subst (λ q. M H d (bind (Source.act_plan H 1 (Source.kept vs) (Direct.asked (a_record_of ks) (0 ∷ []) Direct.give) w) next) z n (bind q next') y (suc m)) (sym (makes_record (es.Obj runtime_id) qs s.heap (env_of H) s y (omega (arith, many, small))))
-    (made_match (heap.with_object s.heap (array_object (in_turn qs))) small (fields_keep k1.heap.objects ks vs qs p) k1 r1))
+    let p0 = bind (Source.act_plan H 1 (Source.kept vs) (Direct.asked (a_record_of ks) (0 ∷ []) Direct.give) w) next in
+    let s1 = with_heap s (heap.with_object s.heap (array_object (in_turn qs))) in
+    let call = Target.native_call 69 (es.Obj runtime_id) (es.Obj (length s.heap.list) ∷ []) (env_of H) in
+    subst (λ o. M H d p0 z n (bind (Target.task_plan page_table call s1 y) next') o (suc m)) (sym (initialize_map-silent H.by (es.Obj runtime_id) (es.Obj (length s.heap.list) ∷ []) s1.heap y))
+    (subst (λ q. M H d p0 z n (bind q next') y (suc m)) (sym (makes_record (es.Obj runtime_id) qs s.heap (env_of H) s y (omega (arith, many, small))))
+    (made_match (heap.with_object s.heap (array_object (in_turn qs))) small (fields_keep k1.heap.objects ks vs qs p) k1 r1)))
   where
     made_match : (h1 : Objects) → suc m ≤ 4294967295 → FieldsAre h1 ks vs qs → Stays w g s m w g (with_heap s h1) m → Rel H T (suc k) w z n g (with_heap s h1) y m → M H d (bind (Source.act_plan H 1 (Source.kept vs) (Direct.asked (a_record_of ks) (0 ∷ []) Direct.give) w) next) z n (next' (Target.gave (es.Obj (length h1.list))) (with_heap s (with_named h1 (record_object qs) H.by))) y (suc m)
     made_match h1 small p1 k1 r1 =

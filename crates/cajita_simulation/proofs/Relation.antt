@@ -1,5 +1,5 @@
 -- What persists from one related state to a later one, and the steps that are in hand.
-use Rattle.std.proofs.Common.{◌≡◌, ℕ, suc, ◌+◌, ◌*◌, ◌≤◌, ◌<◌, List, length, Option, Some, None, refl, ap, ◌∙◌, arith}
+use Rattle.std.proofs.Common.{Bool, ◌≡◌, ℕ, suc, ◌+◌, ◌*◌, ◌≤◌, ◌<◌, List, [], ◌∷◌, length, Option, Some, None, refl, ap, ◌∙◌, arith}
 use Rattle.std.specs.Prelude.{slice_get, is_some}
 use Rattle.std.proofs.lemmas.Option.{slice_get_within}
 use Rattle.es3_heap.specs.declared.value.Value.TheVariants as es
@@ -9,7 +9,7 @@ use Rattle.es3_language.specs.Store as store
 use Rattle.es3_language.specs.Store.{Store, name_value}
 use Rattle.es3_language.specs.Arguments.{is_fixed}
 use Rattle.cajita_tree.specs.Tree as c
-use Rattle.cajita_meaning.specs.World.{Value, Object, a_closure, World}
+use Rattle.cajita_meaning.specs.World.{made_name, Value, object, Object, a_closure, World}
 use Rattle.cajita_meaning.specs.Direct.{Item}
 use Rattle.page_natives.specs.Natives.{Kept}
 pub use Rattle.row_simulation.specs.Correspond.{EsValue, Named, Val, Vals, ObjectsAre}
@@ -19,7 +19,7 @@ use Rattle.row_simulation.proofs.Relation as row_relation
 use Rattle.row_simulation.proofs.Row as row_laws
 pub use Rattle.cajita_simulation.specs.Guest.{Names}
 pub use Rattle.cajita_simulation.specs.Scopes.{ScopeTag, tag_of_scope, Tags, Chained, OptVal, names_at, ScopeIs, OwnNames, IsScope, AreScopes, Slot, unknown, declared, holds, keys, Temps, no_temps, SlotIs, SharedAre, ScopesAre}
-pub use Rattle.cajita_simulation.specs.Related.{Here, env_of, Within, Place, Captured, In, CodeIs, ClosuresAre, Related, Between, Rel}
+pub use Rattle.cajita_simulation.specs.Related.{IsClosure, AreClosures, WaitersAre, Turn, Here, env_of, Within, Place, Captured, In, CodeIs, ClosuresAre, Related, Between, StandsIn, RelAt, Rel}
 
 -- of the objects: what a row leaves, and steps that only grow
 pub record Keeps (a : Objects) (i : ℕ) (b : Objects) (j : ℕ) : Type 0 where
@@ -98,18 +98,29 @@ optval_keep k None None p = tt
 optval_keep k (Some v) (Some e) p = val_keep k v e p
 optval_keep k _ _ p = absurd p
 
+-- of closures that wait: closures that were there are there
+
+pub closure_kept : (a b : ℕ → List Object) → ((m n : ℕ) (f : c.Tree c.func) (chain : List ℕ) → slice_get (a m) n ≡ Some (a_closure f chain) → slice_get (b m) n ≡ Some (a_closure f chain)) → (v : Value) → IsClosure a v → IsClosure b v
+closure_kept a b k (object (made_name m n)) is = (is.0, is.1, k m n is.0 is.1 is.2)
+closure_kept a b k (object o) is = absurd is
+closure_kept a b k v is = absurd is
+
+pub closures_wait : (a b : ℕ → List Object) → ((m n : ℕ) (f : c.Tree c.func) (chain : List ℕ) → slice_get (a m) n ≡ Some (a_closure f chain) → slice_get (b m) n ≡ Some (a_closure f chain)) → (vs : List Value) → AreClosures a vs → AreClosures b vs
+closures_wait a b k [] are = tt
+closures_wait a b k (v ∷ vs) are = (closure_kept a b k v are.0, closures_wait a b k vs are.1)
+
 -- steps in hand
 
 pub objects_step : {first : Objects} {places : Rattle.rows.specs.Rows.Native → ℕ} {objects : ℕ → List Object} {h : Objects} {i j : ℕ} → i ≤ j → ObjectsAre first places objects h i → ObjectsAre first places objects h j
 objects_step le o = record { each = o.each; once = o.once; natives = o.natives; reads = o.reads; sets = o.sets; above = o.above; count = o.count; few = λ n. let f = o.few n in omega (arith, f, le); opened = o.opened; unnamed = o.unnamed; large = o.large }
 
 pub related_steps : {T : Temps} {j k : ℕ} {w : World} {z : List Item} {n n' : ℕ} {g : Tags} {s : Store} {y : Kept} {m m' : ℕ} → m ≤ m' → m' + k ≤ 64 * n' → Related T j w z n g s y m → Related T k w z n' g s y m'
-related_steps le fits r = record { steps = fits; items = r.items; objects = objects_step le r.objects; pages = r.pages; closures = r.closures; scopes = r.scopes; globals = r.globals; kept = r.kept }
+related_steps le fits r = record { steps = fits; items = r.items; objects = objects_step le r.objects; pages = r.pages; closures = r.closures; waiters = r.waiters; scopes = r.scopes; globals = r.globals; kept = r.kept }
 
-pub rel_steps : {H : Here} {T : Temps} {j k : ℕ} {w : World} {z : List Item} {n n' : ℕ} {g : Tags} {s : Store} {y : Kept} {m m' : ℕ} → m ≤ m' → m' + k ≤ 64 * n' → Rel H T j w z n g s y m → Rel H T k w z n' g s y m'
+pub rel_steps : {form : Bool} {H : Here} {T : Temps} {j k : ℕ} {w : World} {z : List Item} {n n' : ℕ} {g : Tags} {s : Store} {y : Kept} {m m' : ℕ} → m ≤ m' → m' + k ≤ 64 * n' → RelAt form H T j w z n g s y m → RelAt form H T k w z n' g s y m'
 rel_steps le fits r = record { all = related_steps le fits r.all; here = r.here }
 
-pub rel_less : {H : Here} {T : Temps} {j k : ℕ} {w : World} {z : List Item} {n : ℕ} {g : Tags} {s : Store} {y : Kept} {m : ℕ} → j ≤ k → Rel H T k w z n g s y m → Rel H T j w z n g s y m
+pub rel_less : {form : Bool} {H : Here} {T : Temps} {j k : ℕ} {w : World} {z : List Item} {n : ℕ} {g : Tags} {s : Store} {y : Kept} {m : ℕ} → j ≤ k → RelAt form H T k w z n g s y m → RelAt form H T j w z n g s y m
 rel_less le r = rel_steps (omega arith) (omega (arith, le, r.all.steps)) r
 
 -- nothing is known any more of hidden names, and no step is in hand
@@ -120,6 +131,7 @@ related_between r = record {
   objects = r.objects;
   pages = r.pages;
   closures = r.closures;
+  waiters = r.waiters;
   scopes = record { same = r.scopes.same; once = r.scopes.once; known = r.scopes.known; count = r.scopes.count; temps = λ c x hidden. tt; runtime = r.scopes.runtime; are = r.scopes.are; shared = r.scopes.shared };
   globals = r.globals;
   kept = r.kept;
@@ -130,13 +142,13 @@ abbrev pub more : ℕ → ℕ
 more k = suc (suc (suc (suc (suc (suc (suc (suc (suc (suc (suc (suc (suc (suc (suc (suc (suc (suc (suc (suc (suc (suc (suc (suc (suc (suc (suc (suc (suc (suc (suc (suc (suc (suc (suc (suc (suc (suc (suc (suc k)))))))))))))))))))))))))))))))))))))))
 
 -- both take a step
-pub rel_both : {H : Here} {T : Temps} {k : ℕ} {w : World} {z : List Item} {n : ℕ} {g : Tags} {s : Store} {y : Kept} {m : ℕ} → Rel H T k w z n g s y m → Rel H T (more k) w z (suc n) g s y (suc m)
+pub rel_both : {form : Bool} {H : Here} {T : Temps} {k : ℕ} {w : World} {z : List Item} {n : ℕ} {g : Tags} {s : Store} {y : Kept} {m : ℕ} → RelAt form H T k w z n g s y m → RelAt form H T (more k) w z (suc n) g s y (suc m)
 rel_both r = rel_steps (omega arith) (omega (arith, r.all.steps)) r
 
 -- the interpreter takes one
-pub rel_pay : {H : Here} {T : Temps} {k : ℕ} {w : World} {z : List Item} {n : ℕ} {g : Tags} {s : Store} {y : Kept} {m : ℕ} → Rel H T (suc k) w z n g s y m → Rel H T k w z n g s y (suc m)
+pub rel_pay : {form : Bool} {H : Here} {T : Temps} {k : ℕ} {w : World} {z : List Item} {n : ℕ} {g : Tags} {s : Store} {y : Kept} {m : ℕ} → RelAt form H T (suc k) w z n g s y m → RelAt form H T k w z n g s y (suc m)
 rel_pay r = rel_steps (omega arith) (omega (arith, r.all.steps)) r
 
 -- the direct meaning takes one
-pub rel_tick : {H : Here} {T : Temps} {k : ℕ} {w : World} {z : List Item} {n : ℕ} {g : Tags} {s : Store} {y : Kept} {m : ℕ} → Rel H T k w z n g s y m → Rel H T k w z (suc n) g s y m
+pub rel_tick : {form : Bool} {H : Here} {T : Temps} {k : ℕ} {w : World} {z : List Item} {n : ℕ} {g : Tags} {s : Store} {y : Kept} {m : ℕ} → RelAt form H T k w z n g s y m → RelAt form H T k w z (suc n) g s y m
 rel_tick r = rel_steps (omega arith) (omega (arith, r.all.steps)) r

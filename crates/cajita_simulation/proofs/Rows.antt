@@ -5,6 +5,7 @@ use Rattle.std.proofs.lemmas.List.{append-nil, append_assoc}
 use Rattle.plans.specs.Plans.{Fault, depth_fault, bind}
 use Rattle.acts.specs.Acts.{replied}
 use Rattle.matching.proofs.Rules.{both_stop, left_told}
+use Rattle.es3_heap.specs.declared.value.Value.TheVariants as es_value
 use Rattle.es3_heap.specs.Objects.{Objects}
 use Rattle.es3_convert.specs.Conversions.{text_of}
 use Rattle.es3_convert.specs.Numbers.{number_of}
@@ -13,24 +14,27 @@ use Rattle.es3_language.specs.Natives.{Reply, value_reply, throw_reply, stop_rep
 use Rattle.es3_language.specs.Meaning as Target
 use Rattle.rows.specs.Rows as r
 use Rattle.rows.specs.Rows.{Handle, Sight, Ending, Row, Native}
-use Rattle.cajita_meaning.specs.World.{Name, Value, undefined, null, truth, number, text, object, World, next_name}
+use Rattle.cajita_meaning.specs.World.{Name, made_name, Object, Value, undefined, null, truth, number, text, object, World, next_name}
 use Rattle.cajita_meaning.specs.Doing as direct
 use Rattle.cajita_meaning.specs.Asking as Asking
 use Rattle.cajita_meaning.specs.Asking.{Shape, good, bad, telling_all, outcome_reply, done_reply}
-use Rattle.cajita_meaning.specs.Direct.{Item, printed}
+use Rattle.cajita_meaning.specs.Direct.{Item}
 use Rattle.heap_rows.specs.Doing as es3
+use Rattle.heap_rows.specs.Doing.{heard}
 use Rattle.heap_rows.specs.Opening.{first, place_of}
 use Rattle.row_simulation.specs.Among.{IsAmongObjects}
-use Rattle.row_simulation.specs.RowLaw.{ReplyIs, PagesAre, CameIs}
+use Rattle.row_simulation.specs.RowLaw.{shown, ReplyIs, PagesAre, CameIs}
 use Rattle.row_simulation.proofs.First.{first_is}
 use Rattle.row_simulation.proofs.Whole.{every_row}
 use Rattle.row_simulation.proofs.Leaves.{does_leaves}
-use Rattle.page_natives.specs.Natives.{Kept, page_of}
-use Rattle.cajita_simulation.specs.Alike.{GuestFault, shown}
-use Rattle.cajita_simulation.proofs.Told.{items_append}
+use Rattle.row_simulation.proofs.Names.{known_name, made_known}
+use Rattle.row_simulation.proofs.Relation.{vals_keep}
+use Rattle.page_natives.specs.Natives.{Kept, page_of, tells}
+use Rattle.cajita_simulation.specs.Alike.{GuestFault, heard_by}
+use Rattle.cajita_simulation.proofs.Told.{items_told, shown_quiet}
 use Rattle.cajita_simulation.proofs.Doing as Source
-use Rattle.cajita_simulation.proofs.Relation.{EsValue, Val, Vals, Here, env_of, Tags, Temps, Rel, Stays}
-use Rattle.cajita_simulation.proofs.Changes.{Changes, stays_changed, rel_settled, printed_quiet}
+use Rattle.cajita_simulation.proofs.Relation.{RelAt, IsClosure, AreClosures, WaitersAre, closures_wait, EsValue, Val, Vals, Here, env_of, Tags, Temps, Rel, Stays}
+use Rattle.cajita_simulation.proofs.Changes.{Changes, stays_changed, rel_settled, knows_still}
 use Rattle.cajita_simulation.proofs.Laws.{Cont, Cont', M, steps_hold}
 
 -- rows that change nothing of what a page keeps beside its objects
@@ -66,7 +70,7 @@ page_same : {A : Type 0} (a : Result A Fault) (h : Objects) (g : es3.Page) (y : 
 page_same (Ok x) h g y go f = f x
 page_same (Err e) h g y go f = refl
 
-same_page : (fs : Native → ℕ) (by : ℕ) (q : Row) → NoSettling q → (es : List EsValue) (h : Objects) (g : es3.Page) (y : List es3.Told) → (es3.does fs by q es h g y).page ≡ g
+pub same_page : (fs : Native → ℕ) (by : ℕ) (q : Row) → NoSettling q → (es : List EsValue) (h : Objects) (g : es3.Page) (y : List es3.Told) → (es3.does fs by q es h g y).page ≡ g
 same_page fs by (r.ends e) none es h g y = refl
 same_page fs by (r.settles e) none es h g y = absurd none
 same_page fs by (r.as_text x go) none es h g y = page_same (text_of h (es3.value_in fs es x)) h g y _ (λ us. same_page fs by (go us) (none us) es h g y)
@@ -76,40 +80,47 @@ same_page fs by (r.as_same x z go) none es h g y = same_page fs by (go _) (none 
 same_page fs by (r.looks x go) none es h g y = same_page fs by (go _) (none _) _ h g y
 same_page fs by (r.touches t x k next) none es h g y = same_page fs by next none es h g _
 
--- the log prints nothing of what they tell
+-- rows that touch nothing
+abbrev pub NoTouches : Row → Type 0
+NoTouches (r.ends e) = Unit {0}
+NoTouches (r.settles e) = Unit {0}
+NoTouches (r.as_text x go) = (us : List ℕ) → NoTouches (go us)
+NoTouches (r.as_number x go) = (n : ℤ) → NoTouches (go n)
+NoTouches (r.as_joined x sep go) = (us : List ℕ) → NoTouches (go us)
+NoTouches (r.as_same x y go) = (b : Bool) → NoTouches (go b)
+NoTouches (r.looks x go) = (s : Sight) → NoTouches (go s)
+NoTouches (r.touches t x k next) = ⊥
 
-both_quiet : (a b : List Item) → printed a ≡ [] → printed b ≡ [] → printed (a ++ b) ≡ []
-both_quiet a b p q = printed_quiet a b q ∙ p
+-- no page tells anything of what they tell directly
 
-quiet_along : (by : ℕ) (way : List Name) (o : Name) → printed (direct.got_along by way o) ≡ []
+both_quiet : (a b : List Item) → shown a ≡ [] → shown b ≡ [] → shown (a ++ b) ≡ []
+both_quiet a b p q = shown_quiet a b q ∙ p
+
+quiet_along : (by : ℕ) (way : List Name) (o : Name) → shown (direct.got_along by way o) ≡ []
 quiet_along by [] o = refl
 quiet_along by (h ∷ []) o = refl
 quiet_along by (h ∷ k ∷ way) o = quiet_along by (k ∷ way) o
 
-pub quiet_from : (by : ℕ) (way : List Name) (v : Value) → printed (direct.got_from by way v) ≡ []
+pub quiet_from : (by : ℕ) (way : List Name) (v : Value) → shown (direct.got_from by way v) ≡ []
 quiet_from by way (object o) = quiet_along by way o
 quiet_from by way v = refl
 
-quiet_one : (by : ℕ) (s : direct.Held) (x : Handle) → printed (direct.got_one by s x) ≡ []
+quiet_one : (by : ℕ) (s : direct.Held) (x : Handle) → shown (direct.got_one by s x) ≡ []
 quiet_one by s x = quiet_from by (direct.way_of s x) (direct.value_of s.values x)
 
-quiet_all : (by : ℕ) (s : direct.Held) (xs : List Handle) → printed (direct.got_all by s xs) ≡ []
+quiet_all : (by : ℕ) (s : direct.Held) (xs : List Handle) → shown (direct.got_all by s xs) ≡ []
 quiet_all by s [] = refl
 quiet_all by s (x ∷ xs) = both_quiet (direct.got_one by s x) (direct.got_all by s xs) (quiet_one by s x) (quiet_all by s xs)
 
-quiet_values : (by : ℕ) (way : List Name) (vs : List Value) → printed (direct.got_values by way vs) ≡ []
+quiet_values : (by : ℕ) (way : List Name) (vs : List Value) → shown (direct.got_values by way vs) ≡ []
 quiet_values by way [] = refl
 quiet_values by way (v ∷ vs) = both_quiet (direct.got_from by way v) (direct.got_values by way vs) (quiet_from by way v) (quiet_values by way vs)
 
-quiet_touching : (by : ℕ) (t : r.Touch) (way : List Name) (v : Value) (k : List (List ℕ)) → printed (direct.touching by t way v k) ≡ []
-quiet_touching by t way (object o) k = both_quiet (direct.got_along by way o) (direct.touched by t o k ∷ []) (quiet_along by way o) refl
-quiet_touching by t way v k = refl
-
-quiet_if : (b : Bool) (d : direct.Done) (w : World) (z : List Item) → printed z ≡ [] → printed d.items ≡ [] → printed (cond b d (direct.too_long w z)).items ≡ []
+quiet_if : (b : Bool) (d : direct.Done) (w : World) (z : List Item) → shown z ≡ [] → shown d.items ≡ [] → shown (cond b d (direct.too_long w z)).items ≡ []
 quiet_if true d w z p q = q
 quiet_if false d w z p q = p
 
-quiet_finish : (by : ℕ) (e : Ending) (s : direct.Held) (w : World) (z : List Item) → printed z ≡ [] → printed (direct.finish by e s w z).items ≡ []
+quiet_finish : (by : ℕ) (e : Ending) (s : direct.Held) (w : World) (z : List Item) → shown z ≡ [] → shown (direct.finish by e s w z).items ≡ []
 quiet_finish by (r.answers x) s w z p = both_quiet z (direct.got_one by s x) p (quiet_one by s x)
 quiet_finish by (r.throws message) s w z p = both_quiet z (direct.made by (next_name by w) ∷ []) p refl
 quiet_finish by (r.faults f) s w z p = p
@@ -126,19 +137,19 @@ quiet_finish by (r.drops_key o k) s w z p = p
 quiet_finish by (r.sets_items o xs x) s w z p = quiet_if (nat_lt (length xs) r.most_items) _ w z p (both_quiet z (direct.got_one by s x) p (quiet_one by s x))
 quiet_finish by (r.freezes o) s w z p = both_quiet z (direct.got_one by s o) p (quiet_one by s o)
 
-quiet_result : {A : Type 0} (a : Result A Fault) (w : World) (z : List Item) (go : A → direct.Done) → printed z ≡ [] → ((x : A) → printed (go x).items ≡ []) → printed (direct.with_result a w z go).items ≡ []
+quiet_result : {A : Type 0} (a : Result A Fault) (w : World) (z : List Item) (go : A → direct.Done) → shown z ≡ [] → ((x : A) → shown (go x).items ≡ []) → shown (direct.with_result a w z go).items ≡ []
 quiet_result (Ok x) w z go p f = f x
 quiet_result (Err e) w z go p f = p
 
-pub quiet_row : (by : ℕ) (q : Row) → NoSettling q → (s : direct.Held) (w : World) (z : List Item) → printed z ≡ [] → printed (direct.does by q s w z).items ≡ []
-quiet_row by (r.ends e) none s w z p = quiet_finish by e s w z p
-quiet_row by (r.settles e) none s w z p = absurd none
-quiet_row by (r.as_text x go) none s w z p = quiet_result (direct.text_of w (direct.value_of s.values x)) w z _ p (λ us. quiet_row by (go us) (none us) s w z p)
-quiet_row by (r.as_number x go) none s w z p = quiet_result (direct.number_of w (direct.value_of s.values x)) w z _ p (λ n. quiet_row by (go n) (none n) s w z p)
-quiet_row by (r.as_joined x sep go) none s w z p = quiet_result (direct.joined_of w (direct.value_of s.values x) sep) w z _ p (λ us. quiet_row by (go us) (none us) s w z p)
-quiet_row by (r.as_same x y go) none s w z p = quiet_row by (go _) (none _) s w z p
-quiet_row by (r.looks x go) none s w z p = quiet_row by (go _) (none _) _ w z p
-quiet_row by (r.touches t x k next) none s w z p = quiet_row by next none s w _ (both_quiet z (direct.touching by t (direct.way_of s x) (direct.value_of s.values x) k) p (quiet_touching by t (direct.way_of s x) (direct.value_of s.values x) k))
+pub quiet_row : (by : ℕ) (q : Row) → NoSettling q → NoTouches q → (s : direct.Held) (w : World) (z : List Item) → shown z ≡ [] → shown (direct.does by q s w z).items ≡ []
+quiet_row by (r.ends e) none calm s w z p = quiet_finish by e s w z p
+quiet_row by (r.settles e) none calm s w z p = absurd none
+quiet_row by (r.as_text x go) none calm s w z p = quiet_result (direct.text_of w (direct.value_of s.values x)) w z _ p (λ us. quiet_row by (go us) (none us) (calm us) s w z p)
+quiet_row by (r.as_number x go) none calm s w z p = quiet_result (direct.number_of w (direct.value_of s.values x)) w z _ p (λ n. quiet_row by (go n) (none n) (calm n) s w z p)
+quiet_row by (r.as_joined x sep go) none calm s w z p = quiet_result (direct.joined_of w (direct.value_of s.values x) sep) w z _ p (λ us. quiet_row by (go us) (none us) (calm us) s w z p)
+quiet_row by (r.as_same x y go) none calm s w z p = quiet_row by (go _) (none _) (calm _) s w z p
+quiet_row by (r.looks x go) none calm s w z p = quiet_row by (go _) (none _) (calm _) _ w z p
+quiet_row by (r.touches t x k next) none calm s w z p = absurd calm
 
 -- what is done by an answer's shape, with its values
 abbrev pub Going : Type 0
@@ -151,46 +162,85 @@ left_tell H {d = d} {n = n} {m = m} (i ∷ is) q go next z {p = p} {y = y} f =
     left_told (left_tell H is q go next (z ++ i ∷ []) (subst (λ l. M H d (bind (replied q go) next) l n p y m) (sym (append_assoc z (i ∷ []) is)) f))
 
 -- both have come to the same: how they go on
-pub record RowGoes (H : Here) (T : Temps) (d k : ℕ) (w : World) (n : ℕ) (g : Tags) (s : Store) (y : Kept) (m : ℕ) (e : direct.Outcome) (go : Going) (next : Cont) (next' : Cont') : Type 0 where
-  pub on : (b : Reply) (w' : World) (z' : List Item) (s' : Store) → ReplyIs s'.heap e b → Rel H T k w' z' n g s' y (suc m) → Stays w g s m w' g s' (suc m) → M H d (bind (replied (outcome_reply H.around.calls H.by e w') go) next) z' n (bind (Target.reply_plan b (env_of H) s') next') y (suc m)
+pub record RowGoesAt (form : Bool) (H : Here) (T : Temps) (d k : ℕ) (w : World) (n : ℕ) (g : Tags) (s : Store) (m : ℕ) (e : direct.Outcome) (go : Going) (next : Cont) (next' : Cont') : Type 0 where
+  pub on : {y : Kept} (b : Reply) (w' : World) (z' : List Item) (s' : Store) → ReplyIs s'.heap e b → RelAt form H T k w' z' n g s' y (suc m) → Stays w g s m w' g s' (suc m) → M H d (bind (replied (outcome_reply H.around.calls H.by e w') go) next) z' n (bind (Target.reply_plan b (env_of H) s') next') y (suc m)
 
--- what natives keep after a row: what the row left of it, and the log prints what the row told
-pub record KeepsRow (y y' : Kept) (a : direct.Done) (came : es3.Came) : Type 0 where
+-- what natives keep after a row: what the row left of it, and what it told
+pub record KeepsRow (y y' : Kept) (came : es3.Came) : Type 0 where
   pub runtime : y'.runtime ≡ y.runtime
   pub imports : y'.imports ≡ y.imports
-  pub told : shown y' ≡ shown y ++ printed a.items
+  pub touching : y'.touching ≡ y.touching
+  pub told : y'.told ≡ y.told ++ heard y.touching came.done.items
   pub cells : (c : ℕ) → came.page.cells c ≡ (page_of y').cells c
   pub queues : (m : ℕ) → came.page.queues m ≡ (page_of y').queues m
 
 pages_moved : {h : Objects} {w : World} {p q : es3.Page} → ((c : ℕ) → p.cells c ≡ q.cells c) → ((m : ℕ) → p.queues m ≡ q.queues m) → PagesAre h w p → PagesAre h w q
 pages_moved {h = h} {w = w} a b r = record { cells = λ c. subst (Val h (w.cells c)) (a c) (r.cells c); queues = λ m. subst (Vals h (w.queues m)) (b m) (r.queues m) }
 
+-- what a row leaves waiting: where it changes nothing of that, the same closures
+
+object_same : (h : Objects) (m n i : ℕ) (u : Value) → Val h (object (made_name m n)) (es_value.Obj i) → Val h u (es_value.Obj i) → u ≡ object (made_name m n)
+object_same h m n i (object k) p q = ap object (known_name (made_name m n) k (made_known m n) (sym q ∙ p))
+object_same h m n i u p q = absurd q
+
+closure_same : (objects : ℕ → List Object) (h : Objects) (v u : Value) (e : EsValue) → IsClosure objects v → Val h v e → Val h u e → u ≡ v
+closure_same objects h (object (made_name m n)) u (es_value.Obj i) is p q = object_same h m n i u p q
+closure_same objects h (object (made_name m n)) u e is p q = absurd p
+closure_same objects h (object o) u e is p q = absurd is
+closure_same objects h v u e is p q = absurd is
+
+waiters_same : (objects : ℕ → List Object) (h : Objects) (vs us : List Value) (es : List EsValue) → AreClosures objects vs → Vals h vs es → Vals h us es → us ≡ vs
+waiters_same objects h [] [] [] are p q = refl
+waiters_same objects h (v ∷ vs) (u ∷ us) (e ∷ es) are p q = ap (λ a. a ∷ us) (closure_same objects h v u e are.0 p.0 q.0) ∙ ap (λ l. v ∷ l) (waiters_same objects h vs us es are.1 p.1 q.1)
+waiters_same objects h [] (u ∷ us) [] are p q = absurd q
+waiters_same objects h (v ∷ vs) [] (e ∷ es) are p q = absurd q
+waiters_same objects h _ _ _ are p q = absurd p
+
+pub row_waiters : {form : Bool} {H : Here} {T : Temps} {k : ℕ} → H.by < 64 → (q : Row) → IsAmongObjects q → NoSettling q → (vs : List Value) (es : List EsValue) {w : World} {z : List Item} {n : ℕ} {g : Tags} {s : Store} {y : Kept} {m : ℕ} → suc m ≤ 4294967295 → Vals s.heap vs es → RelAt form H T (suc k) w z n g s y m
+    → WaitersAre (direct.does H.by q (direct.given vs) w []).world
+row_waiters {H = H} below q among none vs es {w = w} {s = s} {y = y} {m = m} few is r =
+    let a = direct.does H.by q (direct.given vs) w [] in
+    let came = es3.does place_of H.by q es s.heap (page_of y) [] in
+    let c : CameIs first place_of s.heap m a came = every_row first place_of H.by below first_is q among (direct.given vs) es w s.heap (page_of y) [] [] m few is r.all.objects r.all.pages refl in
+    let l = does_leaves H.by q (direct.given vs) w [] in
+    let same : (j : ℕ) → a.world.queues j ≡ w.queues j = λ j.
+    waiters_same w.objects came.done.heap (w.queues j) (a.world.queues j) ((page_of y).queues j) (r.all.waiters j) (vals_keep c.done.keeps (w.queues j) ((page_of y).queues j) (r.all.pages.queues j))
+    (subst (λ (p : es3.Page). Vals came.done.heap (a.world.queues j) (p.queues j)) (same_page place_of H.by q none es s.heap (page_of y) []) (c.page.queues j)) in
+    λ j. subst (AreClosures a.world.objects) (sym (same j)) (closures_wait w.objects a.world.objects l.closed (w.queues j) (r.all.waiters j))
+
 -- from a row that is asked, and the same row of a native: a step was paid for the native's call
-pub settled_on : {H : Here} {T : Temps} {d k : ℕ} → H.by < 64 → (q : Row) → IsAmongObjects q → (vs : List Value) (es : List EsValue) {w : World} {z : List Item} {n : ℕ} {g : Tags} {s : Store} {y : Kept} {m : ℕ} (y' : Kept) (go : Going) (next : Cont) (next' : Cont') → suc m ≤ 4294967295 → Vals s.heap vs es → Rel H T (suc k) w z n g s y m
-    → KeepsRow y y' (direct.does H.by q (direct.given vs) w []) (es3.does place_of H.by q es s.heap (page_of y) [])
-    → RowGoes H T d k w n g s y' m (direct.does H.by q (direct.given vs) w []).outcome go next next'
+pub settled_on : {form : Bool} {H : Here} {T : Temps} {d k : ℕ} → H.by < 64 → (q : Row) → IsAmongObjects q → (vs : List Value) (es : List EsValue) {w : World} {z : List Item} {n : ℕ} {g : Tags} {s : Store} {y : Kept} {m : ℕ} (y' : Kept) (go : Going) (next : Cont) (next' : Cont') → suc m ≤ 4294967295 → Vals s.heap vs es → RelAt form H T (suc k) w z n g s y m
+    → WaitersAre (direct.does H.by q (direct.given vs) w []).world → KeepsRow y y' (es3.does place_of H.by q es s.heap (page_of y) [])
+    → RowGoesAt form H T d k w n g s m (direct.does H.by q (direct.given vs) w []).outcome go next next'
     → M H d (bind (replied (done_reply H.around.calls H.by (direct.does H.by q (direct.given vs) w [])) go) next) z n (bind (Target.reply_plan (es3.does place_of H.by q es s.heap (page_of y) []).done.reply (env_of H) (with_heap s (es3.does place_of H.by q es s.heap (page_of y) []).done.heap)) next') y' (suc m)
-settled_on {H = H} {T = T} {d = d} {k = k} below q among vs es {w = w} {z = z} {n = n} {g = g} {s = s} {y = y} {m = m} y' go next next' few is r kept f =
+settled_on {form = form} {H = H} {T = T} {d = d} {k = k} below q among vs es {w = w} {z = z} {n = n} {g = g} {s = s} {y = y} {m = m} y' go next next' few is r waiters kept f =
     let a = direct.does H.by q (direct.given vs) w [] in
     let came = es3.does place_of H.by q es s.heap (page_of y) [] in
     let c : CameIs first place_of s.heap m a came = every_row first place_of H.by below first_is q among (direct.given vs) es w s.heap (page_of y) [] [] m few is r.all.objects r.all.pages refl in
     let l = does_leaves H.by q (direct.given vs) w [] in
     let x : Changes (page_of y') w s a.world came.done.heap (suc m) =
-    record { objects = c.done.objects; pages = pages_moved kept.cells kept.queues c.page; keeps = c.done.keeps; scopes = l.scopes; older = l.older; closed = record { closures = l.closed } } in
-    let items : printed (z ++ a.items) ≡ shown y' = items_append z a.items ∙ ap (λ l. l ++ printed a.items) r.all.items ∙ sym kept.told in
-    let r1 : Rel H T k a.world (z ++ a.items) n g (with_heap s came.done.heap) y' (suc m) = rel_settled x (record { runtime = kept.runtime ∙ r.all.kept.runtime; imports = kept.imports ∙ r.all.kept.imports }) items (omega arith) (omega (arith, r.all.steps)) r in
+    record { objects = c.done.objects; pages = pages_moved kept.cells kept.queues c.page; keeps = c.done.keeps; scopes = l.scopes; older = l.older; closed = record { closures = l.closed }; waiters = λ before. waiters } in
+    let items : heard_by y' (z ++ a.items) ≡ y'.told = ap (λ t. heard t (shown (z ++ a.items))) kept.touching ∙ items_told y z a.items came.done.items c.done.items r.all.items ∙ sym kept.told in
+    let r1 : RelAt form H T k a.world (z ++ a.items) n g (with_heap s came.done.heap) y' (suc m) = rel_settled x (knows_still kept.runtime kept.imports r.all.kept) items (omega arith) (omega (arith, r.all.steps)) r in
     left_tell H a.items (outcome_reply H.around.calls H.by a.outcome a.world) go next z (f.on _ a.world (z ++ a.items) _ c.done.reply r1 (stays_changed g x (omega arith)))
 
 -- the same for one that changes nothing beside objects, whatever is kept
-pub row_on : {H : Here} {T : Temps} {d k : ℕ} → H.by < 64 → (q : Row) → IsAmongObjects q → NoSettling q → (vs : List Value) (es : List EsValue) {w : World} {z : List Item} {n : ℕ} {g : Tags} {s : Store} {y : Kept} {m : ℕ} (page : es3.Page) (go : Going) (next : Cont) (next' : Cont') → suc m ≤ 4294967295 → Vals s.heap vs es → Rel H T (suc k) w z n g s y m
-    → RowGoes H T d k w n g s y m (direct.does H.by q (direct.given vs) w []).outcome go next next'
-    → M H d (bind (replied (done_reply H.around.calls H.by (direct.does H.by q (direct.given vs) w [])) go) next) z n (bind (Target.reply_plan (es3.does place_of H.by q es s.heap page []).done.reply (env_of H) (with_heap s (es3.does place_of H.by q es s.heap page []).done.heap)) next') y (suc m)
-row_on {H = H} {d = d} below q among none vs es {w = w} {z = z} {n = n} {s = s} {y = y} {m = m} page go next next' few is r f =
+pub row_on : {form : Bool} {H : Here} {T : Temps} {d k : ℕ} → H.by < 64 → (q : Row) → IsAmongObjects q → NoSettling q → (vs : List Value) (es : List EsValue) {w : World} {z : List Item} {n : ℕ} {g : Tags} {s : Store} {y : Kept} {m : ℕ} (page : es3.Page) (go : Going) (next : Cont) (next' : Cont') → suc m ≤ 4294967295 → Vals s.heap vs es → RelAt form H T (suc k) w z n g s y m
+    → RowGoesAt form H T d k w n g s m (direct.does H.by q (direct.given vs) w []).outcome go next next'
+    → M H d (bind (replied (done_reply H.around.calls H.by (direct.does H.by q (direct.given vs) w [])) go) next) z n (bind (Target.reply_plan (es3.does place_of H.by q es s.heap page []).done.reply (env_of H) (with_heap s (es3.does place_of H.by q es s.heap page []).done.heap)) next') (tells (es3.does place_of H.by q es s.heap page []).done.items y) (suc m)
+row_on {form = form} {H = H} {d = d} below q among none vs es {w = w} {z = z} {n = n} {s = s} {y = y} {m = m} page go next next' few is r f =
     let a = direct.does H.by q (direct.given vs) w [] in
-    let quiet = quiet_row H.by q none (direct.given vs) w [] refl in
     let same = same_page place_of H.by q none es s.heap (page_of y) [] in
-    subst (λ b. M H d (bind (replied (done_reply H.around.calls H.by a) go) next) z n (bind (Target.reply_plan b.reply (env_of H) (with_heap s b.heap)) next') y (suc m)) (any_page place_of H.by q none es s.heap (page_of y) page [])
-    (settled_on below q among vs es y go next next' few is r (record { runtime = refl; imports = refl; told = sym (ap (λ l. shown y ++ l) quiet ∙ append-nil (shown y)); cells = λ c. ap (λ p. p.cells c) same; queues = λ m. ap (λ p. p.queues m) same }) f)
+    let came = es3.does place_of H.by q es s.heap (page_of y) [] in
+    subst (λ b. M H d (bind (replied (done_reply H.around.calls H.by a) go) next) z n (bind (Target.reply_plan b.reply (env_of H) (with_heap s b.heap)) next') (tells b.items y) (suc m)) (any_page place_of H.by q none es s.heap (page_of y) page [])
+    (settled_on below q among vs es (tells came.done.items y) go next next' few is r (row_waiters below q among none vs es few is r) (record { runtime = refl; imports = refl; touching = refl; told = refl; cells = λ c. ap (λ p. p.cells c) same; queues = λ m. ap (λ p. p.queues m) same }) f)
+
+-- where the row touches nothing, a page tells nothing of it
+pub row_silent : {form : Bool} {H : Here} {T : Temps} {k : ℕ} → H.by < 64 → (q : Row) → IsAmongObjects q → NoSettling q → NoTouches q → (vs : List Value) (es : List EsValue) {w : World} {z : List Item} {n : ℕ} {g : Tags} {s : Store} {y : Kept} {m : ℕ} (page : es3.Page) → suc m ≤ 4294967295 → Vals s.heap vs es → RelAt form H T k w z n g s y m
+    → (es3.does place_of H.by q es s.heap page []).done.items ≡ []
+row_silent {form = form} {H = H} below q among none calm vs es {w = w} {s = s} {y = y} {m = m} page few is r =
+    let c : CameIs first place_of s.heap m (direct.does H.by q (direct.given vs) w []) (es3.does place_of H.by q es s.heap (page_of y) []) = every_row first place_of H.by below first_is q among (direct.given vs) es w s.heap (page_of y) [] [] m few is r.all.objects r.all.pages refl in
+    ap (λ (d : es3.Done). d.items) (any_page place_of H.by q none es s.heap page (page_of y) []) ∙ sym c.done.items ∙ quiet_row H.by q none calm (direct.given vs) w [] refl
 
 -- rows that end by themselves: with a value, with a throw, or by a fault that a module may end by
 
@@ -324,21 +374,24 @@ plain_row by (r.looks x go) p s w z = plain_row by (go _) (p _) _ w z
 plain_row by (r.touches t x k next) p s w z = plain_row by next p s w _
 
 -- both go on alike after a value of the row, of which this holds, and after a throw
-pub record RowNextOf (P : Value → Type 0) (H : Here) (T : Temps) (d k : ℕ) (w : World) (n : ℕ) (g : Tags) (s : Store) (y : Kept) (m : ℕ) (go : Going) (next : Cont) (next' : Cont') : Type 0 where
-  pub gives : (v : Value) (e : EsValue) (w' : World) (z' : List Item) (s' : Store) → P v → Val s'.heap v e → Rel H T k w' z' n g s' y (suc m) → Stays w g s m w' g s' (suc m) → M H d (bind (go good (v ∷ []) w') next) z' n (next' (Target.gave e) s') y (suc m)
-  pub throws : (v : Value) (e : EsValue) (w' : World) (z' : List Item) (s' : Store) → Val s'.heap v e → Rel H T k w' z' n g s' y (suc m) → Stays w g s m w' g s' (suc m) → M H d (bind (go bad (v ∷ []) w') next) z' n (next' (Target.threw e) s') y (suc m)
+pub record RowNextAt (form : Bool) (P : Value → Type 0) (H : Here) (T : Temps) (d k : ℕ) (w : World) (n : ℕ) (g : Tags) (s : Store) (m : ℕ) (go : Going) (next : Cont) (next' : Cont') : Type 0 where
+  pub gives : {y : Kept} (v : Value) (e : EsValue) (w' : World) (z' : List Item) (s' : Store) → P v → Val s'.heap v e → RelAt form H T k w' z' n g s' y (suc m) → Stays w g s m w' g s' (suc m) → M H d (bind (go good (v ∷ []) w') next) z' n (next' (Target.gave e) s') y (suc m)
+  pub throws : {y : Kept} (v : Value) (e : EsValue) (w' : World) (z' : List Item) (s' : Store) → Val s'.heap v e → RelAt form H T k w' z' n g s' y (suc m) → Stays w g s m w' g s' (suc m) → M H d (bind (go bad (v ∷ []) w') next) z' n (next' (Target.threw e) s') y (suc m)
+
+abbrev pub RowNextOf : (Value → Type 0) → Here → Temps → ℕ → ℕ → World → ℕ → Tags → Store → ℕ → Going → Cont → Cont' → Type 0
+RowNextOf P H T d k w n g s m go next next' = RowNextAt true P H T d k w n g s m go next next'
 
 -- the same after any value
-pub record RowNext (H : Here) (T : Temps) (d k : ℕ) (w : World) (n : ℕ) (g : Tags) (s : Store) (y : Kept) (m : ℕ) (go : Going) (next : Cont) (next' : Cont') : Type 0 where
-  pub gives : (v : Value) (e : EsValue) (w' : World) (z' : List Item) (s' : Store) → Val s'.heap v e → Rel H T k w' z' n g s' y (suc m) → Stays w g s m w' g s' (suc m) → M H d (bind (go good (v ∷ []) w') next) z' n (next' (Target.gave e) s') y (suc m)
-  pub throws : (v : Value) (e : EsValue) (w' : World) (z' : List Item) (s' : Store) → Val s'.heap v e → Rel H T k w' z' n g s' y (suc m) → Stays w g s m w' g s' (suc m) → M H d (bind (go bad (v ∷ []) w') next) z' n (next' (Target.threw e) s') y (suc m)
+pub record RowNext (H : Here) (T : Temps) (d k : ℕ) (w : World) (n : ℕ) (g : Tags) (s : Store) (m : ℕ) (go : Going) (next : Cont) (next' : Cont') : Type 0 where
+  pub gives : {y : Kept} (v : Value) (e : EsValue) (w' : World) (z' : List Item) (s' : Store) → Val s'.heap v e → Rel H T k w' z' n g s' y (suc m) → Stays w g s m w' g s' (suc m) → M H d (bind (go good (v ∷ []) w') next) z' n (next' (Target.gave e) s') y (suc m)
+  pub throws : {y : Kept} (v : Value) (e : EsValue) (w' : World) (z' : List Item) (s' : Store) → Val s'.heap v e → Rel H T k w' z' n g s' y (suc m) → Stays w g s m w' g s' (suc m) → M H d (bind (go bad (v ∷ []) w') next) z' n (next' (Target.threw e) s') y (suc m)
 
 -- what is known of the value that a row came to
 abbrev pub GivesOnly : (Value → Type 0) → direct.Outcome → Type 0
 GivesOnly P (direct.gives v) = P v
 GivesOnly P e = Unit {0}
 
-pub reply_goes : {P : Value → Type 0} {H : Here} {T : Temps} {d k : ℕ} {w : World} {n : ℕ} {g : Tags} {s : Store} {y : Kept} {m : ℕ} {go : Going} {next : Cont} {next' : Cont'} (e : direct.Outcome) → ComesPlainly e → GivesOnly P e → RowNextOf P H T d k w n g s y m go next next' → (b : Reply) (w' : World) (z' : List Item) (s' : Store) → ReplyIs s'.heap e b → Rel H T k w' z' n g s' y (suc m) → Stays w g s m w' g s' (suc m) → M H d (bind (replied (outcome_reply H.around.calls H.by e w') go) next) z' n (bind (Target.reply_plan b (env_of H) s') next') y (suc m)
+pub reply_goes : {form : Bool} {P : Value → Type 0} {H : Here} {T : Temps} {d k : ℕ} {w : World} {n : ℕ} {g : Tags} {s : Store} {y : Kept} {m : ℕ} {go : Going} {next : Cont} {next' : Cont'} (e : direct.Outcome) → ComesPlainly e → GivesOnly P e → RowNextAt form P H T d k w n g s m go next next' → (b : Reply) (w' : World) (z' : List Item) (s' : Store) → ReplyIs s'.heap e b → RelAt form H T k w' z' n g s' y (suc m) → Stays w g s m w' g s' (suc m) → M H d (bind (replied (outcome_reply H.around.calls H.by e w') go) next) z' n (bind (Target.reply_plan b (env_of H) s') next') y (suc m)
 reply_goes (direct.gives v) p known f (value_reply e) w' z' s' is r k = f.gives v e w' z' s' known is r k
 reply_goes (direct.throws v) p known f (throw_reply e) w' z' s' is r k = f.throws v e w' z' s' is r k
 reply_goes (direct.stops v) p known f (stop_reply e) w' z' s' is r k = both_stop (steps_hold r) (is, p, r.all.items)
@@ -348,8 +401,8 @@ reply_goes _ p known f _ w' z' s' is r k = absurd is
 
 -- a plain row that is asked, and the guard with the same row
 pub row_match_of : {H : Here} {T : Temps} {d k : ℕ} → H.by < 64 → (P : Value → Type 0) (q : Row) → IsAmongObjects q → IsPlain q → (vs : List Value) (es : List EsValue) {w : World} {z : List Item} {n : ℕ} {g : Tags} {s : Store} {y : Kept} {m : ℕ} (page : es3.Page) (go : Going) (next : Cont) (next' : Cont') → GivesOnly P (direct.does H.by q (direct.given vs) w []).outcome → suc m ≤ 4294967295 → Vals s.heap vs es → Rel H T (suc k) w z n g s y m
-    → RowNextOf P H T d k w n g s y m go next next'
-    → M H d (bind (replied (done_reply H.around.calls H.by (direct.does H.by q (direct.given vs) w [])) go) next) z n (bind (Target.reply_plan (es3.does place_of H.by q es s.heap page []).done.reply (env_of H) (with_heap s (es3.does place_of H.by q es s.heap page []).done.heap)) next') y (suc m)
+    → RowNextOf P H T d k w n g s m go next next'
+    → M H d (bind (replied (done_reply H.around.calls H.by (direct.does H.by q (direct.given vs) w [])) go) next) z n (bind (Target.reply_plan (es3.does place_of H.by q es s.heap page []).done.reply (env_of H) (with_heap s (es3.does place_of H.by q es s.heap page []).done.heap)) next') (tells (es3.does place_of H.by q es s.heap page []).done.items y) (suc m)
 row_match_of {H = H} below P q among plain vs es {w = w} page go next next' known few is r f =
     row_on below q among (plain_settling q plain) vs es page go next next' few is r (record { on = λ b w' z' s' p r1 k1. reply_goes {P = P} (direct.does H.by q (direct.given vs) w []).outcome (plain_row H.by q plain (direct.given vs) w []) known f b w' z' s' p r1 k1 })
 
@@ -361,7 +414,7 @@ gives_anything (direct.gives v) = tt
 gives_anything e = tt
 
 pub row_match : {H : Here} {T : Temps} {d k : ℕ} → H.by < 64 → (q : Row) → IsAmongObjects q → IsPlain q → (vs : List Value) (es : List EsValue) {w : World} {z : List Item} {n : ℕ} {g : Tags} {s : Store} {y : Kept} {m : ℕ} (page : es3.Page) (go : Going) (next : Cont) (next' : Cont') → suc m ≤ 4294967295 → Vals s.heap vs es → Rel H T (suc k) w z n g s y m
-    → RowNext H T d k w n g s y m go next next'
-    → M H d (bind (replied (done_reply H.around.calls H.by (direct.does H.by q (direct.given vs) w [])) go) next) z n (bind (Target.reply_plan (es3.does place_of H.by q es s.heap page []).done.reply (env_of H) (with_heap s (es3.does place_of H.by q es s.heap page []).done.heap)) next') y (suc m)
+    → RowNext H T d k w n g s m go next next'
+    → M H d (bind (replied (done_reply H.around.calls H.by (direct.does H.by q (direct.given vs) w [])) go) next) z n (bind (Target.reply_plan (es3.does place_of H.by q es s.heap page []).done.reply (env_of H) (with_heap s (es3.does place_of H.by q es s.heap page []).done.heap)) next') (tells (es3.does place_of H.by q es s.heap page []).done.items y) (suc m)
 row_match {H = H} below q among plain vs es {w = w} page go next next' few is r f =
     row_match_of below Anything q among plain vs es page go next next' (gives_anything (direct.does H.by q (direct.given vs) w []).outcome) few is r (record { gives = λ v e w' z' s' known p r1 k1. f.gives v e w' z' s' p r1 k1; throws = f.throws })

@@ -1,5 +1,5 @@
 -- Variables on both sides: where a name is found, and that it stays found there.
-use Rattle.std.proofs.Common.{◌≡◌, ℕ, ◌<◌, ◌≤◌, true, false, List, [], ◌∷◌, length, Option, Some, None, cond, refl, sym, ap, ◌∙◌, subst, arith}
+use Rattle.std.proofs.Common.{Bool, ◌≡◌, ℕ, ◌<◌, ◌≤◌, true, false, List, [], ◌∷◌, length, Option, Some, None, cond, refl, sym, ap, ◌∙◌, subst, arith}
 use Rattle.std.specs.Prelude.{slice_get, slice_set, is_some}
 use Rattle.std.specs.Cmp.Lexicographic.{same_text}
 use Rattle.caja_units.specs.Units.{same_units, is_hidden}
@@ -12,7 +12,7 @@ use Rattle.cajita_simulation.specs.Guest.{GuestName}
 use Rattle.cajita_simulation.specs.Scopes.{stored_name}
 use Rattle.cajita_meaning.specs.World.{Value, Pairs, value_at, with_value, scope_at}
 use Rattle.cajita_simulation.proofs.Doing.{lookup, assigned}
-use Rattle.cajita_simulation.proofs.Relation.{EsValue, Val, Names, OptVal, tag_of_scope, Tags, Chained, names_at, OwnNames, IsScope, AreScopes, Here, Within, Captured, In, Shaped}
+use Rattle.cajita_simulation.proofs.Relation.{StandsIn, EsValue, Val, Names, OptVal, tag_of_scope, Tags, Chained, names_at, OwnNames, IsScope, AreScopes, Here, Within, Captured, In, Shaped}
 
 -- a name is at no place where it belongs to the global object, or to nothing
 pub global_is_no_slot : (s : Store) (x : List ℕ) (c : ℕ) → global_name s x ≡ slot c x → ⊥
@@ -76,6 +76,10 @@ in_stays {H = H} {s = s} {s' = s'} k are are' p = record {
   written = k.fixed H.act p.act ∙ p.written;
   temps = λ x hidden bound. resolve_stays H.chain s s' x H.act p.captured.within are are' (λ n lt. k.shape n x lt) (p.temps x hidden (sym (k.shape H.act x p.act) ∙ bound));
 }
+
+pub stands_stays : (form : Bool) (H : Here) {g g' : Tags} {s s' : Store} → Shaped g s g' s' → AreScopes s → AreScopes s' → StandsIn form H g s → StandsIn form H g' s'
+stands_stays true H k are are' p = in_stays k are are' p
+stands_stays false H k are are' p = tt
 
 pub same_slot : (a b : ℕ) (x : List ℕ) → slot a x ≡ slot b x → a ≡ b
 same_slot a b x e = cc

@@ -1,5 +1,5 @@
 -- The law of each form of a guest's module, one line a form.
-use Rattle.std.proofs.Common.{◌≡◌, ℕ, zero, suc, ◌≤◌, ◌<◌, ◌+◌, true, false, Some, None, refl, sym, subst, arith}
+use Rattle.std.proofs.Common.{Bool, ◌≡◌, ℕ, zero, suc, ◌≤◌, ◌<◌, ◌+◌, true, false, Some, None, refl, sym, subst, arith}
 use Rattle.cajita_tree.specs.Tree as c
 use Rattle.cajita_rewrite.specs.Rewrite.{rewritten, temps}
 use Rattle.es3_tree.specs.declared.BinOp.TheVariants as bin
@@ -8,7 +8,7 @@ use Rattle.es3_language.specs.Store.{Store}
 use Rattle.es3_language.specs.Meaning as Target
 use Rattle.cajita_simulation.specs.Guest.{Guest}
 use Rattle.cajita_simulation.proofs.Relation.{Here}
-use Rattle.cajita_simulation.proofs.Laws.{ValueBody, EffectBody, OwnBody, BareBody, bare_effect, bare_own, value_law, effect_law, own_law, value_zero, effect_zero, own_zero}
+use Rattle.cajita_simulation.proofs.Laws.{ValueBody, EffectBody, OwnBody, BareBody, bare_effect, bare_own, value_law, effect_law, effect_entered, own_law, value_zero, effect_zero, entered_zero, own_zero}
 use Rattle.cajita_simulation.proofs.Forms.Values.{Values}
 use Rattle.cajita_simulation.proofs.Forms.Own.{Owns}
 use Rattle.cajita_simulation.proofs.Forms.List.{Effects}
@@ -24,8 +24,8 @@ use Rattle.cajita_simulation.proofs.Forms.Behind.{behind_body, behind_key_body}
 use Rattle.cajita_simulation.proofs.Forms.Function.{function_body}
 use Rattle.cajita_simulation.proofs.Forms.OwnName.{own_name_body}
 use Rattle.cajita_simulation.proofs.Forms.Read.{read_body}
-use Rattle.cajita_simulation.proofs.Calling.Laws.{ClosureLaw, NativeLaw}
-use Rattle.cajita_simulation.proofs.Calling.Body.{closure_law}
+use Rattle.cajita_simulation.proofs.Calling.Laws.{NativeAt, ClosureAt, ClosureLaw, NativeLaw}
+use Rattle.cajita_simulation.proofs.Calling.Body.{Entries, closure_law}
 use Rattle.cajita_simulation.proofs.Calling.Native.{native_zero, native_law}
 use Rattle.cajita_simulation.proofs.Forms.Call.{call_body}
 use Rattle.cajita_simulation.proofs.Forms.Method.{method_body, new_body}
@@ -219,21 +219,23 @@ record Laws (d : ℕ) : Type 0 where
   values : (H : Here) → H.by < 64 → Values H d
   types : (H : Here) → H.by < 64 → Types H d
   effects : (H : Here) → H.by < 64 → Effects H d
+  entries : (H : Here) → H.by < 64 → Entries H d
   later : (H : Here) → H.by < 64 → Later H d
-  natives : (H : Here) → H.by < 64 → NativeLaw H d
+  natives : (form : Bool) (H : Here) → H.by < 64 → NativeAt form H d
 
 laws : (d : ℕ) → Laws d
-laws zero = record { values = λ H few b e g. value_zero; types = λ H few b e g. type_zero; effects = λ H few b x g. effect_zero; later = λ H few b q bt bu bx e u x ge gu gx pt pu p. later_zero; natives = λ H few. native_zero }
+laws zero = record { values = λ H few b e g. value_zero; types = λ H few b e g. type_zero; effects = λ H few b x g. effect_zero; entries = λ H few b x g. entered_zero; later = λ H few b q bt bu bx e u x ge gu gx pt pu p. later_zero; natives = λ form H few. native_zero }
 laws (suc d) =
     let l = laws d in
     record {
-      values = λ H few b e g. value_law (value_body few (closure_law l.effects H) (l.natives H few) (l.values H few) (l.types H few) b e g);
-      types = λ H few b e g. type_body b e g (value_body few (closure_law l.effects H) (l.natives H few) (l.values H few) (l.types H few) b e g);
+      values = λ H few b e g. value_law (value_body few (closure_law l.effects l.entries H) (l.natives true H few) (l.values H few) (l.types H few) b e g);
+      types = λ H few b e g. type_body b e g (value_body few (closure_law l.effects l.entries H) (l.natives true H few) (l.values H few) (l.types H few) b e g);
       effects = λ H few b x g. effect_law (effect_body few (l.values H few) l.effects (l.later H few) b x g);
+      entries = λ H few b x g. effect_entered (effect_body few (l.values H few) l.effects (l.later H few) b x g);
       later = λ H few b q bt bu bx e u x ge gu gx pt pu p.
-          later_law pt pu p (maybe_body few (closure_law l.effects H) (l.natives H few) (l.values H few) (l.types H few) bu u gu) (maybe_law (l.values H few) bt e ge) (maybe_body few (closure_law l.effects H) (l.natives H few) (l.values H few) (l.types H few) bt e ge) (l.effects H few bx x gx)
+          later_law pt pu p (maybe_body few (closure_law l.effects l.entries H) (l.natives true H few) (l.values H few) (l.types H few) bu u gu) (maybe_law (l.values H few) bt e ge) (maybe_body few (closure_law l.effects l.entries H) (l.natives true H few) (l.values H few) (l.types H few) bt e ge) (l.effects H few bx x gx)
           (effect_body few (l.values H few) l.effects (l.later H few) bx x gx) (l.later H few b q bt bu bx e u x ge gu gx pt pu p);
-      natives = λ H few. native_law few (closure_law l.effects H) (l.natives H few);
+      natives = λ form H few. native_law few (closure_law l.effects l.entries H) (l.natives form H few);
     }
 
 pub owns : (H : Here) → H.by < 64 → (d : ℕ) → Owns H d
@@ -242,7 +244,14 @@ owns H few (suc d) b x g = let l = laws d in own_law (own_body few (l.values H f
 
 -- so do the calls of closures, and those of functions that no module made
 pub closures : (H : Here) (d : ℕ) → ClosureLaw H d
-closures H d = let l = laws d in closure_law l.effects H
+closures H d = let l = laws d in closure_law l.effects l.entries H
 
 pub natives : (H : Here) → H.by < 64 → (d : ℕ) → NativeLaw H d
-natives H few d = let l = laws d in l.natives H few
+natives H few d = let l = laws d in l.natives true H few
+
+-- and those that the page itself makes
+pub page_closures : (H : Here) (d : ℕ) → ClosureAt false H d
+page_closures H d = let l = laws d in closure_law l.effects l.entries H
+
+pub page_natives : (H : Here) → H.by < 64 → (d : ℕ) → NativeAt false H d
+page_natives H few d = let l = laws d in l.natives false H few

@@ -1,67 +1,78 @@
--- What the natives of a page tell: it only grows, and the log prints it part by part.
-use Rattle.std.proofs.Common.{◌≡◌, ℕ, Bool, true, false, List, [], ◌∷◌, ◌++◌, Option, Some, None, Result, Ok, Err, refl, sym, ap}
-use Rattle.std.proofs.lemmas.List.{append-nil}
+-- What a page tells: it only grows, part by part, and touches are asked for as before.
+use Rattle.std.proofs.Common.{◌≡◌, ℕ, Bool, true, false, List, [], ◌∷◌, ◌++◌, Option, Some, None, Result, Ok, Err, refl, sym, ap, ◌∙◌}
+use Rattle.std.proofs.lemmas.List.{append-nil, append_assoc}
 use Rattle.plans.specs.Plans.{Fault}
 use Rattle.es3_heap.specs.declared.value.Value.{Value}
 use Rattle.es3_heap.specs.Objects.{Objects}
 use Rattle.es3_convert.specs.Conversions.{text_of}
-use Rattle.cajita_meaning.specs.Direct.{Item, made, got, touched, passed, granted, said, was_revoked, changed_node, ended, printed}
-use Rattle.heap_rows.specs.Doing as es3
-use Rattle.heap_rows.specs.Doing.{Told}
+use Rattle.cajita_meaning.specs.Direct.{Item}
+use Rattle.heap_rows.specs.Doing.{Told, touched, said, ended, heard}
 use Rattle.row_outcomes.specs.Arguments.{argument}
+use Rattle.row_simulation.specs.RowLaw.{shown}
+use Rattle.row_simulation.proofs.Row.{shown-append}
+use Rattle.guard_runtime.specs.Guards as guards
 use Rattle.page_natives.specs.declared.natives.Callee.{Callee}
 use Rattle.page_natives.specs.declared.natives.Callee.TheVariants as callee
-use Rattle.page_natives.specs.Natives.{Kept, callee_of, can_wait, with_said, with_waiting, kept_by, page_table}
-use Rattle.cajita_simulation.specs.Alike.{printed_told}
-
--- what a call of a native tells
-
-abbrev text_told : ℕ → Result (List ℕ) Fault → List Told
-text_told m (Ok us) = es3.said m us ∷ []
-text_told m (Err f) = []
-
-abbrev callee_told : Option Callee → List Value → Objects → List Told
-callee_told (Some (callee.Say m)) args h = text_told m (text_of h (argument 0 args))
-callee_told f args h = []
-
-said_more : (m : ℕ) (t : Result (List ℕ) Fault) (y : Kept) → (with_said m t y).told ≡ y.told ++ text_told m t
-said_more m (Ok us) y = refl
-said_more m (Err f) y = sym (append-nil y.told)
-
-waits_more : (m : ℕ) (waits : Bool) (v : Value) (y : Kept) → (with_waiting m waits v y).told ≡ y.told ++ []
-waits_more m true v y = sym (append-nil y.told)
-waits_more m false v y = sym (append-nil y.told)
-
-kept_more : (f : Callee) (args : List Value) (h : Objects) (y : Kept) → (kept_by f args h y).told ≡ y.told ++ callee_told (Some f) args h
-kept_more (callee.Say m) args h y = said_more m (text_of h (argument 0 args)) y
-kept_more (callee.Later m) args h y = waits_more m (can_wait h (argument 0 args)) (argument 0 args) y
-kept_more f args h y = sym (append-nil y.told)
-
-abbrev pub told_more : ℕ → List Value → Objects → List Told
-told_more which args h = callee_told (callee_of which) args h
-
-pub told_grows : (which by : ℕ) (this : Value) (args : List Value) (h : Objects) (y : Kept) → (page_table.answer which by this args h y).state.told ≡ y.told ++ told_more which args h
-told_grows which by this args h y = by_callee (callee_of which)
-  where
-    by_callee : (f : Option Callee) → (Rattle.page_natives.specs.Natives.turn_by f by this args h y).state.told ≡ y.told ++ callee_told f args h
-    by_callee (Some f) = kept_more f args h y
-    by_callee None = sym (append-nil y.told)
+use Rattle.page_natives.specs.Natives.{Kept, callee_of, can_wait, tells, with_said, with_waiting, kept_by, turn_by, page_table}
+use Rattle.cajita_simulation.specs.Alike.{heard_by}
 
 -- part by part
 
-pub printed_append : (a b : List Told) → printed_told (a ++ b) ≡ printed_told a ++ printed_told b
-printed_append [] b = refl
-printed_append (es3.said m us ∷ a) b = ap (λ l. said m us ∷ l) (printed_append a b)
-printed_append (es3.touched m t g k ∷ a) b = printed_append a b
+pub heard_append : (b : Bool) (xs ys : List Told) → heard b (xs ++ ys) ≡ heard b xs ++ heard b ys
+heard_append b [] ys = refl
+heard_append true (touched m t g k ∷ xs) ys = ap (λ l. touched m t g k ∷ l) (heard_append true xs ys)
+heard_append false (touched m t g k ∷ xs) ys = heard_append false xs ys
+heard_append b (said m us ∷ xs) ys = ap (λ l. said m us ∷ l) (heard_append b xs ys)
+heard_append b (ended e v ∷ xs) ys = ap (λ l. ended e v ∷ l) (heard_append b xs ys)
 
-pub items_append : (a b : List Item) → printed (a ++ b) ≡ printed a ++ printed b
-items_append [] b = refl
-items_append (made m n ∷ a) b = items_append a b
-items_append (got m n u ∷ a) b = items_append a b
-items_append (touched m t n k ∷ a) b = items_append a b
-items_append (passed m n u ∷ a) b = items_append a b
-items_append (granted m n ∷ a) b = items_append a b
-items_append (said m us ∷ a) b = ap (λ l. said m us ∷ l) (items_append a b)
-items_append (was_revoked m p ∷ a) b = ap (λ l. was_revoked m p ∷ l) (items_append a b)
-items_append (changed_node r k c ∷ a) b = ap (λ l. changed_node r k c ∷ l) (items_append a b)
-items_append (ended m e o ∷ a) b = ap (λ l. ended m e o ∷ l) (items_append a b)
+pub heard_more : (y : Kept) (a b : List Item) → heard_by y (a ++ b) ≡ heard_by y a ++ heard_by y b
+heard_more y a b = ap (heard y.touching) (shown-append a b) ∙ heard_append y.touching (shown a) (shown b)
+
+-- both sides tell the same
+pub items_told : (y : Kept) (z is : List Item) (items : List Told) → shown is ≡ items → heard_by y z ≡ y.told → heard_by y (z ++ is) ≡ y.told ++ heard y.touching items
+items_told y z is items same e = heard_more y z is ∙ ap (λ l. l ++ heard_by y is) e ∙ ap (λ l. y.told ++ heard y.touching l) same
+
+-- what no page tells
+pub shown_quiet : (z more : List Item) → shown more ≡ [] → shown (z ++ more) ≡ shown z
+shown_quiet z more quiet = shown-append z more ∙ ap (λ l. shown z ++ l) quiet ∙ append-nil (shown z)
+
+-- nothing that is told
+pub tells_nothing : (y : Kept) → tells [] y ≡ y
+tells_nothing y = ap (λ (l : List Told). let q : Kept = record y { told = l } in q) (append-nil y.told)
+
+-- what is kept later: more was told, and touches are asked for as before
+pub record TellsMore (a b : Kept) : Type 0 where
+  pub more : List Told
+  pub told : b.told ≡ a.told ++ more
+  pub touching : b.touching ≡ a.touching
+
+pub as_before : (y : Kept) → TellsMore y y
+as_before y = record { more = []; told = sym (append-nil y.told); touching = refl }
+
+pub tells_after : (a b c : Kept) → TellsMore a b → TellsMore b c → TellsMore a c
+tells_after a b c p q = record { more = p.more ++ q.more; told = q.told ∙ ap (λ l. l ++ q.more) p.told ∙ append_assoc a.told p.more q.more; touching = q.touching ∙ p.touching }
+
+pub tells_more : (items : List Told) (y : Kept) → TellsMore y (tells items y)
+tells_more items y = record { more = heard y.touching items; told = refl; touching = refl }
+
+said_more : (m : ℕ) (t : Result (List ℕ) Fault) (y : Kept) → TellsMore y (with_said m t y)
+said_more m (Ok us) y = tells_more (said m us ∷ []) y
+said_more m (Err f) y = as_before y
+
+waits_more : (m : ℕ) (waits : Bool) (v : Value) (y : Kept) → TellsMore y (with_waiting m waits v y)
+waits_more m true v y = record { more = []; told = sym (append-nil y.told); touching = refl }
+waits_more m false v y = as_before y
+
+pub kept_more : (f : Callee) (by : ℕ) (args : List Value) (h : Objects) (y : Kept) → TellsMore y (kept_by f by args h y)
+kept_more (callee.Guard g) by args h y = tells_more (guards.done_of g by args h).items y
+kept_more (callee.Say m) by args h y = said_more m (text_of h (argument 0 args)) y
+kept_more (callee.Later m) by args h y = waits_more m (can_wait h (argument 0 args)) (argument 0 args) y
+kept_more (callee.Set cell) by args h y = record { more = []; told = sym (append-nil y.told); touching = refl }
+kept_more f by args h y = as_before y
+
+pub told_grows : (which by : ℕ) (this : Value) (args : List Value) (h : Objects) (y : Kept) → TellsMore y (page_table.answer which by this args h y).state
+told_grows which by this args h y = by_callee (callee_of which)
+  where
+    by_callee : (f : Option Callee) → TellsMore y (turn_by f by this args h y).state
+    by_callee (Some f) = kept_more f by args h y
+    by_callee None = as_before y

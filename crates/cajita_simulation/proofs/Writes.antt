@@ -146,6 +146,7 @@ rel_assigned {H = H} {T = T} {w = w} {g = g} {s = s} x c v e guest f is r =
         objects = r.all.objects;
         pages = record { cells = r.all.pages.cells; queues = r.all.pages.queues };
         closures = closures_shaped w.objects refl shaped r.all.scopes.are are r.all.closures;
+        waiters = r.all.waiters;
         scopes = subst (λ l. ScopesAre T g (with_list H.by l w.scopes) (with_slot c x e s)) (sym (f.assigns v)) scopes;
         globals = r.all.globals;
         kept = r.all.kept;
@@ -232,6 +233,7 @@ rel_put {w = w} {g = g} {s = s} c x q e u there hidden other no_copy is r =
         objects = r.all.objects;
         pages = r.all.pages;
         closures = closures_shaped w.objects refl shaped r.all.scopes.are are r.all.closures;
+        waiters = r.all.waiters;
         scopes = scopes_put c x q e u there hidden other no_copy is r.all.scopes;
         globals = r.all.globals;
         kept = r.all.kept;
@@ -256,6 +258,7 @@ rel_covers {s = s} f r =
         objects = r.all.objects;
         pages = r.all.pages;
         closures = r.all.closures;
+        waiters = r.all.waiters;
         scopes = record { same = v.same; once = v.once; known = v.known; count = v.count; temps = λ c x hidden. f.covers s c x hidden (v.temps c x hidden); runtime = v.runtime; are = v.are; shared = v.shared };
         globals = r.all.globals;
         kept = r.all.kept;

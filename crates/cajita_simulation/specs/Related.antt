@@ -1,8 +1,9 @@
 -- When the world of the direct meaning and the store of the interpreter are related, with the steps that both took.
-use Rattle.std.specs.Prelude.{◌≡◌, ℕ, ◌+◌, ◌*◌, ◌≤◌, ◌<◌, true, false, List, [], ◌∷◌, length, Some, slice_get, is_some}
+use Rattle.std.specs.Prelude.{◌≡◌, ℕ, ◌+◌, ◌*◌, ◌≤◌, ◌<◌, Bool, true, false, List, [], ◌∷◌, length, Some, slice_get, is_some}
 use Rattle.caja_units.specs.Units.{is_hidden}
 use Rattle.es3_heap.specs.declared.value.FuncKind.TheVariants as kind
 use Rattle.es3_heap.specs.Objects as heap
+use Rattle.es3_heap.specs.Objects.{Objects}
 use Rattle.es3_heap.specs.Properties.{own}
 use Rattle.es3_language.specs.Store.{Store, name_value}
 use Rattle.es3_language.specs.Hoisting.{code_of}
@@ -12,21 +13,27 @@ use Rattle.es3_language.specs.Meaning as Target
 use Rattle.cajita_tree.specs.Tree as c
 use Rattle.rows.specs.Nodes.{Rules}
 use Rattle.cajita_rewrite.specs.Rewrite.{rewritten, runtime_name}
-use Rattle.cajita_meaning.specs.World.{made_name, Object, a_closure, World}
-use Rattle.cajita_meaning.specs.Direct.{Item, printed, Around}
+use Rattle.cajita_meaning.specs.World.{made_name, Value, object, Object, a_closure, World}
+use Rattle.cajita_meaning.specs.Direct.{Item, Around}
 use Rattle.heap_rows.specs.Marks.{simple_mark}
-use Rattle.heap_rows.specs.Opening.{first, place_of, globals_id, runtime_id, imports_id}
+use Rattle.heap_rows.specs.Opening.{first, place_of, globals_id, runtime_id}
 use Rattle.page_natives.specs.Natives.{Kept, page_of}
 use Rattle.row_simulation.specs.Correspond.{Named, ObjectsAre}
 use Rattle.row_simulation.specs.RowLaw.{PagesAre}
 use Rattle.cajita_simulation.specs.Guest.{Names, Guest}
-use Rattle.cajita_simulation.specs.Alike.{shown}
+use Rattle.cajita_simulation.specs.Alike.{heard_by}
 use Rattle.cajita_simulation.specs.Scopes.{Tags, Chained, Temps, no_temps, names_at, ScopesAre}
 
--- where a form stands: what is the same for its page; its surroundings and its module; the scopes around it in the interpreter; the names that it may read and
--- those that it may write; the scope of the activation, which has the temporaries; the object that is `this` in the interpreter
+-- a turn: whether it is the load of a module, and so a program in the interpreter, or a call; and the objects in the interpreter when it began
+pub record Turn : Type 0 where
+  pub load : Bool
+  pub began : Objects
+
+-- where a form stands: what is the same for its page, and for its turn; its surroundings and its module; the scopes around it in the interpreter; the names that it may
+-- read and those that it may write; the scope of the activation, which has the temporaries; the object that is `this` in the interpreter
 pub record Here : Type 0 where
   pub rules : Rules
+  pub turn : Turn
   pub around : Around
   pub by : ℕ
   pub chain : List ℕ
@@ -85,19 +92,32 @@ pub record CodeIs (by : ℕ) (g : Tags) (s : Store) (f : c.Tree c.func) (direct 
 abbrev pub ClosuresAre : (ℕ → List Object) → Tags → Store → Type 0
 ClosuresAre objects g s = (m n : ℕ) (f : c.Tree c.func) (chain : List ℕ) → slice_get (objects m) n ≡ Some (a_closure f chain) → (m < 64) × ((i : ℕ) → Named s.heap (made_name m n) i → CodeIs m g s f chain i)
 
--- the natives of a page know where its runtime and what it may import are
+-- the natives of a page know where its runtime is, and have a place for what each module may import
 pub record KnowsPage (y : Kept) : Type 0 where
   pub runtime : y.runtime ≡ runtime_id
-  pub imports : y.imports ≡ imports_id
+  pub imports : length y.imports ≡ 64
 
--- all of both sides but the place where a form stands: what the log prints is the same, objects, closures, scopes and what a page keeps beside them correspond; and
+-- a closure of a module; each that waits is one
+abbrev pub IsClosure : (ℕ → List Object) → Value → Type 0
+IsClosure objects (object (made_name m n)) = (f : c.Tree c.func) × (chain : List ℕ) × (slice_get (objects m) n ≡ Some (a_closure f chain))
+IsClosure objects v = ⊥
+
+abbrev pub AreClosures : (ℕ → List Object) → List Value → Type 0
+AreClosures objects [] = Unit {0}
+AreClosures objects (v ∷ vs) = IsClosure objects v × AreClosures objects vs
+
+abbrev pub WaitersAre : World → Type 0
+WaitersAre w = (m : ℕ) → AreClosures w.objects (w.queues m)
+
+-- all of both sides but the place where a form stands: what is told is the same, objects, closures, scopes and what a page keeps beside them correspond; and
 -- of 64 steps of the interpreter for each of the direct meaning, k are in hand
 pub record Related (T : Temps) (k : ℕ) (w : World) (z : List Item) (n : ℕ) (g : Tags) (s : Store) (y : Kept) (m : ℕ) : Type 0 where
   pub steps : m + k ≤ 64 * n
-  pub items : printed z ≡ shown y
+  pub items : heard_by y z ≡ y.told
   pub objects : ObjectsAre first place_of w.objects s.heap m
   pub pages : PagesAre s.heap w (page_of y)
   pub closures : ClosuresAre w.objects g s
+  pub waiters : WaitersAre w
   pub scopes : ScopesAre T g w.scopes s
   pub globals : s.globals ≡ globals_id
   pub kept : KnowsPage y
@@ -106,7 +126,20 @@ pub record Related (T : Temps) (k : ℕ) (w : World) (z : List Item) (n : ℕ) (
 abbrev pub Between : World → List Item → ℕ → Tags → Store → Kept → ℕ → Type 0
 Between w z n g s y m = Related no_temps 0 w z n g s y m
 
--- at the place where a form stands
-pub record Rel (H : Here) (T : Temps) (k : ℕ) (w : World) (z : List Item) (n : ℕ) (g : Tags) (s : Store) (y : Kept) (m : ℕ) : Type 0 where
+-- between two turns of a page, after d deeds, which took no steps of their own: each has room for names as a step of the direct meaning and 64 of the interpreter have
+abbrev pub BetweenTurns : ℕ → World → List Item → ℕ → Tags → Store → Kept → ℕ → Type 0
+BetweenTurns d w z n g s y m = Between w z (n + d) g s y (m + 64 * d)
+
+-- a form stands in its scopes; what the page itself calls stands in none
+abbrev pub StandsIn : Bool → Here → Tags → Store → Type 0
+StandsIn true H g s = In H g s
+StandsIn false H g s = Unit {0}
+
+-- at the place of a call, which a form makes or the page
+pub record RelAt (form : Bool) (H : Here) (T : Temps) (k : ℕ) (w : World) (z : List Item) (n : ℕ) (g : Tags) (s : Store) (y : Kept) (m : ℕ) : Type 0 where
   pub all : Related T k w z n g s y m
-  pub here : In H g s
+  pub here : StandsIn form H g s
+
+-- at the place where a form stands
+abbrev pub Rel : Here → Temps → ℕ → World → List Item → ℕ → Tags → Store → Kept → ℕ → Type 0
+Rel H T k w z n g s y m = RelAt true H T k w z n g s y m

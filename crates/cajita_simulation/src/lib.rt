@@ -3,21 +3,32 @@
 //! The definitions stand in specs/ and the laws in proofs/; there is no code. The functions here have no body: their contracts are the laws.
 //!
 //! The direct meaning's world and the interpreter's store are related by specs/Related.antt: objects and what a page keeps by the relation of rows, scopes by their
-//! tags (specs/Scopes.antt), closures by their code. A page begins related; a load begun anywhere in this relation ends in it again, so loads follow one another.
+//! tags (specs/Scopes.antt), closures by their code. A page begins related; a turn begun anywhere in this relation, a load or a call by the page, ends in it again
+//! (specs/Turns.antt), so turns follow one another. A deed of a page takes no steps of its own, but an event may name an object: the relation between turns has
+//! room for that.
 #![tactic(auto)]
 
-ghost use Rattle.std.specs.Prelude.{ℕ, ◌<◌, List, []};
+ghost use Rattle.std.specs.Prelude.{◌≡◌, ℕ, suc, ◌<◌, Bool, List, [], ◌∷◌, ◌++◌, length};
 ghost use Rattle.es3_language.specs.Store.{Store};
 ghost use Rattle.rows.specs.Nodes.{Rules};
 ghost use Rattle.cajita_tree.specs.Tree as c;
-ghost use Rattle.cajita_meaning.specs.World.{Value, World, empty_world};
+ghost use Rattle.cajita_meaning.specs.World.{Value, Pairs, World, empty_world};
 ghost use Rattle.cajita_meaning.specs.Direct.{Item};
-ghost use Rattle.page_natives.specs.Natives.{Kept, first_kept};
+ghost use Rattle.page_natives.specs.Natives.{Kept, new_kept, first_kept, page_of, tells};
+ghost use Rattle.heap_rows.specs.Doing.{Told};
+ghost use Rattle.heap_rows.specs.Opening.{runtime_id, begun};
+ghost use Rattle.es3_heap.specs.Objects.{Objects};
+ghost use Rattle.row_simulation.specs.Correspond.{EsValue, Val, Vals};
+ghost use Rattle.row_simulation.specs.RowLaw.{shown};
+ghost use Rattle.cajita_simulation.specs.Alike.{most_deeds};
+ghost use Rattle.cajita_simulation.specs.Sides.{Lasts};
+ghost use Rattle.cajita_simulation.specs.Places.{PagePlaces, ImportsAre, GrantsAre, LoadBegins};
+ghost use Rattle.cajita_simulation.specs.Turns.{TurnsAlike, load_in, load_turn, load_turn', call_in, key_turn, key_turn', tick_turn, tick_turn', TickBegins};
 ghost use Rattle.cajita_simulation.specs.Guest.{GuestModule};
 ghost use Rattle.cajita_simulation.specs.Scopes.{Tags};
-ghost use Rattle.cajita_simulation.specs.Related.{Between};
-ghost use Rattle.cajita_simulation.specs.Loads.{page_store, ImportsAre, Loads};
+ghost use Rattle.cajita_simulation.specs.Related.{IsClosure, BetweenTurns};
 ghost use Rattle.module_loader.specs.Page.{first_store};
+ghost use Rattle.module_loader.specs.Turns.{page_store};
 ghost use Rattle.cajita_meaning.specs.Imports.{imported};
 ghost use Rattle.cajita_simulation.specs.Correct.{Correct, MayImport, imports_of};
 
@@ -34,14 +45,60 @@ pub fn a_rewritten_module_does_what_its_source_does()
 #[tactic(auto, using(crate::proofs::Theorem::loads))]
 pub fn a_module_loads_wherever_both_sides_are_related()
     ensures { (rules : Rules) (m : c.Tree c.program) (by : ℕ) → by < 64 → GuestModule m
-        → (vs : List Value) (w : World) (z : List Item) (n : ℕ) (g : Tags) (s : Store) (y : Kept) (i : ℕ) → ImportsAre s.heap (imports_of m) vs → Between w z n g s y i
-        → Loads rules m by vs w z n s y i }
+        → (vs : List Value) (d : ℕ) → d < most_deeds → (w : World) (z : List Item) (n : ℕ) (g : Tags) (s : Store) (y : Kept) (i : ℕ) → ImportsAre s.heap y by (imports_of m) vs → BetweenTurns d w z n g s y i
+        → TurnsAlike rules (load_in s) (suc d) (load_turn m by vs w) z n (load_turn' m by s) y i }
 {}
 
 /// Where a page begins, with any number of modules and cells, the two sides are related; and so they are in the page of one module, whose imports correspond.
 #[tactic(auto, using(crate::proofs::Load::Begins::begins, crate::proofs::Load::Begins::begins_one, crate::proofs::Load::Begins::imports_begin))]
 pub fn a_page_begins_related()
-    ensures pages { (modules cells : ℕ) → Between empty_world [] 0 [] (page_store modules cells) first_kept 0 }
-    ensures one { Between empty_world [] 0 [] first_store first_kept 0 }
-    ensures imports { (names : List (List ℕ)) → ImportsAre first_store.heap names (imported 0 names) }
+    ensures pages { (modules cells : ℕ) (touching : Bool) → BetweenTurns 0 empty_world [] 0 [] (page_store modules cells) (new_kept runtime_id touching) 0 }
+    ensures one { BetweenTurns 0 empty_world [] 0 [] first_store first_kept 0 }
+    ensures imports { (names : List (List ℕ)) → ImportsAre first_store.heap first_kept 0 names (imported 0 names) }
+{}
+
+/// Between two turns both sides stay related where both tell the same, and where a deed is done that has no turn.
+#[tactic(auto, using(crate::proofs::Sentences::telling, crate::proofs::Sentences::one_more))]
+pub fn a_page_stays_related()
+    ensures telling { (is : List Item) (items : List Told) → shown is ≡ items → (d : ℕ) (w : World) (z : List Item) (n : ℕ) (g : Tags) (s : Store) (y : Kept) (i : ℕ) → BetweenTurns d w z n g s y i
+        → BetweenTurns d w (z ++ is) n g s (tells items y) i }
+    ensures doing { (d : ℕ) (w : World) (z : List Item) (n : ℕ) (g : Tags) (s : Store) (y : Kept) (i : ℕ) → BetweenTurns d w z n g s y i → BetweenTurns (suc d) w z n g s y i }
+{}
+
+/// Where a page begins, what it begins with stands where its loads look for it; and it stays there as long as what has a name keeps it, as values that correspond still do.
+#[tactic(auto, using(crate::proofs::Load::Places::places_begin, crate::proofs::Load::Places::places_last, crate::proofs::Load::Places::values_last))]
+pub fn a_page_has_its_places()
+    ensures first { (modules cells : ℕ) → PagePlaces modules cells (begun modules cells) }
+    ensures later { (modules cells : ℕ) (a b : Objects) → Lasts a b → PagePlaces modules cells a → PagePlaces modules cells b }
+    ensures values { (a b : Objects) → Lasts a b → (v : Value) (e : EsValue) → Val a v e → Val b v e }
+{}
+
+/// The load of a module begins in a page with both sides related, and what the module imports corresponds: the fixed names, and what it is granted.
+#[tactic(auto, using(crate::proofs::Load::Granted::load_begins))]
+pub fn a_load_begins_related()
+    ensures { (modules cells m : ℕ) → m < modules → m < 64 → (names : List (List ℕ)) (ps : Pairs) (qs : List (List ℕ × EsValue)) (d : ℕ) (w : World) (z : List Item) (n : ℕ) (g : Tags) (s : Store) (y : Kept) (i : ℕ) → PagePlaces modules cells s.heap → GrantsAre s.heap ps qs → BetweenTurns d w z n g s y i
+        → LoadBegins m names ps qs d w z n g s y i }
+{}
+
+/// The key of a value is called alike on both sides, wherever they are related: of any value, with arguments that correspond.
+#[tactic(auto, using(crate::proofs::Turns::key_alike))]
+pub fn a_key_is_called_alike()
+    ensures { (rules : Rules) (m : ℕ) → m < 64 → (key : List ℕ) (vs : List Value) (es : List EsValue) (d : ℕ) → d < most_deeds → (w : World) (z : List Item) (n : ℕ) (g : Tags) (s : Store) (y : Kept) (i : ℕ) → Vals s.heap vs es → length vs < 4294967296 → BetweenTurns d w z n g s y i
+        → TurnsAlike rules (call_in s) (suc d) (key_turn m key vs w) z n (key_turn' m key es s y) y i }
+{}
+
+/// So is a closure that waited.
+#[tactic(auto, using(crate::proofs::Turns::tick_alike))]
+pub fn a_closure_that_waited_is_called_alike()
+    ensures { (rules : Rules) (m : ℕ) → m < 64 → (f : Value) (e : EsValue) (d : ℕ) → d < most_deeds → (w : World) (z : List Item) (n : ℕ) (g : Tags) (s : Store) (y : Kept) (i : ℕ) → IsClosure w.objects f → Val s.heap f e → BetweenTurns d w z n g s y i
+        → TurnsAlike rules (call_in s) (suc d) (tick_turn m f w) z n (tick_turn' m e s) y i }
+{}
+
+/// Where functions wait in a module, the first is a closure, and both sides take it away and are related still; where none waits directly, none waits in the interpreter.
+#[tactic(auto, using(crate::proofs::Waiting::tick_begins, crate::proofs::Waiting::none_waits))]
+pub fn a_tick_begins_related()
+    ensures some { (m : ℕ) (f : Value) (fs : List Value) (d : ℕ) (w : World) (z : List Item) (n : ℕ) (g : Tags) (s : Store) (y : Kept) (i : ℕ) → w.queues m ≡ f ∷ fs → BetweenTurns d w z n g s y i
+        → TickBegins m f fs d w z n g s y i }
+    ensures none { (m d : ℕ) (w : World) (z : List Item) (n : ℕ) (g : Tags) (s : Store) (y : Kept) (i : ℕ) → w.queues m ≡ [] → BetweenTurns d w z n g s y i
+        → (page_of y).queues m ≡ [] }
 {}

@@ -1,3 +1,7 @@
-pub mod Opened
-pub mod Places
-pub mod Told
+pub mod Begun
+pub mod Done
+pub mod Ends
+pub mod Granted
+pub mod Here
+pub mod Loop
+pub mod Turns

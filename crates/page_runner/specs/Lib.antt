@@ -1,3 +1,5 @@
-pub mod Log
-pub mod Text
-pub mod Shown
+pub mod Page
+pub mod Deeds
+pub mod Runner
+pub mod Outcome
+pub mod Texts

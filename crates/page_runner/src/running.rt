@@ -1,96 +1,183 @@
-//! A run of a program, and what it shows.
+//! Pages, and what they show.
 
-ghost use Rattle.std.specs.Prelude.{◌≡◌, ℕ, [], IfOk};
-ghost use Rattle.es3_tree.specs.View.{program};
-ghost use Rattle.es3_language.specs.Meaning.{Run, run_program};
-ghost use Rattle.es3_language.specs.Store.{Store};
+ghost use Rattle.std.specs.Prelude.{◌≡◌, ℕ, ◌≤◌, All, IfOk, length};
 ghost use Rattle.es3_machine.specs.Held.{new_store};
-ghost use Rattle.es3_machine.specs.Machine.{Ran};
-ghost use Rattle.page_natives.specs.Natives.{new_kept, page_table};
-ghost use Rattle.page_runner.specs.Log.{state_after, completion_log, run_log, run_end};
-ghost use Rattle.page_runner.specs.Shown.{ShowsAtOnce};
+ghost use Rattle.heap_rows.specs.Opening.{runtime_id, globals_id};
+ghost use Rattle.global_names.specs.Opening.{text_objects, text_globals};
+ghost use Rattle.page_log.specs.Items.{names_of};
+ghost use Rattle.page_natives.specs.Natives.{kept_of, new_kept};
+ghost use Rattle.module_loader.specs.Turns.{page_store};
+ghost use Rattle.page_runner.specs.Page.{es3_page};
+ghost use Rattle.page_runner.specs.Deeds.{deeds_of, DeedFits};
+ghost use Rattle.page_runner.specs.Runner.{results_of, Holds, Begins};
+ghost use Rattle.page_runner.specs.Outcome.{Shows, ShowsOf, SaysOf, run_from};
+ghost use Rattle.page_runner.specs.Texts.{texts_store};
 
-use crate::log::{completion_line, said_first};
-use crate::{End, Outcome};
+use crate::deeds::Deed;
+use crate::runner::Runner;
 use caja_units::Memory;
-use es3_heap::{Heap, ObjId, Stop};
+use es3_heap::{Stop, Value};
 use es3_machine::Machine;
-use es3_moves::natives::{Completion, Natives};
-use es3_tree::Program;
-use module_loader::Opened;
+use global_names::add_global_names;
+use module_loader::{Opened, open_page};
+use page_log::{Names, log};
 use page_natives::PageNatives;
 use std::alloc::Global;
 
-/// The number of the module that a page of one module has, and of a text that runs as it stands.
-const MAIN: u32 = 0;
-
-/// Runs a program among the natives of a page, over the store of one that was opened, with so many steps. What is shown is what
-/// was said, and then the load.
-pub fn run_opened(alloc: Global, page: Opened, p: Program, steps: u64) -> Result<Outcome, Memory>
-    ensures log { IfOk result (λ o. o.log.items ≡ run_log (run_program page_table (program p) 0 (new_store page.heap page.globals) (new_kept page.runtime page.imports) steps)) }
-    ensures end { IfOk result (λ o. o.end ≡ run_end (run_program page_table (program p) 0 (new_store page.heap page.globals) (new_kept page.runtime page.imports) steps)) }
-{
-    let mut natives = PageNatives::new(alloc, page.runtime, page.imports);
-    let load = run_among(alloc, page.heap, page.globals, &mut natives, p, steps)?;
-    let log = said_first(alloc, &natives.told, &load.log)?;
-    Ok(Outcome { log, end: load.end })
+/// A page: the names of its modules and of its cells, how many of each there are, and what is done in it.
+#[derive(Drop)]
+pub struct Page {
+    pub names: Names,
+    pub modules: u32,
+    pub cells: u32,
+    pub deeds: Vec<Deed>,
 }
 
-/// Runs a program among natives, over a store with this global object, with so many steps. What is shown is the load alone.
-fn run_among<N: Natives>(
+/// How a page ended: all was done, or a fault or the want of a step ended it.
+#[derive(Clone, Copy, Debug, PartialEq, Eq)]
+pub enum End {
+    Done,
+    Number,
+    Depth,
+    Convert,
+    Steps,
+}
+
+/// What a page showed: its log, in bytes, how many lines that has, and how the page ended.
+#[derive(Debug, Drop)]
+pub struct Outcome {
+    pub log: Vec<u8>,
+    pub lines: u64,
+    pub end: End,
+}
+
+/// No module was loaded.
+fn no_results(alloc: Global, modules: u32) -> Result<Vec<Value>, Memory>
+    ensures nothing { IfOk result (λ results. (m : ℕ) → results_of results.items m ≡ Value.Undefined) }
+    ensures count { IfOk result (λ results. length results.items ≡ modules) }
+{
+    let mut results = Vec::new(alloc);
+    for _owner in 0..modules {
+        results.push(Value::Undefined)?;
+    }
+    Ok(results)
+}
+
+/// A page that is opened, before its first deed.
+fn begin(
     alloc: Global,
-    heap: Heap,
-    globals: ObjId,
-    natives: &mut N,
-    p: Program,
+    opened: Opened,
+    modules: u32,
     steps: u64,
-) -> Result<Outcome, Memory>
-    ensures log { IfOk result (λ o. o.log.items ≡ completion_log (run_program N.table (program p) 0 (new_store heap globals) (N.state natives.old) steps)) }
-    ensures end { IfOk result (λ o. o.end ≡ run_end (run_program N.table (program p) 0 (new_store heap globals) (N.state natives.old) steps)) }
-    ensures kept { IfOk result (λ _. state_after (run_program N.table (program p) 0 (new_store heap globals) (N.state natives.old) steps) ≡ N.state natives.new) }
+    touching: bool,
+) -> Result<Runner, Memory>
+    requires few { modules ≤ 64 }
+    ensures holds { IfOk result (λ p. Holds p) }
+    ensures here { IfOk result (λ p. Begins p (new_store opened.heap opened.globals) (new_kept opened.runtime touching) modules steps) }
 {
-    let mut heap = heap;
-    let mut machine = Machine::new(alloc, globals)?;
-    machine.start_program(p, MAIN)?;
-    let answer = machine.run(&mut heap, natives, steps);
-    shown::<N>(alloc, &heap, answer)
+    Ok(Runner {
+        alloc,
+        heap: opened.heap,
+        machine: Machine::new(alloc, opened.globals)?,
+        natives: PageNatives::new(alloc, opened.runtime, touching)?,
+        modules,
+        results: no_results(alloc, modules)?,
+        left: steps,
+    })
 }
 
-/// What a run showed, by what the machine answered.
-#[tactic(auto, using(crate::proofs::Told::done_log, crate::proofs::Told::done_end, crate::proofs::Told::done_state, crate::proofs::Told::fault_log, crate::proofs::Told::fault_end, crate::proofs::Told::fault_state, crate::proofs::Told::spent_log, crate::proofs::Told::spent_end, crate::proofs::Told::spent_state))]
-fn shown<N: Natives>(
-    alloc: Global,
-    heap: &Heap,
-    answer: Result<(Completion, u64), Stop>,
-) -> Result<Outcome, Memory>
-    ensures log { IfOk result (λ o. (r : Run N.State) (steps : ℕ) (s : Store) (z : N.State) → s.heap ≡ heap.now → Ran answer r steps s z → o.log.items ≡ completion_log r) }
-    ensures end { IfOk result (λ o. (r : Run N.State) (steps : ℕ) (s : Store) (z : N.State) → Ran answer r steps s z → o.end ≡ run_end r) }
-    ensures kept { IfOk result (λ _. (r : Run N.State) (steps : ℕ) (s : Store) (z : N.State) → Ran answer r steps s z → state_after r ≡ z) }
-    ensures at_once { ShowsAtOnce answer result }
+/// How a page ended, where memory was not wanting.
+#[tactic(auto, using(crate::proofs::Ends::says_done, crate::proofs::Ends::says_number, crate::proofs::Ends::says_depth, crate::proofs::Ends::says_convert, crate::proofs::Ends::says_steps))]
+fn ended_as(answer: Result<(), Stop>) -> Result<End, Memory>
+    ensures { IfOk result (λ end. SaysOf answer end) }
 {
     match answer {
-        Ok((completion, _taken)) => {
-            let log = completion_line(alloc, heap, &completion)?;
-            Ok(Outcome {
-                log,
-                end: End::Done,
-            })
-        }
-        Err(Stop::Number) => Ok(cut_off(alloc, End::Number)),
-        Err(Stop::Depth) => Ok(cut_off(alloc, End::Depth)),
-        Err(Stop::Convert) => Ok(cut_off(alloc, End::Convert)),
-        Err(Stop::Steps) => Ok(cut_off(alloc, End::Steps)),
+        Ok(()) => Ok(End::Done),
+        Err(Stop::Number) => Ok(End::Number),
+        Err(Stop::Depth) => Ok(End::Depth),
+        Err(Stop::Convert) => Ok(End::Convert),
+        Err(Stop::Steps) => Ok(End::Steps),
         Err(Stop::Memory) => Err(Memory),
     }
 }
 
-/// A load that was cut off has no line.
-fn cut_off(alloc: Global, end: End) -> Outcome
-    ensures log { result.log.items ≡ [] }
-    ensures end { result.end ≡ end }
+/// What a page showed that came to this answer, with what its natives told.
+fn show(
+    alloc: Global,
+    names: &Names,
+    natives: &PageNatives,
+    answer: Result<(), Stop>,
+) -> Result<Outcome, Memory>
+    ensures { IfOk result (λ o. ShowsOf (names_of names.now) (kept_of natives.now) answer o) }
 {
-    Outcome {
-        log: Vec::new(alloc),
-        end,
-    }
+    let end = ended_as(answer)?;
+    let log = log(alloc, names, &natives.told)?;
+    let lines = natives.told.len() as u64;
+    Ok(Outcome { log, lines, end })
+}
+
+/// Runs a page over a store that was opened.
+fn run_opened(
+    alloc: Global,
+    opened: Opened,
+    page: Page,
+    steps: u64,
+    touching: bool,
+) -> Result<Outcome, Memory>
+    requires few_modules { page.modules ≤ 64 }
+    requires fit { All (DeedFits page.modules) page.deeds.items }
+    ensures { IfOk result (λ o. Shows (names_of page.names) (es3_page page.modules (deeds_of page.deeds.items) (new_store opened.heap opened.globals) (new_kept opened.runtime touching) steps) o) }
+{
+    let Page {
+        names,
+        modules,
+        cells: _,
+        deeds,
+    } = page;
+    let mut runner = begin(alloc, opened, modules, steps, touching)?;
+    let answer = runner.run_deeds(deeds);
+    show(alloc, &names, &runner.natives, answer)
+}
+
+/// Runs a page of cajoled modules, with so many steps for all that is done; with a line for each touch, where that is asked for.
+///
+/// # Errors
+///
+/// `Memory` where memory is wanting.
+pub fn run_page(alloc: Global, page: Page, steps: u64, touching: bool) -> Result<Outcome, Memory>
+    requires few_modules { page.modules ≤ 64 }
+    requires few_cells { page.cells ≤ 64 }
+    requires fit { All (DeedFits page.modules) page.deeds.items }
+    ensures { IfOk result (λ o. Shows (names_of page.names) (run_from page (page_store page.modules page.cells) touching steps) o) }
+{
+    let opened = open_page(alloc, page.modules, page.cells)?;
+    run_opened(alloc, opened, page, steps, touching)
+}
+
+/// The store that a page of texts begins in, with the global object of a text (ES3 15.1).
+fn open_texts(alloc: Global, modules: u32, cells: u32) -> Result<Opened, Memory>
+    requires few_modules { modules ≤ 64 }
+    requires few_cells { cells ≤ 64 }
+    ensures heap { IfOk result (λ o. o.heap ≡ text_objects modules cells) }
+    ensures runtime { IfOk result (λ o. o.runtime ≡ runtime_id) }
+    ensures globals { IfOk result (λ o. o.globals ≡ text_globals modules cells) }
+{
+    let mut opened = open_page(alloc, modules, cells)?;
+    opened.globals = add_global_names(alloc, &mut opened.heap)?;
+    Ok(opened)
+}
+
+/// Runs a page whose modules are texts of ECMAScript 3 that run as they stand, with the global names of the standard.
+///
+/// # Errors
+///
+/// `Memory` where memory is wanting.
+pub fn run_texts(alloc: Global, page: Page, steps: u64, touching: bool) -> Result<Outcome, Memory>
+    requires few_modules { page.modules ≤ 64 }
+    requires few_cells { page.cells ≤ 64 }
+    requires fit { All (DeedFits page.modules) page.deeds.items }
+    ensures { IfOk result (λ o. Shows (names_of page.names) (run_from page (texts_store page.modules page.cells) touching steps) o) }
+{
+    let opened = open_texts(alloc, page.modules, page.cells)?;
+    run_opened(alloc, opened, page, steps, touching)
 }

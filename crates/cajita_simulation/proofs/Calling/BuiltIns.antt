@@ -13,12 +13,33 @@ use Rattle.rows.specs.Nodes.{Rules, no_rules, node_seen}
 use Rattle.rows.specs.Table.{row_of}
 use Rattle.heap_rows.specs.Natives.{is_common}
 use Rattle.row_simulation.specs.Among.{IsSightAmong}
-use Rattle.cajita_simulation.proofs.Rows.{EndsPlainly, IsPlain}
+use Rattle.cajita_simulation.proofs.Rows.{EndsPlainly, NoTouches}
 use Rattle.cajita_simulation.proofs.Calling.Calls.{Looked, CallsSeen, EndsCalling, IsCalling}
+
+-- rows that end by themselves and touch nothing
+abbrev pub IsSilent : Row → Type 0
+IsSilent (r.ends e) = EndsPlainly e
+IsSilent (r.settles e) = ⊥
+IsSilent (r.as_text x go) = (us : List ℕ) → IsSilent (go us)
+IsSilent (r.as_number x go) = (n : ℤ) → IsSilent (go n)
+IsSilent (r.as_joined x sep go) = (us : List ℕ) → IsSilent (go us)
+IsSilent (r.as_same x y go) = (b : Bool) → IsSilent (go b)
+IsSilent (r.looks x go) = (s : Sight) → IsSilent (go s)
+IsSilent (r.touches t x k next) = ⊥
+
+silent_touches : (q : Row) → IsSilent q → NoTouches q
+silent_touches (r.ends e) p = tt
+silent_touches (r.settles e) p = tt
+silent_touches (r.as_text x go) p = λ us. silent_touches (go us) (p us)
+silent_touches (r.as_number x go) p = λ n. silent_touches (go n) (p n)
+silent_touches (r.as_joined x sep go) p = λ us. silent_touches (go us) (p us)
+silent_touches (r.as_same x y go) p = λ c. silent_touches (go c) (p c)
+silent_touches (r.looks x go) p = λ s. silent_touches (go s) (p s)
+silent_touches (r.touches t x k next) p = absurd p
 
 -- what is done with a value is done in each way that it may be seen
 
-row_if : (c : Bool) (x y : Row) → IsPlain x → IsPlain y → IsPlain (cond c x y)
+row_if : (c : Bool) (x y : Row) → IsSilent x → IsSilent y → IsSilent (cond c x y)
 row_if true x y p q = p
 row_if false x y p q = q
 
@@ -26,46 +47,46 @@ end_if : (c : Bool) (x y : Ending) → EndsPlainly x → EndsPlainly y → EndsP
 end_if true x y p q = p
 end_if false x y p q = q
 
-text_plain : (go : List ℕ → Row) → ((us : List ℕ) → IsPlain (go us)) → IsPlain (args.on_text go)
+text_plain : (go : List ℕ → Row) → ((us : List ℕ) → IsSilent (go us)) → IsSilent (args.on_text go)
 text_plain go f = by_sight
   where
-    by_sight : (s : Sight) → IsPlain (args.text_seen go s)
+    by_sight : (s : Sight) → IsSilent (args.text_seen go s)
     by_sight (r.a_text us) = f us
     by_sight s = tt
 
-array_plain : (go : List Handle → Row) → ((xs : List Handle) → IsPlain (go xs)) → IsPlain (args.on_array go)
+array_plain : (go : List Handle → Row) → ((xs : List Handle) → IsSilent (go xs)) → IsSilent (args.on_array go)
 array_plain go f = by_sight
   where
-    by_sight : (s : Sight) → IsPlain (args.array_seen go s)
+    by_sight : (s : Sight) → IsSilent (args.array_seen go s)
     by_sight (r.an_array frozen xs) = f xs
     by_sight s = tt
 
-open_plain : (go : List Handle → Ending) → ((xs : List Handle) → EndsPlainly (go xs)) → IsPlain (args.on_open_array go)
+open_plain : (go : List Handle → Ending) → ((xs : List Handle) → EndsPlainly (go xs)) → IsSilent (args.on_open_array go)
 open_plain go f = by_sight
   where
     by_sight : (s : Sight) → EndsPlainly (args.open_seen go s)
     by_sight (r.an_array frozen xs) = end_if frozen (r.throws (codes "not writable")) (go xs) tt (f xs)
     by_sight s = tt
 
-unless_plain : (default go : Row) (s : Sight) → IsPlain default → IsPlain go → IsPlain (args.unless_undefined default go s)
+unless_plain : (default go : Row) (s : Sight) → IsSilent default → IsSilent go → IsSilent (args.unless_undefined default go s)
 unless_plain default go r.nothing p q = p
 unless_plain default go s p q = q
 
-number_plain : (default : ℤ) (x : Handle) (go : ℤ → Row) → ((n : ℤ) → IsPlain (go n)) → IsPlain (args.number_or default x go)
+number_plain : (default : ℤ) (x : Handle) (go : ℤ → Row) → ((n : ℤ) → IsSilent (go n)) → IsSilent (args.number_or default x go)
 number_plain default x go f = λ s. unless_plain (go default) (r.as_number x go) s (f default) f
 
-text_or_plain : (default : List ℕ) (x : Handle) (go : List ℕ → Row) → ((us : List ℕ) → IsPlain (go us)) → IsPlain (args.text_or default x go)
+text_or_plain : (default : List ℕ) (x : Handle) (go : List ℕ → Row) → ((us : List ℕ) → IsSilent (go us)) → IsSilent (args.text_or default x go)
 text_or_plain default x go f = λ s. unless_plain (go default) (r.as_text x go) s (f default) f
 
-texts_plain : (xs : List Handle) (go : List (List ℕ) → Row) → ((uss : List (List ℕ)) → IsPlain (go uss)) → IsPlain (args.as_texts xs go)
+texts_plain : (xs : List Handle) (go : List (List ℕ) → Row) → ((uss : List (List ℕ)) → IsSilent (go uss)) → IsSilent (args.as_texts xs go)
 texts_plain [] go f = f []
 texts_plain (x ∷ xs) go f = λ us. texts_plain xs (λ rest. go (us ∷ rest)) (λ rest. f (us ∷ rest))
 
-numbers_plain : (xs : List Handle) (go : List ℤ → Row) → ((ns : List ℤ) → IsPlain (go ns)) → IsPlain (args.as_numbers xs go)
+numbers_plain : (xs : List Handle) (go : List ℤ → Row) → ((ns : List ℤ) → IsSilent (go ns)) → IsSilent (args.as_numbers xs go)
 numbers_plain [] go f = f []
 numbers_plain (x ∷ xs) go f = λ n. numbers_plain xs (λ rest. go (n ∷ rest)) (λ rest. f (n ∷ rest))
 
-gathered_plain : (xs : List Handle) (go : List Handle → Row) → ((ys : List Handle) → IsPlain (go ys)) → IsPlain (arrays.gathered xs go)
+gathered_plain : (xs : List Handle) (go : List Handle → Row) → ((ys : List Handle) → IsSilent (go ys)) → IsSilent (arrays.gathered xs go)
 gathered_plain [] go f = f []
 gathered_plain (x ∷ xs) go f = λ s. gathered_plain xs (λ ys. go (arrays.items_or_it x s ++ ys)) (λ ys. f (arrays.items_or_it x s ++ ys))
 
@@ -89,7 +110,7 @@ best_plain : (better : ℤ → ℤ → Bool) (ns : List ℤ) → EndsPlainly (co
 best_plain better [] = tt
 best_plain better (n ∷ ns) = tt
 
-most_plain : (better : ℤ → ℤ → Bool) (n : ℕ) → IsPlain (core.best better n)
+most_plain : (better : ℤ → ℤ → Bool) (n : ℕ) → IsSilent (core.best better n)
 most_plain better n = numbers_plain (args.arguments n) (λ ns. r.ends (core.best_end better ns)) (λ ns. best_plain better ns)
 
 code_plain : (us : List ℕ) → EndsPlainly (texts.code_end us)
@@ -132,7 +153,7 @@ EndsItself r.remove_child = ⊥
 EndsItself r.on = ⊥
 EndsItself f = Unit {0}
 
-pub built_in_plain : (rules : Rules) (f : Native) → EndsItself f → (n : ℕ) → IsPlain (row_of rules f n)
+pub built_in_plain : (rules : Rules) (f : Native) → EndsItself f → (n : ℕ) → IsSilent (row_of rules f n)
 built_in_plain rules r.freeze p n = λ s. freeze_plain (args.argument 0 n) s
 built_in_plain rules r.is_frozen p n = λ s. tt
 built_in_plain rules r.copy p n = λ s. copy_plain false (args.argument 0 n) s
@@ -208,6 +229,20 @@ apply_seen b x l s = tt
 pub apply_calling : (n : ℕ) → IsCalling (n - 1) [] (core.apply n)
 apply_calling n = apply_seen (n - 1) (args.argument 0 n) (args.argument 1 n)
 
+-- neither touches anything
+
+call_silent : (n : ℕ) → NoTouches (core.call n)
+call_silent n = λ s. tt
+
+apply_to_silent : (x l : Handle) (s : Sight) → NoTouches (core.apply_to x l s)
+apply_to_silent x l (r.a_function sort) = λ t. tt
+apply_to_silent x l (r.a_stranger true) = λ t. tt
+apply_to_silent x l (r.a_stranger false) = tt
+apply_to_silent x l s = tt
+
+apply_silent : (n : ℕ) → NoTouches (core.apply n)
+apply_silent n = apply_to_silent (args.argument 0 n) (args.argument 1 n)
+
 -- a row that ends by itself ends in no other call than one of what was looked at
 
 ends_calling : (b : ℕ) (e : Ending) (o : Looked) → EndsPlainly e → EndsCalling b o e
@@ -225,7 +260,7 @@ ends_calling b (r.drops_key u k) o p = p
 ends_calling b (r.sets_items u xs x) o p = p
 ends_calling b (r.freezes u) o p = p
 
-plain_calling : (b : ℕ) (q : Row) (o : Looked) → IsPlain q → IsCalling b o q
+plain_calling : (b : ℕ) (q : Row) (o : Looked) → IsSilent q → IsCalling b o q
 plain_calling b (r.ends e) o p = ends_calling b e o p
 plain_calling b (r.settles e) o p = absurd p
 plain_calling b (r.as_text x go) o p = λ us. plain_calling b (go us) o (p us)
@@ -233,7 +268,7 @@ plain_calling b (r.as_number x go) o p = λ n. plain_calling b (go n) o (p n)
 plain_calling b (r.as_joined x sep go) o p = λ us. plain_calling b (go us) o (p us)
 plain_calling b (r.as_same x y go) o p = λ c. plain_calling b (go c) o (p c)
 plain_calling b (r.looks x go) o p = λ s. plain_calling b (go s) ((x, s) ∷ o) (p s)
-plain_calling b (r.touches t x k next) o p = plain_calling b next o p
+plain_calling b (r.touches t x k next) o p = absurd p
 
 -- the rows of nodes
 
@@ -248,18 +283,19 @@ no_node : (go : r.Branch → Row) (s : Sight) → IsSightAmong s → node_seen g
 no_node go (r.a_node b) p = absurd p
 no_node go s p = refl
 
--- a built-in function's row ends by itself or in such a call, whatever rules a page has; or it refuses whatever is no node
+-- a built-in function's row ends by itself or in such a call, whatever rules a page has; or it refuses whatever is no node; it touches nothing
 
 pub record IsOrdinary (f : Native) : Type 0 where
   pub calling : (n : ℕ) → IsCalling (n - 1) [] (row_of no_rules f n)
+  pub silent : (n : ℕ) → NoTouches (row_of no_rules f n)
   pub any : (rules : Rules) (n : ℕ) → row_of rules f n ≡ row_of no_rules f n
 
 not_common : false ≡ true → ⊥
 not_common e = cc
 
 pub built_in_row : (f : Native) → is_common f ≡ true → IsOrdinary f ⊎ ((rules : Rules) (n : ℕ) → Refuses (row_of rules f n))
-built_in_row r.call common = inl (record { calling = call_calling; any = λ rules n. refl })
-built_in_row r.apply common = inl (record { calling = apply_calling; any = λ rules n. refl })
+built_in_row r.call common = inl (record { calling = call_calling; silent = call_silent; any = λ rules n. refl })
+built_in_row r.apply common = inl (record { calling = apply_calling; silent = apply_silent; any = λ rules n. refl })
 built_in_row r.get_tag_name common = inr (λ rules n s p. no_node _ s p)
 built_in_row r.get_parent_node common = inr (λ rules n s p. no_node _ s p)
 built_in_row r.get_child_nodes common = inr (λ rules n s p. no_node _ s p)
@@ -280,4 +316,4 @@ built_in_row r.get common = absurd (not_common common)
 built_in_row r.set common = absurd (not_common common)
 built_in_row r.forward_get common = absurd (not_common common)
 built_in_row r.forward_set common = absurd (not_common common)
-built_in_row f common = inl (record { calling = λ n. plain_calling (n - 1) (row_of no_rules f n) [] (built_in_plain no_rules f tt n); any = λ rules n. refl })
+built_in_row f common = inl (record { calling = λ n. plain_calling (n - 1) (row_of no_rules f n) [] (built_in_plain no_rules f tt n); silent = λ n. silent_touches (row_of no_rules f n) (built_in_plain no_rules f tt n); any = λ rules n. refl })

@@ -25,14 +25,14 @@ use Rattle.row_simulation.proofs.Row.{vals_append, vals_length, handle_is}
 use Rattle.row_simulation.proofs.Sights.{seen_alike, seen_among}
 use Rattle.row_simulation.specs.Among.{IsAmongObjects}
 use Rattle.row_simulation.specs.RowLaw.{ReplyIs}
-use Rattle.page_natives.specs.Natives.{Kept}
+use Rattle.page_natives.specs.Natives.{Kept, tells}
 use Rattle.cajita_simulation.specs.Alike.{GuestFault}
 use Rattle.cajita_simulation.proofs.Doing as Source
-use Rattle.cajita_simulation.proofs.Relation.{EsValue, Val, Vals, ObjectsAre, Here, env_of, Tags, Temps, Rel, rel_less, Stays}
-use Rattle.cajita_simulation.proofs.Laws.{NextValue, value_from, Cont, Cont', M, steps_hold}
+use Rattle.cajita_simulation.proofs.Relation.{RelAt, EsValue, Val, Vals, ObjectsAre, Here, env_of, Tags, Temps, rel_less, Stays}
+use Rattle.cajita_simulation.proofs.Laws.{NextAt, value_from, Cont, Cont', M, steps_hold}
 use Rattle.cajita_simulation.proofs.Rows.{Going, NoSettling, row_on, EndsPlainly, converts_text, converts_number, converts_joined, converts_if, Converts}
 use Rattle.cajita_simulation.proofs.Calling.Callable.{IsCallable, IsFunctionSight, callable_seen, callable_stays}
-use Rattle.cajita_simulation.proofs.Calling.Laws.{ClosureLaw, NativeLaw, applied, call_match}
+use Rattle.cajita_simulation.proofs.Calling.Laws.{NativeAt, ClosureAt, applied, call_match}
 
 -- what was looked at, the last first, and what was seen of each
 abbrev pub Looked : Type 0
@@ -239,19 +239,19 @@ calling_row b few by (r.looks x go) o p a s es w h z v k is =
 calling_row b few by (r.touches t x j next) o p a s es w h z v k is = calling_row b few by next o p a.1 s es w h _ v k is
 
 -- both go on alike by what the row came to: with a value, a throw, or with the call
-reply_calls : {H : Here} {T : Temps} {d k : ℕ} (closures : ClosureLaw H d) (natives : NativeLaw H d) (a : ℕ) → a < d → {w : State} {n : ℕ} {g : Tags} {s : Store} {y : Kept} {m : ℕ} (go : Going) (next : Cont) (next' : Cont') (e : direct.Outcome) → ComesCalling w e → NextValue H T a k w g s m (Source.called_next go next) next' → (b : Reply) (w' : State) (z' : List Item) (s' : Store) → ReplyIs s'.heap e b → Rel H T (suc k) w' z' n g s' y (suc m) → Stays w g s m w' g s' (suc m)
+reply_calls : {form : Bool} {H : Here} {T : Temps} {d k : ℕ} (closures : ClosureAt form H d) (natives : NativeAt form H d) (a : ℕ) → a < d → {w : State} {n : ℕ} {g : Tags} {s : Store} {y : Kept} {m : ℕ} (go : Going) (next : Cont) (next' : Cont') (e : direct.Outcome) → ComesCalling w e → NextAt form H T a k w g s m (Source.called_next go next) next' → (b : Reply) (w' : State) (z' : List Item) (s' : Store) → ReplyIs s'.heap e b → RelAt form H T (suc k) w' z' n g s' y (suc m) → Stays w g s m w' g s' (suc m)
     → M H a (bind (replied (outcome_reply H.around.calls H.by e w') go) next) z' n (bind (Target.reply_plan b (env_of H) s') next') y (suc m)
-reply_calls {H = H} {k = k} closures natives a lt go next next' (direct.gives v) p x (value_reply e) w' z' s' is r1 keep = x.gives.on a (omega arith) v e w' z' _ _ s' _ _ is (rel_less (omega arith) r1) keep
+reply_calls {form = form} {H = H} {k = k} closures natives a lt go next next' (direct.gives v) p x (value_reply e) w' z' s' is r1 keep = x.gives.on a (omega arith) v e w' z' _ _ s' _ _ is (rel_less (omega arith) r1) keep
 reply_calls closures natives a lt go next next' (direct.throws v) p x (throw_reply e) w' z' s' is r1 keep = x.throws.on a (omega arith) v e w' z' _ _ s' _ _ is (rel_less (omega arith) r1) keep
 reply_calls closures natives a lt go next next' (direct.stops f) p x (stop_reply g) w' z' s' is r1 keep = both_stop (steps_hold r1) (is, p, r1.all.items)
-reply_calls {H = H} {k = k} closures natives a lt {n = n} {y = y} {m = m} go next next' (direct.calls recorded f t vs) p x (invoke_reply b f' t' es) w' z' s' is r1 keep =
+reply_calls {form = form} {H = H} {k = k} closures natives a lt {n = n} {y = y} {m = m} go next next' (direct.calls recorded f t vs) p x (invoke_reply b f' t' es) w' z' s' is r1 keep =
     subst (λ q. M H a (bind (replied (call_reply H.around.calls recorded f t vs H.by w') go) next) z' n (bind (applied H q f' t' es s') next') y (suc m)) is.0
-    (call_match {k = k} closures natives recorded a f t f' t' vs es go next next' lt (callable_stays f keep p.0) is.1 is.2 is.3 (λ left. let n = p.1 in omega (arith, n, vals_length s'.heap vs es is.3)) r1 (value_from {j = k} {k = k} (omega arith) (omega arith) keep x))
+    (call_match {k = k} closures natives recorded a f t f' t' vs es go next next' lt (callable_stays f keep p.0) is.1 is.2 is.3 (λ left. let n = p.1 in omega (arith, n, vals_length s'.heap vs es is.3)) (rel_less (omega arith) r1) (value_from {j = k} {k = k} (omega arith) (omega arith) keep x))
 reply_calls closures natives a lt go next next' (direct.lists ks) p x b w' z' s' is r1 keep = absurd p
 reply_calls closures natives a lt go next next' e p x b w' z' s' is r1 keep = absurd is
 
 -- a row that may end in a call, and the guard with the same row
-pub calling_match : {H : Here} {T : Temps} {d k : ℕ} → H.by < 64 → (closures : ClosureLaw H d) (natives : NativeLaw H d) (a : ℕ) → a < d → (q : Row) → IsAmongObjects q → (b : ℕ) → b < 4294967296 → IsCalling b [] q → (vs : List Value) (es : List EsValue) {w : State} {z : List Item} {n : ℕ} {g : Tags} {s : Store} {y : Kept} {m : ℕ} (page : es3.Page) (go : Going) (next : Cont) (next' : Cont') → suc m ≤ 4294967295 → Vals s.heap vs es → Rel H T (suc (suc k)) w z n g s y m → NextValue H T a k w g s m (Source.called_next go next) next'
-    → M H a (bind (replied (done_reply H.around.calls H.by (direct.does H.by q (direct.given vs) w [])) go) next) z n (bind (Target.reply_plan (es3.does place_of H.by q es s.heap page []).done.reply (env_of H) (with_heap s (es3.does place_of H.by q es s.heap page []).done.heap)) next') y (suc m)
-calling_match {H = H} below closures natives a lt q among b short calling vs es {w = w} {s = s} page go next next' few is r1 x =
+pub calling_match : {form : Bool} {H : Here} {T : Temps} {d k : ℕ} → H.by < 64 → (closures : ClosureAt form H d) (natives : NativeAt form H d) (a : ℕ) → a < d → (q : Row) → IsAmongObjects q → (b : ℕ) → b < 4294967296 → IsCalling b [] q → (vs : List Value) (es : List EsValue) {w : State} {z : List Item} {n : ℕ} {g : Tags} {s : Store} {y : Kept} {m : ℕ} (page : es3.Page) (go : Going) (next : Cont) (next' : Cont') → suc m ≤ 4294967295 → Vals s.heap vs es → RelAt form H T (suc (suc k)) w z n g s y m → NextAt form H T a k w g s m (Source.called_next go next) next'
+    → M H a (bind (replied (done_reply H.around.calls H.by (direct.does H.by q (direct.given vs) w [])) go) next) z n (bind (Target.reply_plan (es3.does place_of H.by q es s.heap page []).done.reply (env_of H) (with_heap s (es3.does place_of H.by q es s.heap page []).done.heap)) next') (tells (es3.does place_of H.by q es s.heap page []).done.items y) (suc m)
+calling_match {form = form} {H = H} below closures natives a lt q among b short calling vs es {w = w} {s = s} page go next next' few is r1 x =
     row_on below q among (calling_settling b q [] calling) vs es page go next next' few is r1 (record { on = λ e w' z' s' p r2 k2. reply_calls closures natives a lt go next next' (direct.does H.by q (direct.given vs) w []).outcome (calling_row b short H.by q [] calling among (direct.given vs) es w s.heap [] is r1.all.objects tt) x e w' z' s' p r2 k2 })

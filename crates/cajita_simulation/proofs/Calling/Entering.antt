@@ -15,8 +15,8 @@ use Rattle.cajita_meaning.specs.Direct.{Item}
 use Rattle.page_natives.specs.Natives.{Kept}
 use Rattle.cajita_simulation.specs.Guest as Guest
 use Rattle.cajita_simulation.proofs.Heaps.Lists.{slice_get-push}
-use Rattle.cajita_simulation.proofs.Relation.{EsValue, tag_of_scope, Tags, Here, Temps, Slot, unknown, declared, holds, keys, SlotIs, ScopesAre, ScopeIs, names_at, AreScopes, Place, Captured, In, Rel, Stays}
-use Rattle.cajita_simulation.proofs.Scopes.{passes, in_stays, captured_stays}
+use Rattle.cajita_simulation.proofs.Relation.{StandsIn, RelAt, EsValue, tag_of_scope, Tags, Here, Temps, Slot, unknown, declared, holds, keys, SlotIs, ScopesAre, ScopeIs, names_at, AreScopes, Place, Captured, In, Rel, Stays}
+use Rattle.cajita_simulation.proofs.Scopes.{stands_stays, passes, captured_stays}
 use Rattle.cajita_simulation.proofs.Written.{same_place}
 use Rattle.cajita_simulation.proofs.Writes.{Covers, rel_covers}
 use Rattle.cajita_simulation.proofs.Laws.{Room}
@@ -28,6 +28,7 @@ use Rattle.cajita_simulation.proofs.Calling.Names.{ScopeNames}
 abbrev pub inside : Here → ℕ → ℕ → ℕ → Guest.Names → Guest.Names → List ℕ → List ℕ → ℕ → Here
 inside H by number act vars free direct chain this = record {
   rules = H.rules;
+  turn = H.turn;
   around = record { chain = number ∷ direct; calls = H.around.calls + 1 };
   by = by;
   chain = act ∷ chain;
@@ -158,5 +159,5 @@ module _ {all : Names} {vars free vars1 free1 : Guest.Names} {q : ℕ} (by numbe
   }
 
 -- back in the form that called
-pub rel_back : {H J : Here} {T U : Temps} {i k : ℕ} {u w : State} {z : List Item} {n : ℕ} {g g' : Tags} {t s : Store} {y : Kept} {m : ℕ} → Covers T U → AreScopes t → In H g t → Stays u g t i w g' s m → Rel J U k w z n g' s y m → Rel H T k w z n g' s y m
-rel_back f are here keep r = record { all = (rel_covers f r).all; here = in_stays keep.shaped are r.all.scopes.are here }
+pub rel_back : {form : Bool} {H J : Here} {T U : Temps} {i k : ℕ} {u w : State} {z : List Item} {n : ℕ} {g g' : Tags} {t s : Store} {y : Kept} {m : ℕ} → Covers T U → AreScopes t → StandsIn form H g t → Stays u g t i w g' s m → Rel J U k w z n g' s y m → RelAt form H T k w z n g' s y m
+rel_back {form = form} {H = H} f are here keep r = record { all = (rel_covers f r).all; here = stands_stays form H keep.shaped are r.all.scopes.are here }

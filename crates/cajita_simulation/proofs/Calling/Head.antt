@@ -17,13 +17,11 @@ use Rattle.es3_language.specs.References.{slot, own_arguments, member, reference
 use Rattle.es3_language.specs.Expressions.{read_plan, read_arguments}
 use Rattle.es3_language.specs.Meaning as Target
 use Rattle.cajita_rewrite.specs.Rewrite.{runtime_name, single, var_stmts, args_items, arguments_copy}
-use Rattle.cajita_meaning.specs.Direct.{Item, printed}
-use Rattle.rows.specs.Rows as r
+use Rattle.cajita_meaning.specs.Direct.{Item}
 use Rattle.heap_rows.specs.Doing.{frozen_if}
 use Rattle.heap_rows.specs.Opening.{runtime_id}
-use Rattle.guard_runtime.specs.Guards.{args}
 use Rattle.page_natives.specs.Natives.{Kept, page_table}
-use Rattle.cajita_simulation.specs.Alike.{shown}
+use Rattle.cajita_simulation.specs.Alike.{heard_by}
 use Rattle.cajita_simulation.specs.Guest as Guest
 use Rattle.cajita_simulation.specs.Guest.{is_among}
 use Rattle.cajita_simulation.specs.Scopes.{SharedAre}
@@ -33,6 +31,7 @@ use Rattle.cajita_simulation.proofs.Heaps.Names.{name_value-with_name}
 use Rattle.cajita_simulation.proofs.Heaps.Made.{with_named}
 use Rattle.cajita_simulation.proofs.Heaps.Opened.{IsOpened, opened_kept}
 use Rattle.cajita_simulation.proofs.Heaps.Guards.{args-guard}
+use Rattle.cajita_simulation.proofs.Heaps.Silent.{args-silent}
 use Rattle.cajita_simulation.proofs.Heaps.Arguments.{arguments_object, arguments_new}
 use Rattle.cajita_simulation.proofs.Relation.{EsValue, Here, env_of, Tags, names_at, In}
 use Rattle.cajita_simulation.proofs.Laws.{Cont', M}
@@ -140,7 +139,7 @@ module _ (f : EsValue) (params : List (List ℕ)) (qs : List EsValue) (all : Nam
   pub args_head : (H : Here) (by number : ℕ) (known free : Guest.Names) (direct out : List ℕ) (this : ℕ) (a : Objects) {d : ℕ} {g : Tags} (rest : t.Tree t.items) (stmts : t.Tree t.stmts) {p : Source.Plan} {z : List Item} {n : ℕ} {y : Kept} {m : ℕ} (end' : Cont') (next' : Cont')
       → let J = inside H by number (length s.scopes) known free direct out this in
       In J g (with_scope owner all s) → ((c : ℕ) (e : EsValue) → name_value runtime_name (names_at (with_scope owner all s) c) ≡ Some e → e ≡ es.Obj runtime_id) → IsOpened s.heap → SharedAre a (length s.scopes) s.shared
-      → name_value arguments_name all ≡ None → name_value arguments_copy all ≡ Some es.Undefined → is_among params arguments_copy ≡ false → (suc m ≤ 4294967295 → Answers (env_of J)) → ((q : Store) → Target.var_items rest (env_of J) q ≡ Target.var_items t.no_items (env_of J) q) → suc (suc (suc (suc (suc m)))) ≤ 64 * n → printed z ≡ shown y
+      → name_value arguments_name all ≡ None → name_value arguments_copy all ≡ Some es.Undefined → is_among params arguments_copy ≡ false → (suc m ≤ 4294967295 → Answers (env_of J)) → ((q : Store) → Target.var_items rest (env_of J) q ≡ Target.var_items t.no_items (env_of J) q) → suc (suc (suc (suc (suc m)))) ≤ 64 * n → heard_by y z ≡ y.told
       → (suc (suc (suc (suc (suc (suc m))))) ≤ 4294967295 → M J d p z n (bind (Target.list true stmts None (env_of J) (with_scope owner args_names (args_store by)) end') next') y (suc (suc (suc (suc (suc (suc m)))))))
       → M J d p z n (bind (Target.list true (var_stmts (args_items true rest) stmts) None (env_of J) (with_scope owner all s) end') next') y m
   args_head H by number known free direct out this a {d = d} rest stmts {p = p} {z = z} {n = n} {y = y} {m = m} end' next' here runtime opened shared none bound apart answers no_values fits items x =
@@ -153,7 +152,7 @@ module _ (f : EsValue) (params : List (List ℕ)) (qs : List EsValue) (all : Nam
       let waits : Cont' = λ e s3. bind (Target.on_value_of (λ v1 s2. Target.var_items rest (env_of J) (write (reference chain s0 arguments_copy) v1 s2)) e s3) last in
       right_enter (right_enter (callee_at J (codes "args") (single (t.name arguments_name)) waits (runtime_at here runtime)
       (right_enter (subst (λ q. M J d p z n (bind q (λ e s3. bind (Target.on_value_of (Target.after_argument (Target.called (member (es.Obj runtime_id) (codes "args"))) [] t.no_exprs (env_of J)) e s3) waits)) y (suc (suc (suc (suc (suc m)))))) (sym (arguments_read (env_of J) out refl none))
-      (guard_at J args-guard (object ∷ []) s1 waits (opened_kept s.heap (arguments_object f params qs all) opened) fits items (λ small.
+      (guard_at J args-guard args-silent (object ∷ []) s1 waits (opened_kept s.heap (arguments_object f params qs all) opened) fits items (λ small.
       subst (λ q. M J d p z n (bind q waits) y (suc (suc (suc (suc (suc (suc m))))))) (sym (answers (omega (arith, small)) s1 y refl))
       (subst (λ q. M J d p z n (bind (Target.var_items rest (env_of J) q) last) y (suc (suc (suc (suc (suc (suc m))))))) (sym (args_written a by out shared apart bound))
       (subst (λ q. M J d p z n (bind q last) y (suc (suc (suc (suc (suc (suc m))))))) (sym (no_values (with_scope owner args_names (args_store by))))

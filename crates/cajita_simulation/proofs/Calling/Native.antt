@@ -32,10 +32,10 @@ use Rattle.page_natives.specs.Natives.{Kept, page_table}
 use Rattle.page_natives.proofs.Numbers.{built_ins_are_their_rows, say_has_its_number, later_has_its_number, get_has_its_number, set_has_its_number}
 use Rattle.page_natives.proofs.OwnFunctions.{say_does_its_row, later_does_its_row, get_does_its_row, set_does_its_row}
 use Rattle.cajita_simulation.proofs.Doing as Source
-use Rattle.cajita_simulation.proofs.Relation.{EsValue, Val, Vals, Named, Here, env_of, Tags, Temps, ObjectsAre, Rel, stays_refl}
-use Rattle.cajita_simulation.proofs.Laws.{NextValue, value_from, Cont, Cont', M}
+use Rattle.cajita_simulation.proofs.Relation.{RelAt, EsValue, Val, Vals, Named, Here, env_of, Tags, Temps, ObjectsAre, stays_refl}
+use Rattle.cajita_simulation.proofs.Laws.{NextAt, value_from, Cont, Cont', M}
 use Rattle.cajita_simulation.proofs.Rows.{Going}
-use Rattle.cajita_simulation.proofs.Calling.Laws.{ClosureLaw, NativeLaw, applied, FewValues}
+use Rattle.cajita_simulation.proofs.Calling.Laws.{NativeAt, ClosureAt, applied, FewValues}
 use Rattle.cajita_simulation.proofs.Calling.Receiver.{first_free, no_receiver}
 use Rattle.cajita_simulation.proofs.Calling.BuiltIns.{refusal, Refuses, built_in_row}
 use Rattle.cajita_simulation.proofs.Calling.Natives.{kind_entered, applied_native, self_of, Entered, native_enters, called_row}
@@ -84,10 +84,10 @@ turn_is : (f : Native) → is_common f ≡ true → (by : ℕ) (this : EsValue) 
 turn_is f common by this qs h y came same = built_ins_are_their_rows f common by this qs h y ∙ ap (λ (c : es3.Came). turn_of c.done y) same
 
 -- a built-in function, once both sides have entered it
-built_in_called : {H : Here} {T : Temps} {d k : ℕ} → H.by < 64 → ClosureLaw H d → NativeLaw H d → (b : ℕ) → b < d → (f : Native) → is_common f ≡ true → (i : ℕ) (receiver : Value) (this : EsValue) (us : List Value) (qs : List EsValue) {w : State} {z : List Item} {n : ℕ} {g : Tags} {s : Store} {y : Kept} {m : ℕ} (go : Going) (next : Cont) (next' : Cont') → suc m ≤ 4294967295
-    → Named s.heap (built_name f) i → Val s.heap receiver this → Vals s.heap us qs → length qs < 4294967296 → Rel H T (suc (suc k)) w z n g s y m → NextValue H T b k w g s m (Source.called_next go next) next'
+built_in_called : {form : Bool} {H : Here} {T : Temps} {d k : ℕ} → H.by < 64 → ClosureAt form H d → NativeAt form H d → (b : ℕ) → b < d → (f : Native) → is_common f ≡ true → (i : ℕ) (receiver : Value) (this : EsValue) (us : List Value) (qs : List EsValue) {w : State} {z : List Item} {n : ℕ} {g : Tags} {s : Store} {y : Kept} {m : ℕ} (go : Going) (next : Cont) (next' : Cont') → suc m ≤ 4294967295
+    → Named s.heap (built_name f) i → Val s.heap receiver this → Vals s.heap us qs → length qs < 4294967296 → RelAt form H T (suc (suc k)) w z n g s y m → NextAt form H T b k w g s m (Source.called_next go next) next'
     → Entered H b f (self_of f (built_name f) receiver ∷ us) (number_of f) this qs w z n s y m go next next'
-built_in_called {H = H} {k = k} below closures natives b lt f common i receiver this us qs {w = w} {s = s} {y = y} go next next' few named at args short r x =
+built_in_called {form = form} {H = H} {k = k} below closures natives b lt f common i receiver this us qs {w = w} {s = s} {y = y} go next next' few named at args short r x =
     let self = self_of f (built_name f) receiver in
     let vs : List Value = self ∷ us in
     let self' = self_in f i this in
@@ -96,12 +96,12 @@ built_in_called {H = H} {k = k} below closures natives b lt f common i receiver 
     elim (built_in_row f common) [
       | inl p ↦
           let q = row_of no_rules f (suc (length us)) in
-          called_row {k = k} below closures natives b lt f vs (number_of f) this qs q (tables.built_ins no_rules no_answers f (suc (length us))) (suc (length us) - 1) (omega (arith, long, short)) (p.calling (suc (length us))) vs (self' ∷ qs) go next next' few
+          called_row {k = k} below closures natives b lt f vs (number_of f) this qs q (tables.built_ins no_rules no_answers f (suc (length us))) (p.silent (suc (length us))) (suc (length us) - 1) (omega (arith, long, short)) (p.calling (suc (length us))) vs (self' ∷ qs) go next next' few
           (ap (λ c. direct.does H.by c (direct.given vs) w []) (p.any H.rules (suc (length us))))
           (turn_is f common H.by this qs s.heap y (es3.does place_of H.by q (self' ∷ qs) s.heap empty_page []) (self_same f common H.by (suc (length qs)) i this qs s.heap ∙ ap (λ l. es3.does place_of H.by (row_of no_rules f (suc l)) (self' ∷ qs) s.heap empty_page []) (sym long)))
           (is, args) r x
       | inr p ↦
-          called_row {k = k} below closures natives b lt f vs (number_of f) this qs refusal tt 0 (omega arith) tt [] [] go next next' few
+          called_row {k = k} below closures natives b lt f vs (number_of f) this qs refusal tt tt 0 (omega arith) tt [] [] go next next' few
           (refused_here H.by (row_of H.rules f (suc (length us))) (p H.rules (suc (length us))) self us w (λ n. seen_among w r.all.objects n self self' is))
           (turn_is f common H.by this qs s.heap y (es3.does place_of H.by refusal [] s.heap empty_page []) (refused_there H.by (row_of no_rules f (suc (length qs))) (p no_rules (suc (length qs))) this qs s.heap (seen_there w r.all.objects receiver this at)))
           tt r x
@@ -111,7 +111,7 @@ built_in_called {H = H} {k = k} below closures natives b lt f common i receiver 
 callable_there : (h : Objects) (i : ℕ) {stored : heap.Object} {sort : r.Sort} {k : FuncKind} → heap.object_at h i ≡ Some stored → IsNative sort k stored → heap.callable_of (heap.object_at h i) ≡ Some (record { kind = k; maker = 0 })
 callable_there h i there is = ap heap.callable_of there ∙ is.callable
 
-module _ {H : Here} {T : Temps} {d k : ℕ} (below : H.by < 64) (closures : ClosureLaw H d) (natives : NativeLaw H d) (a : ℕ) (lt : a < suc d) (recorded : Bool) (i : ℕ) (receiver : Value) (this : EsValue) (us : List Value) (qs : List EsValue) {w : State} {z : List Item} {n : ℕ} {g : Tags} {s : Store} {y : Kept} {m : ℕ} (go : Going) (next : Cont) (next' : Cont') (at : Val s.heap receiver this) (args : Vals s.heap us qs) (small : FewValues m qs) (all : Rel H T (suc k) w z n g s y m) (x : NextValue H T a k w g s m (Source.called_next go next) next') where
+module _ {form : Bool} {H : Here} {T : Temps} {d k : ℕ} (below : H.by < 64) (closures : ClosureAt form H d) (natives : NativeAt form H d) (a : ℕ) (lt : a < suc d) (recorded : Bool) (i : ℕ) (receiver : Value) (this : EsValue) (us : List Value) (qs : List EsValue) {w : State} {z : List Item} {n : ℕ} {g : Tags} {s : Store} {y : Kept} {m : ℕ} (go : Going) (next : Cont) (next' : Cont') (at : Val s.heap receiver this) (args : Vals s.heap us qs) (small : FewValues m qs) (all : RelAt form H T k w z n g s y m) (x : NextAt form H T a k w g s m (Source.called_next go next) next') where
   abbrev Called : Name → Native → Type 0
   Called o f = M H a (bind (replied (native_call H.around.calls recorded (Some f) o receiver us H.by w) go) next) z n (bind (applied H recorded (es.Obj i) this qs s) next') y m
 
@@ -121,31 +121,31 @@ module _ {H : Here} {T : Temps} {d k : ℕ} (below : H.by < 64) (closures : Clos
   say_called : (o : ℕ) → Named s.heap (own_name o 0) i → Called (own_name o 0) r.say
   say_called o named =
       let there = all.all.objects.each (own_name o 0) i named in
-      native_enters a k recorded (own_name o 0) r.say i (own_number o 0) receiver this us qs go next next' all (simple_called (own_number o 0) (callable_there s.heap i there.there there.is.1)) (λ b z1 less few r1.
+      native_enters a k recorded (own_name o 0) r.say i (own_number o 0) receiver this us qs go next next' all named (callable_there s.heap i there.there there.is.1) (simple_called (own_number o 0) (callable_there s.heap i there.there there.is.1)) (λ b z1 y1 less few r1.
       own_row {k = k} below b (callee.Say o) r.say (own_number o 0) (own_name o 0) i this us qs (say_does_its_row o) (say_has_its_number o) (tables.built_ins no_rules no_answers r.say (suc (length us))) go next next' few (say_settled H.by (suc (length us)) o us w) named args r1 (value_from {j = k} {k = k} (omega (arith, less)) (omega arith) stays_refl x))
 
   later_called : (o : ℕ) → Named s.heap (own_name o 1) i → Called (own_name o 1) r.later
   later_called o named =
       let there = all.all.objects.each (own_name o 1) i named in
-      native_enters a k recorded (own_name o 1) r.later i (own_number o 1) receiver this us qs go next next' all (simple_called (own_number o 1) (callable_there s.heap i there.there there.is.1)) (λ b z1 less few r1.
+      native_enters a k recorded (own_name o 1) r.later i (own_number o 1) receiver this us qs go next next' all named (callable_there s.heap i there.there there.is.1) (simple_called (own_number o 1) (callable_there s.heap i there.there there.is.1)) (λ b z1 y1 less few r1.
       own_row {k = k} below b (callee.Later o) r.later (own_number o 1) (own_name o 1) i this us qs (later_does_its_row o) (later_has_its_number o) (tables.built_ins no_rules no_answers r.later (suc (length us))) go next next' few (later_settled H.by (suc (length us)) o us w) named args r1 (value_from {j = k} {k = k} (omega (arith, less)) (omega arith) stays_refl x))
 
   get_called : (c : ℕ) → Named s.heap (cell_name c 1) i → Called (cell_name c 1) r.get
   get_called c named =
       let there = all.all.objects.each (cell_name c 1) i named in
-      native_enters a k recorded (cell_name c 1) r.get i (cell_number c 1) receiver this us qs go next next' all (simple_called (cell_number c 1) (callable_there s.heap i there.there there.is.1)) (λ b z1 less few r1.
+      native_enters a k recorded (cell_name c 1) r.get i (cell_number c 1) receiver this us qs go next next' all named (callable_there s.heap i there.there there.is.1) (simple_called (cell_number c 1) (callable_there s.heap i there.there there.is.1)) (λ b z1 y1 less few r1.
       own_row {k = k} below b (callee.Get c) r.get (cell_number c 1) (cell_name c 1) i this us qs (get_does_its_row c) (get_has_its_number c) (tables.built_ins no_rules no_answers r.get (suc (length us))) go next next' few (get_settled H.by c us w) named args r1 (value_from {j = k} {k = k} (omega (arith, less)) (omega arith) stays_refl x))
 
   set_called : (c : ℕ) → Named s.heap (cell_name c 2) i → Called (cell_name c 2) r.set
   set_called c named =
       let there = all.all.objects.each (cell_name c 2) i named in
-      native_enters a k recorded (cell_name c 2) r.set i (cell_number c 2) receiver this us qs go next next' all (simple_called (cell_number c 2) (callable_there s.heap i there.there there.is.1)) (λ b z1 less few r1.
+      native_enters a k recorded (cell_name c 2) r.set i (cell_number c 2) receiver this us qs go next next' all named (callable_there s.heap i there.there there.is.1) (simple_called (cell_number c 2) (callable_there s.heap i there.there there.is.1)) (λ b z1 y1 less few r1.
       own_row {k = k} below b (callee.Set c) r.set (cell_number c 2) (cell_name c 2) i this us qs (set_does_its_row c) (set_has_its_number c) (tables.built_ins no_rules no_answers r.set (suc (length us))) go next next' few (set_settled H.by (suc (length us)) c us w) named args r1 (value_from {j = k} {k = k} (omega (arith, less)) (omega arith) stays_refl x))
 
   built_called : (f : Native) → Named s.heap (built_name f) i → Called (built_name f) f
   built_called f named =
       let there = all.all.objects.each (built_name f) i named in
-      native_enters a k recorded (built_name f) f i (number_of f) receiver this us qs go next next' all (applied_native i (kind_of f) (number_of f) this qs (env_of H) s (callable_there s.heap i there.there there.is.1) (kind_entered (number_of f) (sort_of f) (es.Obj i) this qs (env_of H) s)) (λ b z1 less few r1.
+      native_enters a k recorded (built_name f) f i (number_of f) receiver this us qs go next next' all named (callable_there s.heap i there.there there.is.1) (applied_native i (kind_of f) (number_of f) this qs (env_of H) s (callable_there s.heap i there.there there.is.1) (kind_entered (number_of f) (sort_of f) (es.Obj i) this qs (env_of H) s)) (λ b z1 y1 less few r1.
       built_in_called {k = k} below closures natives b (omega (arith, less, lt)) f there.is.0 i receiver this us qs go next next' few named at args (small (omega (arith, few))) r1 (value_from {j = k} {k = k} (omega (arith, less)) (omega arith) stays_refl x))
 
   same_native : (f q : Native) → (let u : Option Native = Some f in u) ≡ Some q → f ≡ q
@@ -168,8 +168,8 @@ module _ {H : Here} {T : Temps} {d k : ℕ} (below : H.by < 64) (closures : Clos
   by_name (facet_name root j) q e named = absurd (none q e)
   by_name (forward_name o p c j) q e named = absurd (all.all.objects.each (forward_name o p c j) i named).is
 
-pub native_zero : {H : Here} → NativeLaw H 0
+pub native_zero : {form : Bool} {H : Here} → NativeAt form H 0
 native_zero = record { on = λ recorded o f i receiver this us qs go next next' lt known named at args small r x. absurd (omega (arith, lt)) }
 
-pub native_law : {H : Here} {d : ℕ} → H.by < 64 → ClosureLaw H d → NativeLaw H d → NativeLaw H (suc d)
+pub native_law : {form : Bool} {H : Here} {d : ℕ} → H.by < 64 → ClosureAt form H d → NativeAt form H d → NativeAt form H (suc d)
 native_law below closures natives = record { on = λ recorded o f i receiver this us qs go next next' lt known named at args small r x. by_name below closures natives _ lt recorded i receiver this us qs go next next' at args small r x o f known named }

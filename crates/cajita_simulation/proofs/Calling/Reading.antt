@@ -22,7 +22,7 @@ use Rattle.row_simulation.specs.Correspond as rows
 use Rattle.row_simulation.proofs.Relation as row_relation
 use Rattle.row_simulation.proofs.Row as row_laws
 use Rattle.row_simulation.proofs.First.{first_is}
-use Rattle.row_simulation.proofs.Changes.{objects_made, named_keeps, room}
+use Rattle.row_simulation.proofs.Changes.{last_kept, objects_made, named_keeps, room}
 use Rattle.row_simulation.proofs.Added.{objects_with, awaiting_keeps}
 use Rattle.row_simulation.proofs.Arrays.{array_new, array_is}
 use Rattle.cajita_simulation.specs.Guest.{NewFuncs, is_declared}
@@ -31,7 +31,7 @@ use Rattle.cajita_simulation.proofs.Heaps.Made.{with_named, tagged, next_name as
 use Rattle.cajita_simulation.proofs.Heaps.Grown.{grown_last, grown_kept}
 use Rattle.cajita_simulation.proofs.Heaps.Arguments.{arguments_object}
 use Rattle.cajita_simulation.proofs.Heaps.ArgumentItems.{arguments_are_new, arguments_plain}
-use Rattle.cajita_simulation.proofs.Relation.{EsValue, Vals, ObjectsAre, ScopeTag, tag_of_scope, Tags, Temps, Slot, unknown, declared, holds, keys, SlotIs, ScopeIs, SharedAre, ScopesAre, OptVal, AreScopes, ClosuresAre, Related, Shaped, shaped_trans, optval_keep}
+use Rattle.cajita_simulation.proofs.Relation.{closures_wait, EsValue, Vals, ObjectsAre, ScopeTag, tag_of_scope, Tags, Temps, Slot, unknown, declared, holds, keys, SlotIs, ScopeIs, SharedAre, ScopesAre, OptVal, AreScopes, ClosuresAre, Related, Shaped, shaped_trans, optval_keep}
 use Rattle.cajita_simulation.proofs.Written.{value_at-with_value, value_at-with_value-other}
 use Rattle.cajita_simulation.proofs.Shared.{plain_keep, shared_keep}
 use Rattle.cajita_simulation.proofs.Changes.{closures_kept, closures_shaped, scopes_keep}
@@ -41,7 +41,7 @@ use Rattle.cajita_simulation.proofs.Calling.Names.{shown_apart, other_bound}
 use Rattle.cajita_simulation.proofs.Calling.Head.{frozen_array, entry_of, args_names, args_store}
 use Rattle.cajita_simulation.proofs.Declaring.Stores.{all_codes, bare_store, bound_names}
 use Rattle.cajita_simulation.proofs.Declaring.Names.{Placed, name_new, declared_name, all_objects, bound_pairs, objects_world, functions_other, pairs_other}
-use Rattle.cajita_simulation.proofs.Declaring.Relation.{codes_kept}
+use Rattle.cajita_simulation.proofs.Declaring.Relation.{closures_older, codes_kept}
 use Rattle.cajita_simulation.proofs.Declaring.Awaiting.{AllAwait, await_later, Begun, Granted, granted_alike}
 use Rattle.cajita_simulation.proofs.Declaring.Bare.{objects_bare, keeps_bare, await_bare}
 
@@ -195,6 +195,7 @@ related_here {w = w} {g = g} {s = s} fs by direct chain f params us qs all h fit
       objects = begun.objects;
       pages = record { cells = λ a. row_relation.val_keep keeps (w.cells a) _ (r.pages.cells a); queues = λ a. row_relation.vals_keep keeps (w.queues a) _ (r.pages.queues a) };
       closures = begun.closures;
+      waiters = λ j. closures_wait w.objects (objects_world fs direct by (World.with_object by (an_array true us) w)).objects (λ a l q chain' e. closures_older fs direct by (World.with_object by (an_array true us) w).objects a l (World.a_closure q chain') (last_kept by a l (an_array true us) (World.a_closure q chain') w.objects e)) (w.queues j) (r.waiters j);
       scopes = scopes_shared {s = before} (s.shared ++ entry ∷ []) shared scopes;
       globals = r.globals;
       kept = r.kept;

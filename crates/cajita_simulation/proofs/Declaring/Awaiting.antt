@@ -4,7 +4,6 @@ use Rattle.std.specs.Prelude.{codes, slice_get, is_some, ◌||◌}
 use Rattle.std.specs.Cmp.Lexicographic.{same_text}
 use Rattle.std.proofs.lemmas.Option.{slice_get_within}
 use Rattle.caja_units.specs.Units.{same_units}
-use Rattle.es3_tree.specs.Tree as t
 use Rattle.es3_heap.specs.declared.value.Value.TheVariants as es
 use Rattle.es3_heap.specs.declared.value.Class.TheVariants as class
 use Rattle.es3_heap.specs.declared.value.Tag.TheVariants as tag
@@ -18,7 +17,6 @@ use Rattle.cajita_tree.specs.Tree as c
 use Rattle.cajita_meaning.specs.World as World
 use Rattle.cajita_meaning.specs.World.{Pairs, Object, a_closure, made_name, value_at, with_value, with_last, object}
 use Rattle.cajita_meaning.specs.Asking.{func_name}
-use Rattle.cajita_meaning.specs.Direct.{made}
 use Rattle.heap_rows.specs.Marks.{simple_mark}
 use Rattle.heap_rows.specs.Opening.{first, place_of}
 use Rattle.row_simulation.specs.Correspond as rows

@@ -1,5 +1,5 @@
 -- Functions that entry has made, while they have no names: they stand for nothing, and await their names.
-use Rattle.std.proofs.Common.{ℕ, suc, ◌+◌, List, [], ◌∷◌, ◌++◌, length, sym, subst}
+use Rattle.std.proofs.Common.{ℕ, suc, List, [], ◌∷◌, ◌++◌, length, sym, subst}
 use Rattle.es3_heap.specs.Objects.{Objects, with_object}
 use Rattle.es3_language.specs.Store.{Store, Code, with_code, new_function}
 use Rattle.cajita_tree.specs.Tree as c

@@ -28,7 +28,7 @@ use Rattle.cajita_simulation.proofs.Heaps.Names.{name_value-with_name}
 use Rattle.cajita_simulation.proofs.Heaps.Opened.{IsOpened, opened_kept, opened_kept-named}
 use Rattle.cajita_simulation.proofs.Heaps.Functions.{marked_object, prototype_object, opened_kept-function}
 use Rattle.cajita_simulation.proofs.Heaps.Made.{with_named}
-use Rattle.cajita_simulation.proofs.Relation.{ObjectsAre, tag_of_scope, Tags, Temps, OptVal, AreScopes, ClosuresAre, Captured, Related, Shaped, shaped_trans, Stays}
+use Rattle.cajita_simulation.proofs.Relation.{closures_wait, ObjectsAre, tag_of_scope, Tags, Temps, OptVal, AreScopes, ClosuresAre, Captured, Related, Shaped, shaped_trans, Stays}
 use Rattle.cajita_simulation.proofs.Scopes.{stored_is, captured_stays}
 use Rattle.cajita_simulation.proofs.Written.{value_at-with_value}
 use Rattle.cajita_simulation.proofs.Changes.{closures_shaped, scopes_keep}
@@ -149,6 +149,11 @@ scope_alike params vars fs g s by direct chain {objects = objects} below few old
       | false ↦ λ out. rw (pairs_other fs direct by objects pairs x out, functions_other fs (length s.heap.list) names (stored_name x) (stored_out params vars fs x new out)) (Rattle.cajita_simulation.proofs.Relation.optval_keep {i = 0} {j = 0} (record { objects = keeps_all fs g s by direct chain below few old; more = omega arith }) _ _ was)
     ] in cases refl
 
+-- closures that were there are there
+pub closures_older : (fs : c.Tree c.funcs) (direct : List ℕ) (by : ℕ) (objects : ℕ → List Object) (a l : ℕ) (o : Object) → slice_get (objects a) l ≡ Some o → slice_get (all_objects fs direct by objects a) l ≡ Some o
+closures_older c.no_funcs direct by objects a l o e = e
+closures_older (c.more_funcs f fs) direct by objects a l o e = closures_older fs direct by (with_last by (a_closure f direct) objects) a l o (last_kept by a l (a_closure f direct) o objects e)
+
 -- the relation
 pub related_declared : {T T' : Temps} {j k : ℕ} {w : State} {z : List Item} {n : ℕ} {g : Tags} {s : Store} {y : Kept} {m : ℕ} {pairs : Pairs} {owner : store.Owner} {names : store.Names} {vars free : Names} (fs : c.Tree c.funcs) (by : ℕ) (direct chain : List ℕ) → by < 64 → Few fs m → one_each fs m + k ≤ 64 * n → NewScopes T T' pairs owner names (named_store fs chain by s) → Captured vars free by (g ++ tag_of_scope by (next_scope by w) ∷ []) direct chain (with_scope owner names s) → Guest vars free c.funcs fs → Related T j w z n g s y m
     → Related T' k (World.with_scope by pairs (objects_world fs direct by w)) z n (g ++ tag_of_scope by (next_scope by w) ∷ []) (with_scope owner names (named_store fs chain by s)) y (one_each fs m)
@@ -163,14 +168,11 @@ related_declared {w = w} {g = g} {s = s} {owner = owner} {names = names} fs by d
       objects = objects_all fs g s by direct chain below few r.objects;
       pages = record { cells = λ a. row_relation.val_keep keeps (w.cells a) _ (r.pages.cells a); queues = λ a. row_relation.vals_keep keeps (w.queues a) _ (r.pages.queues a) };
       closures = closures_all fs tags scoped by direct chain below few are r.objects captured guest (closures_shaped w.objects {g = g} {s = s} refl (shaped_scope g (tag_of_scope by (next_scope by w)) owner names s) r.scopes.are are r.closures);
+      waiters = λ j. closures_wait w.objects (objects_world fs direct by w).objects (λ a l q chain' e. closures_older fs direct by w.objects a l (a_closure q chain') e) (w.queues j) (r.waiters j);
       scopes = scopes_more by new (scopes_coded (all_codes fs chain s.codes) (scopes_keep keeps r.scopes));
       globals = r.globals;
       kept = r.kept;
     }
-
-pub closures_older : (fs : c.Tree c.funcs) (direct : List ℕ) (by : ℕ) (objects : ℕ → List Object) (a l : ℕ) (o : Object) → slice_get (objects a) l ≡ Some o → slice_get (all_objects fs direct by objects a) l ≡ Some o
-closures_older c.no_funcs direct by objects a l o e = e
-closures_older (c.more_funcs f fs) direct by objects a l o e = closures_older fs direct by (with_last by (a_closure f direct) objects) a l o (last_kept by a l (a_closure f direct) o objects e)
 
 pub stays_declared : {w : State} {g : Tags} {s : Store} {m i j : ℕ} (fs : c.Tree c.funcs) (by : ℕ) (direct chain : List ℕ) (pairs : Pairs) (owner : store.Owner) (names : store.Names) → by < 64 → Few fs m → ObjectsAre first place_of w.objects s.heap m → i ≤ j → Stays w g s i (World.with_scope by pairs (objects_world fs direct by w)) (g ++ tag_of_scope by (next_scope by w) ∷ []) (with_scope owner names (named_store fs chain by s)) j
 stays_declared {w = w} {g = g} {s = s} fs by direct chain pairs owner names below few old le = record {

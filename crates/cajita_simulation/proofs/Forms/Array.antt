@@ -28,7 +28,7 @@ use Rattle.row_outcomes.proofs.Numbers.{first_values}
 use Rattle.guard_runtime.specs.Guards.{initialize_array, initialize_array_of}
 use Rattle.row_simulation.proofs.Row.{vals_length}
 use Rattle.row_simulation.proofs.Tables.{tables}
-use Rattle.page_natives.specs.Natives.{Kept, page_table}
+use Rattle.page_natives.specs.Natives.{Kept, tells}
 use Rattle.cajita_simulation.specs.Guest.{Guest}
 use Rattle.cajita_simulation.proofs.Doing as Source
 use Rattle.cajita_simulation.proofs.Heaps.Guards.{initialize_array-guard}
@@ -57,8 +57,8 @@ guard_named by us h =
     let g = with_object h (array_object us) in
     ap (λ q. initialize_array_of q by (length h.list) g) (ap class_of (object_at-with_object h (array_object us)))
 
-guard_row : (H : Here) (us : List EsValue) (h : Objects) (s : Store) (y : Kept) → length us < 4294967296 → Target.task_plan page_table (Target.native_call 68 (es.Obj runtime_id) (es.Obj (length h.list) ∷ []) (env_of H)) (with_heap s (with_object h (array_object us))) y ≡ (let q = (rows.does place_of H.by (guards.initialize_array (length us)) us h empty_page []).done in Target.reply_plan q.reply (env_of H) (with_heap s q.heap))
-guard_row H us h s y few = ap (λ (d : Done). Target.reply_plan d.reply (env_of H) (with_heap s d.heap)) (guard_named H.by us h ∙ sym (row_named H.by us h few))
+guard_row : (by : ℕ) (us : List EsValue) (h : Objects) → length us < 4294967296 → initialize_array by (es.Obj (length h.list)) (with_object h (array_object us)) ≡ (rows.does place_of by (guards.initialize_array (length us)) us h empty_page []).done
+guard_row by us h few = guard_named by us h ∙ sym (row_named by us h few)
 
 -- from the array on
 array_match : {H : Here} {T : Temps} {d k : ℕ} → H.by < 64 → (vs : List Value) (us : List EsValue) {w : World} {z : List Item} {n : ℕ} {g : Tags} {s : Store} {y : Kept} {m : ℕ} (next : Cont) (next' : Cont') → Vals s.heap vs us → length us ≤ m → Rel H T (suc k) w z n g s y m → NextValue H T d k w g s m next next'
@@ -66,8 +66,8 @@ array_match : {H : Here} {T : Temps} {d k : ℕ} → H.by < 64 → (vs : List Va
 array_match {H = H} {T = T} {d = d} {k = k} below vs us {w = w} {z = z} {n = n} {g = g} {s = s} {y = y} {m = m} next next' are many r x =
     let p0 = bind (Source.act_plan H 1 (Source.kept vs) (Direct.rows guards.initialize_array H.around (0 ∷ []) Direct.give) w) next in
     new_array_match initialize_array-guard [] us next' many r (λ small r1 k1.
-    subst (λ q. M H d p0 z n (bind q next') y (suc m)) (sym (guard_row H us s.heap s y (omega (arith, many, small))))
-    (subst (λ l. M H d p0 z n (let q = (rows.does place_of H.by (guards.initialize_array l) us s.heap empty_page []).done in bind (Target.reply_plan q.reply (env_of H) (with_heap s q.heap)) next') y (suc m)) (vals_length s.heap vs us are)
+    subst (λ (q : Done). M H d p0 z n (bind (Target.reply_plan q.reply (env_of H) (with_heap s q.heap)) next') (tells q.items y) (suc m)) (sym (guard_row H.by us s.heap (omega (arith, many, small))))
+    (subst (λ l. let q = (rows.does place_of H.by (guards.initialize_array l) us s.heap empty_page []).done in M H d p0 z n (bind (Target.reply_plan q.reply (env_of H) (with_heap s q.heap)) next') (tells q.items y) (suc m)) (vals_length s.heap vs us are)
     (row_match below (guards.initialize_array (length vs)) (tables.initialize_array (length vs)) tt vs us empty_page (Source.answered H 1 (Source.kept vs) (Direct.or_throw Direct.give)) next next' small are r (record {
       gives = λ v e w1 z1 s1 is1 r2 keep. x.gives.on d (omega arith) v e w1 z1 _ _ s1 _ _ is1 r2 (stays_trans (stays_step (omega arith)) keep);
       throws = λ v e w1 z1 s1 is1 r2 keep. x.throws.on d (omega arith) v e w1 z1 _ _ s1 _ _ is1 r2 (stays_trans (stays_step (omega arith)) keep);

@@ -67,9 +67,9 @@ rest {H = H} {T = T} {a = a} {k = k} {ex = ex} {ky = ky} {o = o} {p = p} up belo
     let then' : Cont' = λ e1 s1. bind (Target.on_value_of (comma_right (runtime_call (codes "setPub") (triple ex ky (by_one up (temp j)))) (env_of H)) e1 s1) ends' in
     let sets' : Cont' = λ e1 s1. bind (Target.on_value_of (assign_value (slot H.act (temp_name j)) (env_of H)) e1 s1) then' in
     set_enter j (t.unary un.Plus (runtime_call (codes "readPub") (pair ex ky))) then' known r (λ r1.
-    right_enter (read_operands {k = suc (ten k)} {j = suc k} below evx evk (on_read H up l at) _ next (λ e1 s1. bind (Target.on_value_of (convert_plan un.Plus) e1 s1) sets') are.read (rel_less (omega arith) (rel_pay r1)) (omega arith) (omega arith) (throws_past (throws_past (throws_past (throws_past x.throws)))) (λ u f w2 z2 s2 m2 is3 r2 k2.
+    right_enter (read_operands {k = suc (ten k)} {j = suc k} below evx evk (on_read H up l at) _ next (λ e1 s1. bind (Target.on_value_of (convert_plan un.Plus) e1 s1) sets') are.read (rel_less (omega arith) (rel_pay r1)) (omega arith) (omega arith) (throws_past (throws_past (throws_past (throws_past x.throws)))) (λ y2 u f w2 z2 s2 m2 is3 r2 k2.
     numbered_match u f (on_number H up l at u) Target.give next sets' is3 r2 (λ b z3 r3.
-    subst (λ q. M H a (bind q next) z3 n (sets' (Target.gave (es.Num b)) s2) y m2) (sym ((are.counted u).value (number b) w2))
+    subst (λ q. M H a (bind q next) z3 n (sets' (Target.gave (es.Num b)) s2) y2 m2) (sym ((are.counted u).value (number b) w2))
     (temp_match j (number b) (es.Num b) then' known refl r3 (λ s4 r4 k4.
     let T1 = hold H.act (temp_name j) (number b) T in
     let held1 = hold_there H.act (temp_name j) (number b) T in
@@ -78,14 +78,14 @@ rest {H = H} {T = T} {a = a} {k = k} {ex = ex} {ky = ky} {o = o} {p = p} up belo
     let written' : Cont' = λ e1 s1. bind (Target.on_value_of writes e1 s1) ends' in
     let adds' : Cont' = λ e1 s1. bind (Target.on_value_of (binary_left (operator up) (t.num (pos 1)) (env_of H)) e1 s1) written' in
     right_enter (temp_read j (number b) adds' held1 (rel_pay r5) (λ e6 is7 r6.
-    subst (λ q. M H a (bind (asks H (next_number up) (number b ∷ []) w2 (on_next H l at u (number b))) next) z3 n (adds' (Target.gave q) s4) y (suc (suc m5))) (is_number s4.heap b e6 is7)
+    subst (λ q. M H a (bind (asks H (next_number up) (number b ∷ []) w2 (on_next H l at u (number b))) next) z3 n (adds' (Target.gave q) s4) y2 (suc (suc m5))) (is_number s4.heap b e6 is7)
     (one_match up (number b) (es.Num b) b (on_next H l at u (number b)) next written' refl refl r6 (λ r7 f7 z7 is8 r8.
-    subst (λ q. M H a (bind q next) z7 n (bind (writes f7 s4) ends') y (suc (suc (suc m5)))) (sym ((are.next u (number b)).value r7 w2))
+    subst (λ q. M H a (bind q next) z7 n (bind (writes f7 s4) ends') y2 (suc (suc (suc m5)))) (sym ((are.next u (number b)).value r7 w2))
     (let keep = stays_trans (stays_trans (stays_step (omega arith)) k2) (stays_trans k4 (stays_step (omega arith))) in
     let x1 = value_covers (held_covers T H.act (temp_name j) (number b) known) (value_from {j = suc k} {k = suc k} (omega arith) (omega arith) keep x) in
-    guarded_on {j = suc k} {i = suc (suc (suc m5))} below set_pub-guard (guards.set_pub 3) (tables.set_pub 3) set_plain (o ∷ p ∷ r7 ∷ []) (e ∷ h ∷ f7 ∷ []) (on_write H l at u (number b) r7) (λ v w1. Source.give (number b) w1) next ends' (record { plan = refl; kept = refl }) (are.written u (number b) r7) (is5, (is6, (is8, tt))) r8 (omega arith) (omega arith) (throws_past x1.throws) (λ v9 e9 w9 z9 s9 is9 r9 k9.
+    guarded_on {j = suc k} {i = suc (suc (suc m5))} below set_pub-guard (guards.set_pub 3) (tables.set_pub 3) set_plain (o ∷ p ∷ r7 ∷ []) (e ∷ h ∷ f7 ∷ []) (on_write H l at u (number b) r7) (λ v w1. Source.give (number b) w1) next ends' (record { plan = refl; kept = refl }) (are.written u (number b) r7) (is5, (is6, (is8, tt))) r8 (omega arith) (omega arith) (throws_past x1.throws) (λ y9 v9 e9 w9 z9 s9 is9 r9 k9.
     temp_read j (number b) next' held1 r9 (λ e10 is10 r10.
-    x1.gives.on a (omega arith) (number b) e10 w9 z9 n _ s9 y _ is10 (rel_less (omega arith) r10) (stays_trans k9 (stays_step (omega arith)))))))))))))))))
+    x1.gives.on a (omega arith) (number b) e10 w9 z9 n _ s9 y9 _ is10 (rel_less (omega arith) r10) (stays_trans k9 (stays_step (omega arith)))))))))))))))))
 
 pub behind_body : {H : Here} {d b q : ℕ} {e : c.Tree c.expr} {e' : t.Tree t.expr} (up : Bool) → H.by < 64 → (us : List ℕ) → ValueLaw H d (b + 2) q e e' → ValueBody H d b (2 + 0 + (q + 0)) (c.step up false (c.member e (c.fixed us))) (t.comma (with_temps b e' (t.unary un.Plus (runtime_call (codes "readPub") (pair (temp b) (t.text us)))) (runtime_call (codes "setPub") (triple (temp b) (t.text us) (by_one up (temp (b + 1)))))) (temp (b + 1)))
 behind_body {H = H} {b = b} up below us pe = record {

@@ -57,7 +57,7 @@ rest {H = H} {k = k} {v = v} {v' = v'} {ex = ex} {ky = ky} {o = o} {p = p} op ow
     write_operands evx evk (t.binary op (runtime_call (codes "readPub") (pair ex ky)) v') next' r (λ e h m1 le1 is1 is2 r1.
     let writes : EsValue → Store → Target.Plan = λ u s1. Target.do_call (Target.called (member (es.Obj runtime_id) (codes "setPub"))) (e ∷ h ∷ u ∷ []) (env_of H) s1 in
     let then' : Cont' = λ e1 s1. bind (Target.on_value_of writes e1 s1) next' in
-    right_enter (read_operands {k = suc k} {j = suc k} below evx evk (on_read H op v l at) _ next (λ e1 s1. bind (Target.on_value_of (binary_left op v' (env_of H)) e1 s1) then') are.read (rel_less (omega arith) (rel_pay r1)) (omega arith) (omega arith) (throws_past (throws_past x.throws)) (λ u f w2 z2 s2 m2 is3 r2 k2.
+    right_enter (read_operands {k = suc k} {j = suc k} below evx evk (on_read H op v l at) _ next (λ e1 s1. bind (Target.on_value_of (binary_left op v' (env_of H)) e1 s1) then') are.read (rel_less (omega arith) (rel_pay r1)) (omega arith) (omega arith) (throws_past (throws_past x.throws)) (λ y2 u f w2 z2 s2 m2 is3 r2 k2.
     let k3 = stays_trans (stays_step (omega arith)) k2 in
     with_part {j = suc k} {i = m2} {go' = binary_right op f} lt room (omega arith) (omega arith) pv r2 (throws_past (throws_from {j = suc k} {k = suc k} (omega arith) (omega arith) k3 x.throws)) (λ c4 le4 x4 f4 w4 z4 n4 g4 s4 y4 m4 is4 r4 k4.
     binary_match op own u x4 f f4 (on_result H l at u x4) Target.give next then' (val_keep k4.heap u f is3) is4 r4 (λ r5 f5 z5 is5 r6.

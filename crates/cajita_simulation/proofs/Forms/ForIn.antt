@@ -72,23 +72,23 @@ keys_lists by s w =
     let after = direct.and_seen s (direct.way_into s o) seen.values in
     lists_end (pub_keys seen.sight) by after w ([] ++ direct.touching by r.to_keys (direct.way_of after o) (direct.value_of after.values o) [])
 
-keys_goes : {H : Here} {T : Temps} {d k : ℕ} {w0 : State} {n : ℕ} {g : Tags} {s0 : Store} {y : Kept} {m : ℕ} (go : Going) (next : Cont) (next' : Cont') (e : direct.Outcome) → ListsOnly e
-    → ((ks : List (List ℕ)) (f : EsValue) (w : State) (z : List Item) (s : Store) → length ks < 4294967296 → IsList s.heap ks f → Rel H T k w z n g s y (suc m) → Stays w0 g s0 m w g s (suc m) → M H d (bind (go (key_list ks) [] w) next) z n (next' (Target.gave f) s) y (suc m))
-    → ((v : Value) (f : EsValue) (w : State) (z : List Item) (s : Store) → Val s.heap v f → Rel H T k w z n g s y (suc m) → Stays w0 g s0 m w g s (suc m) → M H d (bind (go bad (v ∷ []) w) next) z n (next' (Target.threw f) s) y (suc m))
-    → (b : Reply) (w : State) (z : List Item) (s : Store) → ReplyIs s.heap e b → Rel H T k w z n g s y (suc m) → Stays w0 g s0 m w g s (suc m) → M H d (bind (replied (outcome_reply H.around.calls H.by e w) go) next) z n (bind (Target.reply_plan b (env_of H) s) next') y (suc m)
-keys_goes go next next' (direct.lists ks) few f t (value_reply e) w z s is r k = f ks e w z s few is r k
-keys_goes go next next' (direct.throws v) few f t (throw_reply e) w z s is r k = t v e w z s is r k
-keys_goes go next next' (direct.stops v) few f t (stop_reply e) w z s is r k = both_stop (steps_hold r) (is, few, r.all.items)
-keys_goes go next next' (direct.gives v) few f t b w z s is r k = absurd few
-keys_goes go next next' (direct.calls recorded q u vs) few f t b w z s is r k = absurd few
-keys_goes go next next' _ few f t _ w z s is r k = absurd is
+keys_goes : {H : Here} {T : Temps} {d k : ℕ} {w0 : State} {n : ℕ} {g : Tags} {s0 : Store} {m : ℕ} (go : Going) (next : Cont) (next' : Cont') (e : direct.Outcome) → ListsOnly e
+    → ((y : Kept) (ks : List (List ℕ)) (f : EsValue) (w : State) (z : List Item) (s : Store) → length ks < 4294967296 → IsList s.heap ks f → Rel H T k w z n g s y (suc m) → Stays w0 g s0 m w g s (suc m) → M H d (bind (go (key_list ks) [] w) next) z n (next' (Target.gave f) s) y (suc m))
+    → ((y : Kept) (v : Value) (f : EsValue) (w : State) (z : List Item) (s : Store) → Val s.heap v f → Rel H T k w z n g s y (suc m) → Stays w0 g s0 m w g s (suc m) → M H d (bind (go bad (v ∷ []) w) next) z n (next' (Target.threw f) s) y (suc m))
+    → (y : Kept) (b : Reply) (w : State) (z : List Item) (s : Store) → ReplyIs s.heap e b → Rel H T k w z n g s y (suc m) → Stays w0 g s0 m w g s (suc m) → M H d (bind (replied (outcome_reply H.around.calls H.by e w) go) next) z n (bind (Target.reply_plan b (env_of H) s) next') y (suc m)
+keys_goes go next next' (direct.lists ks) few f t y (value_reply e) w z s is r k = f y ks e w z s few is r k
+keys_goes go next next' (direct.throws v) few f t y (throw_reply e) w z s is r k = t y v e w z s is r k
+keys_goes go next next' (direct.stops v) few f t y (stop_reply e) w z s is r k = both_stop (steps_hold r) (is, few, r.all.items)
+keys_goes go next next' (direct.gives v) few f t y b w z s is r k = absurd few
+keys_goes go next next' (direct.calls recorded q u vs) few f t y b w z s is r k = absurd few
+keys_goes go next next' _ few f t y _ w z s is r k = absurd is
 
 keys_row : {H : Here} {T : Temps} {d k : ℕ} → H.by < 64 → (o : Value) (e : EsValue) {w : State} {z : List Item} {n : ℕ} {g : Tags} {s : Store} {y : Kept} {m : ℕ} (go : Going) (next : Cont) (next' : Cont') → suc m ≤ 4294967295 → Val s.heap o e → Rel H T (suc k) w z n g s y m
-    → ((ks : List (List ℕ)) (f : EsValue) (w' : State) (z' : List Item) (s' : Store) → length ks < 4294967296 → IsList s'.heap ks f → Rel H T k w' z' n g s' y (suc m) → Stays w g s m w' g s' (suc m) → M H d (bind (go (key_list ks) [] w') next) z' n (next' (Target.gave f) s') y (suc m))
-    → ((v : Value) (f : EsValue) (w' : State) (z' : List Item) (s' : Store) → Val s'.heap v f → Rel H T k w' z' n g s' y (suc m) → Stays w g s m w' g s' (suc m) → M H d (bind (go bad (v ∷ []) w') next) z' n (next' (Target.threw f) s') y (suc m))
-    → M H d (bind (asks H guards.keys_pub (o ∷ []) w go) next) z n (bind (Target.task_plan page_table (Target.native_call 75 (es.Obj runtime_id) (e ∷ []) (env_of H)) s y) next') y (suc m)
+    → ((y : Kept) (ks : List (List ℕ)) (f : EsValue) (w' : State) (z' : List Item) (s' : Store) → length ks < 4294967296 → IsList s'.heap ks f → Rel H T k w' z' n g s' y (suc m) → Stays w g s m w' g s' (suc m) → M H d (bind (go (key_list ks) [] w') next) z' n (next' (Target.gave f) s') y (suc m))
+    → ((y : Kept) (v : Value) (f : EsValue) (w' : State) (z' : List Item) (s' : Store) → Val s'.heap v f → Rel H T k w' z' n g s' y (suc m) → Stays w g s m w' g s' (suc m) → M H d (bind (go bad (v ∷ []) w') next) z' n (next' (Target.threw f) s') y (suc m))
+    → M H d (bind (asks H guards.keys_pub (o ∷ []) w go) next) z n (bind (Target.task_plan page_table (Target.native_call 75 (es.Obj runtime_id) (e ∷ []) (env_of H)) s y) next') (Target.task_state page_table (Target.native_call 75 (es.Obj runtime_id) (e ∷ []) (env_of H)) s y) (suc m)
 keys_row {H = H} below o e {w = w} go next next' few is r f t =
-    row_on below guards.keys_pub tables.keys_pub (λ s. tt) (o ∷ []) (e ∷ []) empty_page go next next' few (is, tt) r (record { on = λ b w' z' s' p r1 k1. keys_goes go next next' (direct.does H.by guards.keys_pub (direct.given (o ∷ [])) w []).outcome (keys_lists H.by (direct.given (o ∷ [])) w) f t b w' z' s' p r1 k1 })
+    row_on below guards.keys_pub tables.keys_pub (λ s. tt) (o ∷ []) (e ∷ []) empty_page go next next' few (is, tt) r (record { on = λ {y = y1} b w' z' s' p r1 k1. keys_goes go next next' (direct.does H.by guards.keys_pub (direct.given (o ∷ [])) w []).outcome (keys_lists H.by (direct.given (o ∷ [])) w) f t y1 b w' z' s' p r1 k1 })
 
 -- the key is written to a variable
 variable_write : {H : Here} {T : Temps} {d b : ℕ} (x : List ℕ) (body : c.Tree c.stmt) (ls : List (List ℕ)) (o : Value) (all : List (List ℕ)) → b + 3 < 18446744073709551616 → H.vars x ≡ true → H.free x ≡ true → GuestName x → WriteLaw H T d b (record { target = c.variable x; body = body; labels = ls; object = o }) all (t.assign None (t.name x) (key_of b))
@@ -124,8 +124,8 @@ member_write {H = H} {T = T} {b = b} {bo = bo} {qo = qo} {e = e} {e' = e'} law k
       let q = slots_of T b o all i few r3 in
       let at6 = put 5 (v2 ∷ []) (put 4 (v1 ∷ []) (asked_at o k v)) in
       right_enter (item_steps H g2 s2 b o all i k _ r3.here q small is
-      (guarded_on {k = 12 + j} {j = 12 + j} {i = m2} below set_pub-guard (guards.set_pub 3) (tables.set_pub 3) set_plain (v1 ∷ v2 ∷ text k ∷ []) (u1 ∷ u2 ∷ es.Text k ∷ []) (Source.answered H 6 at6 (Direct.or_throw (λ h. goes))) (λ h w3. Source.act_plan H 7 (put 6 (h ∷ []) at6) goes w3) next K (record { plan = refl; kept = refl }) (record { value = λ h w. refl; thrown = λ h w. refl }) (val_keep k2.heap v1 u1 is1, (is2, (refl, tt))) (rel_steps {k = suc (12 + j)} {m' = suc (suc (suc m2))} (omega arith) (omega (arith, r3.all.steps)) r3) (omega arith) (omega arith) x2 (λ h f w3 z3 s3 is3 r4 k3.
-      go c2 (omega (arith, le1, le2)) 6 (put 6 (h ∷ []) at6) refl f w3 z3 n2 g2 s3 y2 _ r4 (stays_trans (stays_trans (stays_step (omega arith)) k1) (stays_trans (stays_trans (stays_step (omega arith)) k2) (stays_trans (stays_step (omega arith)) k3)))))))));
+      (guarded_on {k = 12 + j} {j = 12 + j} {i = m2} below set_pub-guard (guards.set_pub 3) (tables.set_pub 3) set_plain (v1 ∷ v2 ∷ text k ∷ []) (u1 ∷ u2 ∷ es.Text k ∷ []) (Source.answered H 6 at6 (Direct.or_throw (λ h. goes))) (λ h w3. Source.act_plan H 7 (put 6 (h ∷ []) at6) goes w3) next K (record { plan = refl; kept = refl }) (record { value = λ h w. refl; thrown = λ h w. refl }) (val_keep k2.heap v1 u1 is1, (is2, (refl, tt))) (rel_steps {k = suc (12 + j)} {m' = suc (suc (suc m2))} (omega arith) (omega (arith, r3.all.steps)) r3) (omega arith) (omega arith) x2 (λ y3 h f w3 z3 s3 is3 r4 k3.
+      go c2 (omega (arith, le1, le2)) 6 (put 6 (h ∷ []) at6) refl f w3 z3 n2 g2 s3 y3 _ r4 (stays_trans (stays_trans (stays_step (omega arith)) k1) (stays_trans (stays_trans (stays_step (omega arith)) k2) (stays_trans (stays_step (omega arith)) k3)))))))));
 }
 
 -- what is known of the three temporaries
@@ -185,12 +185,12 @@ for_in_body {H = H} {d = d} {b = b} {q = q} {bb = bb} {qb = qb} {e' = e'} {body 
       temp_read {k = 27 + k} b o _ (hold_there H.act (temp_name b) o T) (rel_steps {k = suc (27 + k)} (omega arith) (omega (arith, r4.all.steps)) r4) (λ f is2 r5.
       guard_match keys_pub-guard (f ∷ []) W r5 (λ small.
       keys_row {k = 26 + k} below o f (Source.answered H 2 (Source.one o) (Direct.by_keys (λ ks. Direct.turn_keys ks x body ls H.around 1))) next W small is2 (rel_steps {k = suc (26 + k)} (omega arith) (omega (arith, r5.all.steps)) r5)
-      (λ all array w2 z2 s3 size listed r6 k2.
+      (λ y2 all array w2 z2 s3 size listed r6 k2.
       let L : KeyLoop = record { target = x; body = body; labels = ls; object = o } in
       let at = temp_at (b + 1) e1 r6 in
       let U1 = puts H.act (temp_name (b + 1)) (keys all) U0 in
       let e2 = put_other H.act (b + 1) (b + 2) (keys all) U0 declared (λ e. omega (arith, e)) (omega (arith, few)) (omega (arith, few)) (put_other H.act b (b + 2) (holds o) T declared (λ e. omega (arith, e)) (omega (arith, few)) (omega (arith, few)) d2) in
-      subst (λ p. M H c1 (bind p next) z2 n1 (W (Target.gave array) s3) y1 (suc (suc (suc (suc (suc (suc (suc m1)))))))) (sym (keys_is L all H 3 1 (put 2 [] (Source.one o)) w2 refl))
+      subst (λ p. M H c1 (bind p next) z2 n1 (W (Target.gave array) s3) y2 (suc (suc (suc (suc (suc (suc (suc m1)))))))) (sym (keys_is L all H 3 1 (put 2 [] (Source.one o)) w2 refl))
       (put_match (b + 1) (keys all) array array at.value K1 at.there listed r6 (λ s4 r7 k3.
       set_enter (b + 2) (t.num (pos 0)) K0 e2 (rel_steps {k = suc (suc (22 + k))} (omega arith) (omega (arith, r7.all.steps)) r7) (λ r8.
       let at2 = temp_at (b + 2) e2 r8 in
@@ -213,8 +213,8 @@ for_in_body {H = H} {d = d} {b = b} {q = q} {bb = bb} {qb = qb} {e' = e'} {body 
         room = λ i. room_three bb qb o all i parts.body_from parts.body_to room;
       }) all c1 k next next' (omega (arith, lt, le1)) refl r9
       (effect_from {j = suc k} {k = suc k} le1 (omega arith) (stays_trans (stays_step (omega arith)) (stays_trans k1 (stays_trans (stays_step (omega arith)) (stays_trans k2 (stays_trans k3 (stays_trans (stays_step (omega arith)) k4)))))) x1)))))))
-      (λ v array w2 z2 s3 is3 r6 k2.
-      x1.throws.on c1 le1 v array w2 z2 n1 g1 s3 y1 _ is3 (rel_less (omega arith) (rel_covers (put_covers T H.act (temp_name b) (holds o) (λ s n y p. (p.0, p.1)) d0) r6)) (stays_trans (stays_step (omega arith)) (stays_trans k1 (stays_trans (stays_step (omega arith)) k2))))))))))));
+      (λ y2 v array w2 z2 s3 is3 r6 k2.
+      x1.throws.on c1 le1 v array w2 z2 n1 g1 s3 y2 _ is3 (rel_less (omega arith) (rel_covers (put_covers T H.act (temp_name b) (holds o) (λ s n y p. (p.0, p.1)) d0) r6)) (stays_trans (stays_step (omega arith)) (stays_trans k1 (stays_trans (stays_step (omega arith)) k2))))))))))));
 }
 
 pub variable_in_body : {H : Here} {d b : ℕ} {e : c.Tree c.expr} {body : c.Tree c.stmt} → H.by < 64 → (x : List ℕ) → H.vars x ≡ true → H.free x ≡ true → GuestName x → ValueLaw H d (b + 3) (temps c.expr e) e (rewritten false c.expr (b + 3) e) → EffectLaw H d (b + 3 + temps c.expr e) (temps c.stmt body) body (rewritten false c.stmt (b + 3 + temps c.expr e) body)

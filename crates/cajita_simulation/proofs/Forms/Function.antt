@@ -16,6 +16,7 @@ use Rattle.row_simulation.proofs.Changes.{room}
 use Rattle.cajita_simulation.specs.Guest.{Guest}
 use Rattle.cajita_simulation.proofs.Doing as Source
 use Rattle.cajita_simulation.proofs.Heaps.Guards.{func-guard}
+use Rattle.cajita_simulation.proofs.Heaps.Silent.{func-silent}
 use Rattle.cajita_simulation.proofs.Heaps.Functions.{opened_kept-function}
 use Rattle.cajita_simulation.proofs.Relation.{Here, env_of, Rel, stays_trans, stays_step, rel_pay}
 use Rattle.cajita_simulation.proofs.Changes.{rel_told}
@@ -31,7 +32,7 @@ function_body {H = H} below params args body guest = record {
       let code = code_of (rewritten false c.func 0 f) H.chain in
       let p0 = bind (Source.expr_plan (c.function f) H w) next in
       callee_match (codes "func") (single (t.function (rewritten false c.func 0 f))) next' r (λ r1.
-      right_enter (guard_at H func-guard (es.Obj (length s.heap.list) ∷ []) (with_code code H.by s) next' (opened_kept-function (length s.codes) (length code.params) H.by s.heap (opened_of r.all.objects)) (steps_hold (rel_pay r1)) r1.all.items (λ small.
+      right_enter (guard_at H func-guard func-silent (es.Obj (length s.heap.list) ∷ []) (with_code code H.by s) next' (opened_kept-function (length s.codes) (length code.params) H.by s.heap (opened_of r.all.objects)) (steps_hold (rel_pay r1)) r1.all.items (λ small.
       subst (λ q. M H a p0 z n (bind q next') y (suc (suc (suc (suc m))))) (sym (func_plan code (env_of H) s y))
       (let r2 = rel_pay r1 in
       let r3 : Rel H T (suc k) (World.with_object H.by (a_closure f H.around.chain) w) z n g (closed_store code H.by s) y (suc (suc (suc (suc m)))) = record {

@@ -191,11 +191,11 @@ turn_match {J = J} {H = H} {T = T} {d = d} L k ks i a j acc {w = w} {z = z} {n =
     (read_temp H g s L.b q.value _ R0 r.here q.zero_is
     (guarded_on {T = T3} {k = 34 + j} {j = suc j} {i = m} L.below in_pub-guard guards.in_pub tables.in_pub in_plain (text k ∷ o ∷ []) (es.Text k ∷ q.value ∷ []) (Source.answered H 2 at1 (Direct.or_throw (λ h. Direct.decide h written others))) (λ v w1. Source.act_plan H 3 (put 2 (v ∷ []) at1) (Direct.decide 2 written others) w1) next R0 (record { plan = refl; kept = refl }) (record { value = λ v w. refl; thrown = λ v w. refl }) (refl, (q.same, tt)) r9 (omega arith) (omega arith)
     (record { on = λ c1 le v f w1 z1 n1 g1 s1 y1 m1 is1 r1 k1. x.throws.on c1 le v f w1 z1 n1 g1 s1 y1 m1 is1 (rel_covers (L.covers i) r1) k1 })
-    (λ v e w1 z1 s1 is1 r1 k1.
+    (λ y1 v e w1 z1 s1 is1 r1 k1.
     decided_match 2 3 (put 2 (v ∷ []) at1) written others (enter (Target.effect_of (inner_of L.written L.body) [] (env_of H)) s1 ends) (ends (Target.normal None) s1) e next R1 is1 r1
     (key_there L k ks v i a j acc next next' lt small is r1 (stays_trans (stays_step (omega arith)) k1) turns x)
-    (subst (λ u. M H a (bind u next) z1 n (R1 (Target.normal None) s1) y (suc (suc (suc (suc (suc (suc (suc (suc (suc (suc m))))))))))) (sym (keys_is L.loop ks H 4 0 (put 3 [] (put 2 (v ∷ []) at1)) w1 refl))
-    (turns a (omega arith) acc w1 z1 n g s1 y _ (rel_less (omega arith) r1) (stays_trans (stays_step (omega arith)) k1)))))))))))
+    (subst (λ u. M H a (bind u next) z1 n (R1 (Target.normal None) s1) y1 (suc (suc (suc (suc (suc (suc (suc (suc (suc (suc m))))))))))) (sym (keys_is L.loop ks H 4 0 (put 3 [] (put 2 (v ∷ []) at1)) w1 refl))
+    (turns a (omega arith) acc w1 z1 n g s1 y1 _ (rel_less (omega arith) r1) (stays_trans (stays_step (omega arith)) k1)))))))))))
 
 -- the counter goes on
 

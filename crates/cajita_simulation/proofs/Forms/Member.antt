@@ -73,7 +73,7 @@ pair_match {H = H} {T = T} {j = j} {k = k} {f = f} {f' = f'} i act next next' be
     right_enter (callee_match (codes "key") (single f') (λ e1 s2. bind (Target.on_value_of (assign_value (slot H.act (temp_name (i + 1))) (env_of H)) e1 s2) next') (rel_pay r2) (λ r3.
     let x1 : Throws H (hold H.act (temp_name i) o T) c1 j w1 g1 s1 m1 next next' = throws_covers (held_covers T H.act (temp_name i) o known) (throws_from {j = j} {k = j} le1 (omega arith) (stays_trans (stays_step (omega (arith, few))) k1) x) in
     with_part {j = j} {i = m1} {go = λ p w2. Source.act_plan H 3 (put 2 (p ∷ []) (Source.one o)) (Direct.the_row guards.key H.around (2 ∷ []) act) w2} (omega arith) (room_held i o before (omega arith) (omega arith) room_f) (omega arith) (omega arith) pf r3 (throws_past x1) (λ c2 le2 p u2 w2 z2 n2 g2 s2 y2 m2 is2 r4 k2.
-    guarded_on {j = j} {i = m2} below key-guard guards.key tables.key (λ us. tt) (p ∷ []) (u2 ∷ []) (Source.answered H 3 (put 2 (p ∷ []) (Source.one o)) (Direct.or_throw act)) (λ q w3. Source.act_plan H 4 (put 3 (q ∷ []) (put 2 (p ∷ []) (Source.one o))) (act 3) w3) next _ (record { plan = refl; kept = refl }) (record { value = λ q w3. refl; thrown = λ q w3. refl }) (is2, tt) r4 (omega arith) (omega arith) (throws_past (throws_from {j = j} {k = j} le2 (omega arith) (stays_trans (stays_step (omega arith)) k2) x1)) (λ q u3 w3 z3 s3 is3 r5 k3.
+    guarded_on {j = j} {i = m2} below key-guard guards.key tables.key (λ us. tt) (p ∷ []) (u2 ∷ []) (Source.answered H 3 (put 2 (p ∷ []) (Source.one o)) (Direct.or_throw act)) (λ q w3. Source.act_plan H 4 (put 3 (q ∷ []) (put 2 (p ∷ []) (Source.one o))) (act 3) w3) next _ (record { plan = refl; kept = refl }) (record { value = λ q w3. refl; thrown = λ q w3. refl }) (is2, tt) r4 (omega arith) (omega arith) (throws_past (throws_from {j = j} {k = j} le2 (omega arith) (stays_trans (stays_step (omega arith)) k2) x1)) (λ y3 q u3 w3 z3 s3 is3 r5 k3.
     temp_match (i + 1) q u3 next' known1 is3 r5 (λ s4 r6 k4.
     let T1 = hold H.act (temp_name i) o T in
     let holding : BothHold H T i o q = record {
@@ -81,17 +81,17 @@ pair_match {H = H} {T = T} {j = j} {k = k} {f = f} {f' = f'} i act next next' be
       key = hold_there H.act (temp_name (i + 1)) q T1;
       covers = covers_trans (held_covers T H.act (temp_name i) o known) (held_covers T1 H.act (temp_name (i + 1)) q known1);
     } in
-    go c2 (omega arith) o p q u3 w3 z3 n2 g2 s4 y2 _ holding (rel_less (omega arith) r6) (stays_trans k1 (stays_trans (stays_step (omega arith)) (stays_trans k2 (stays_trans k3 k4)))))))))))
+    go c2 (omega arith) o p q u3 w3 z3 n2 g2 s4 y3 _ holding (rel_less (omega arith) r6) (stays_trans k1 (stays_trans (stays_step (omega arith)) (stays_trans k2 (stays_trans k3 k4)))))))))))
 
 -- the member is read
 pub read_operands : {H : Here} {T : Temps} {d k j i : ℕ} {ex ky : t.Tree t.expr} {o p : Value} → H.by < 64 → Evaluates H T ex o → Evaluates H T ky p → {w : World} {z : List Item} {n : ℕ} {g : Tags} {s : Store} {y : Kept} {m : ℕ} (go : Going) (on : Value → World → Source.Plan) (next : Cont) (next' : Cont') → Passes go on → Rel H T (suc (suc (suc (suc (suc (suc k)))))) w z n g s y m → j ≤ k → i ≤ m → Throws H T d j w g s i next next'
-    → ((v : Value) (e : EsValue) (w' : World) (z' : List Item) (s' : Store) (m' : ℕ) → Val s'.heap v e → Rel H T k w' z' n g s' y m' → Stays w g s m w' g s' m' → M H d (bind (on v w') next) z' n (next' (Target.gave e) s') y m')
+    → ((y' : Kept) (v : Value) (e : EsValue) (w' : World) (z' : List Item) (s' : Store) (m' : ℕ) → Val s'.heap v e → Rel H T k w' z' n g s' y' m' → Stays w g s m w' g s' m' → M H d (bind (on v w') next) z' n (next' (Target.gave e) s') y' m')
     → M H d (bind (asks H (guards.read_pub 2) (o ∷ p ∷ []) w go) next) z n (enter (Target.value_of (runtime_call (codes "readPub") (pair ex ky)) (env_of H)) s next') y m
 read_operands {ex = ex} {ky = ky} {o = o} {p = p} below evx evk go on next next' goes r less few x f =
     right_enter (callee_match (codes "readPub") (pair ex ky) next' (rel_pay r) (λ r1.
     evx.on _ next' r1 (λ e is1 r2.
     evk.on _ next' r2 (λ h is2 r3.
-    guarded_on below read_pub-guard (guards.read_pub 2) (tables.read_pub 2) read_plain (o ∷ p ∷ []) (e ∷ h ∷ []) go on next next' (record { plan = refl; kept = refl }) goes (is1, (is2, tt)) r3 less (omega (arith, few)) x (λ v u w1 z1 s1 is3 r4 keep. f v u w1 z1 s1 _ is3 r4 (stays_trans (stays_step (omega arith)) keep))))))
+    guarded_on below read_pub-guard (guards.read_pub 2) (tables.read_pub 2) read_plain (o ∷ p ∷ []) (e ∷ h ∷ []) go on next next' (record { plan = refl; kept = refl }) goes (is1, (is2, tt)) r3 less (omega (arith, few)) x (λ y1 v u w1 z1 s1 is3 r4 keep. f y1 v u w1 z1 s1 _ is3 r4 (stays_trans (stays_step (omega arith)) keep))))))
 
 -- the operands of the write, and then what is written
 pub write_operands : {H : Here} {T : Temps} {d k : ℕ} {ex ky : t.Tree t.expr} {o p : Value} → Evaluates H T ex o → Evaluates H T ky p → (x : t.Tree t.expr) {q : Source.Plan} {w : World} {z : List Item} {n : ℕ} {g : Tags} {s : Store} {y : Kept} {m : ℕ} (next' : Cont') → Rel H T (suc (suc (suc (suc (suc k))))) w z n g s y m

@@ -24,12 +24,12 @@ use Rattle.cajita_meaning.specs.Direct.{Item}
 use Rattle.heap_rows.specs.Doing as rows
 use Rattle.heap_rows.specs.Doing.{Done}
 use Rattle.heap_rows.specs.Opening.{place_of, empty_page, runtime_id}
-use Rattle.guard_runtime.specs.Guards.{by_row, list_of, list_in, call_pub_on, on_list}
+use Rattle.guard_runtime.specs.Guards.{by_row, list_of, list_in, call_pub, call_pub_on, construct, on_list}
 use Rattle.row_simulation.specs.Among.{IsAmongObjects}
 use Rattle.row_simulation.proofs.Row.{vals_length, vals_append}
 use Rattle.row_simulation.proofs.Relation as row_relation
 use Rattle.row_simulation.proofs.Tables.{tables}
-use Rattle.page_natives.specs.Natives.{Kept, page_table}
+use Rattle.page_natives.specs.Natives.{Kept, tells, page_table}
 use Rattle.cajita_simulation.specs.Guest.{Guest}
 use Rattle.cajita_simulation.proofs.Doing as Source
 use Rattle.cajita_simulation.proofs.Heaps.Arrays.{array_items_new}
@@ -75,7 +75,7 @@ construct_calling n = λ s. by_sight s
 -- what a guard of a row does, that is given a new array of the values behind others
 pub record IsArrayRow (H : Here) (number : ℕ) (q : ℕ → Row) (front : List EsValue) : Type 0 where
   pub plan : (us : List EsValue) (h : Objects) (s : Store) (y : Kept) → length us < 4294967296 → Target.task_plan page_table (Target.native_call number (es.Obj runtime_id) (front ++ es.Obj (length h.list) ∷ []) (env_of H)) (with_heap s (with_object h (array_object us))) y ≡ (let d = (rows.does place_of H.by (q (length (front ++ us))) (front ++ us) (with_object h (array_object us)) empty_page []).done in Target.reply_plan d.reply (env_of H) (with_heap s d.heap))
-  pub kept : (us : List EsValue) (h : Objects) (s : Store) (y : Kept) → Target.task_state page_table (Target.native_call number (es.Obj runtime_id) (front ++ es.Obj (length h.list) ∷ []) (env_of H)) (with_heap s (with_object h (array_object us))) y ≡ y
+  pub kept : (us : List EsValue) (h : Objects) (s : Store) (y : Kept) → length us < 4294967296 → Target.task_state page_table (Target.native_call number (es.Obj runtime_id) (front ++ es.Obj (length h.list) ∷ []) (env_of H)) (with_heap s (with_object h (array_object us))) y ≡ tells (rows.does place_of H.by (q (length (front ++ us))) (front ++ us) (with_object h (array_object us)) empty_page []).done.items y
 
 -- the list is the array's
 list_new : (h : Objects) (us : List EsValue) → length us < 4294967296 → list_of (with_object h (array_object us)) (es.Obj (length h.list)) ≡ Some us
@@ -83,21 +83,29 @@ list_new h us few =
     let g = with_object h (array_object us) in
     ap (λ q. list_in q g (length h.list)) (ap class_of (object_at-with_object h (array_object us))) ∙ ap (λ (l : List EsValue). let o : Option (List EsValue) = Some l in o) (array_items_new h us few)
 
+call_done : (H : Here) (o k : EsValue) (us : List EsValue) (h : Objects) → length us < 4294967296 → let g = with_object h (array_object us) in call_pub H.by o k (es.Obj (length h.list)) g ≡ by_row (guards.call_pub (suc (suc (length us)))) H.by (o ∷ k ∷ us) g
+call_done H o k us h few =
+    let g = with_object h (array_object us) in
+    let n : 2 + length us ≡ suc (suc (length us)) = omega arith in
+    ap (λ l. call_pub_on l H.by o k g) (list_new h us few) ∙ ap (λ i. by_row (guards.call_pub i) H.by (o ∷ k ∷ us) g) n
+
 call_row : (H : Here) (o k : EsValue) → IsArrayRow H 76 guards.call_pub (o ∷ k ∷ [])
 call_row H o k = record {
   plan = λ us h s y few.
-      let g = with_object h (array_object us) in
-      let n : 2 + length us ≡ suc (suc (length us)) = omega arith in
-      ap (λ (d : Done). Target.reply_plan d.reply (env_of H) (with_heap s d.heap)) (ap (λ l. call_pub_on l H.by o k g) (list_new h us few) ∙ ap (λ i. by_row (guards.call_pub i) H.by (o ∷ k ∷ us) g) n);
-  kept = λ us h s y. refl;
+      ap (λ (d : Done). Target.reply_plan d.reply (env_of H) (with_heap s d.heap)) (call_done H o k us h few);
+  kept = λ us h s y few. ap (λ (d : Done). tells d.items y) (call_done H o k us h few);
 }
+
+construct_done : (H : Here) (f : EsValue) (us : List EsValue) (h : Objects) → length us < 4294967296 → let g = with_object h (array_object us) in construct H.by f (es.Obj (length h.list)) g ≡ by_row (guards.construct (suc (length us))) H.by (f ∷ us) g
+construct_done H f us h few =
+    let g = with_object h (array_object us) in
+    ap (λ l. on_list l H.by g (λ xs. by_row (guards.construct (suc (length xs))) H.by (f ∷ xs) g)) (list_new h us few)
 
 construct_row : (H : Here) (f : EsValue) → IsArrayRow H 78 guards.construct (f ∷ [])
 construct_row H f = record {
   plan = λ us h s y few.
-      let g = with_object h (array_object us) in
-      ap (λ (d : Done). Target.reply_plan d.reply (env_of H) (with_heap s d.heap)) (ap (λ l. on_list l H.by g (λ xs. by_row (guards.construct (suc (length xs))) H.by (f ∷ xs) g)) (list_new h us few));
-  kept = λ us h s y. refl;
+      ap (λ (d : Done). Target.reply_plan d.reply (env_of H) (with_heap s d.heap)) (construct_done H f us h few);
+  kept = λ us h s y few. ap (λ (d : Done). tells d.items y) (construct_done H f us h few);
 }
 
 short : (n l : ℕ) → n ≤ l + 2 → l < 4294967295 → n - 1 < 4294967296
@@ -114,9 +122,9 @@ array_row_match {H = H} {T = T} {k = k} {number = number} below closures natives
     let s1 = with_heap s g1 in
     new_array_match is efront us next' many r0 (λ small r1 k1.
     let all = vals_append g1 front vs efront us (row_relation.vals_keep k1.heap.objects front efront fronts) (row_relation.vals_keep k1.heap.objects vs us are) in
-    subst (λ o. M H a p0 z n (bind (Target.task_plan page_table (Target.native_call number (es.Obj runtime_id) (efront ++ es.Obj (length s.heap.list) ∷ []) (env_of H)) s1 y) next') o (suc m)) (sym (row.kept us s.heap s y))
-    (subst (λ o. M H a p0 z n (bind o next') y (suc m)) (sym (row.plan us s.heap s y (omega (arith, many, small))))
-    (subst (λ l. M H a p0 z n (let d = (rows.does place_of H.by (q l) (efront ++ us) g1 empty_page []).done in bind (Target.reply_plan d.reply (env_of H) (with_heap s d.heap)) next') y (suc m)) (vals_length g1 (front ++ vs) (efront ++ us) all)
+    subst (λ o. M H a p0 z n (bind (Target.task_plan page_table (Target.native_call number (es.Obj runtime_id) (efront ++ es.Obj (length s.heap.list) ∷ []) (env_of H)) s1 y) next') o (suc m)) (sym (row.kept us s.heap s y (omega (arith, many, small))))
+    (subst (λ o. M H a p0 z n (bind o next') (tells (rows.does place_of H.by (q (length (efront ++ us))) (efront ++ us) g1 empty_page []).done.items y) (suc m)) (sym (row.plan us s.heap s y (omega (arith, many, small))))
+    (subst (λ l. let d = (rows.does place_of H.by (q l) (efront ++ us) g1 empty_page []).done in M H a p0 z n (bind (Target.reply_plan d.reply (env_of H) (with_heap s d.heap)) next') (tells d.items y) (suc m)) (vals_length g1 (front ++ vs) (efront ++ us) all)
     (calling_match {k = k} below closures natives a lt (q (length (front ++ vs))) (among (length (front ++ vs))) (length (front ++ vs) - 1) (short (length (front ++ vs)) (length vs) two (let l = vals_length s.heap vs us are in omega (arith, many, small, l))) (calling (length (front ++ vs))) (front ++ vs) (efront ++ us) empty_page go next next' small all r1 (tail_next (Source.kept (front ++ vs)) (value_from {j = k} {k = k} (omega arith) (omega arith) k1 x))))))
 
 -- what waits for the array: the guard's call, with the values before it

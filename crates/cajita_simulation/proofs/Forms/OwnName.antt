@@ -27,8 +27,9 @@ use Rattle.cajita_simulation.specs.Guest.{Names, GuestName, inner, without, Gues
 use Rattle.cajita_simulation.proofs.Doing as Source
 use Rattle.cajita_simulation.proofs.Heaps.Lists.{slice_get-push}
 use Rattle.cajita_simulation.proofs.Heaps.Guards.{func-guard}
+use Rattle.cajita_simulation.proofs.Heaps.Silent.{func-silent}
 use Rattle.cajita_simulation.proofs.Heaps.Functions.{opened_kept-function}
-use Rattle.cajita_simulation.proofs.Relation.{EsValue, Named, tag_of_scope, Tags, Temps, OptVal, SlotIs, names_at, AreScopes, Here, env_of, Place, Captured, CodeIs, Related, Rel, Shaped, shaped_trans, Stays, stays_trans, stays_step, rel_pay}
+use Rattle.cajita_simulation.proofs.Relation.{closures_wait, EsValue, Named, tag_of_scope, Tags, Temps, OptVal, SlotIs, names_at, AreScopes, Here, env_of, Place, Captured, CodeIs, Related, Rel, Shaped, shaped_trans, Stays, stays_trans, stays_step, rel_pay}
 use Rattle.cajita_simulation.proofs.Scopes.{stored_same, captured_stays, in_stays}
 use Rattle.cajita_simulation.proofs.Changes.{rel_told, closures_shaped, closures_kept, scopes_keep}
 use Rattle.cajita_simulation.proofs.Entering.{names_new, shaped_scope, scopes_are, NewScopes, scopes_more, related_code}
@@ -180,6 +181,7 @@ module _ {g : Tags} {s : Store} {T : Temps} {j : ℕ} {w : State} {z : List Item
         objects = objects;
         pages = record { cells = λ a. row_relation.val_keep keeps (w.cells a) _ (r.pages.cells a); queues = λ a. row_relation.vals_keep keeps (w.queues a) _ (r.pages.queues a) };
         closures = closures_last w.objects by f outer (length s.heap.list) below objects named (new_code captured is) old;
+        waiters = λ j. closures_wait w.objects bound.objects (λ a l q chain' e. last_kept by a l (a_closure f outer) (a_closure q chain') w.objects e) (w.queues j) (r.waiters j);
         scopes = scopes_more by new (scopes_keep keeps r1.scopes);
         globals = r.globals;
         kept = r.kept;
@@ -201,7 +203,7 @@ own_name_body {H = H} below x params args body name guest = record {
       let sc = with_scope own_name (own_names x (length s.heap.list)) s in
       let p0 = bind (Source.expr_plan (c.function f) H w) next in
       callee_match (codes "func") (single (t.function (rewritten false c.func 0 f))) next' r (λ r1.
-      right_enter (guard_at H func-guard (es.Obj (length s.heap.list) ∷ []) (with_code code H.by sc) next' (opened_kept-function (length s.codes) (length code.params) H.by s.heap (opened_of r.all.objects)) (steps_hold (rel_pay r1)) r1.all.items (λ small.
+      right_enter (guard_at H func-guard func-silent (es.Obj (length s.heap.list) ∷ []) (with_code code H.by sc) next' (opened_kept-function (length s.codes) (length code.params) H.by s.heap (opened_of r.all.objects)) (steps_hold (rel_pay r1)) r1.all.items (λ small.
       subst (λ q. M H a p0 z n (bind q next') y (suc (suc (suc (suc m))))) (sym (func_plan code (env_of H) sc y))
       (let r2 = rel_pay r1 in
       let all = related_own H.by x f H.around.chain H.chain name below small r2.all {k = suc k} (omega (arith, r2.all.steps)) r.here.captured guest in

@@ -99,9 +99,9 @@ rest {H = H} {a = a} {k = k} {ex = ex} {ky = ky} {o = o} {p = p} up below evx ev
     let writes : EsValue → Store → Target.Plan = λ u s1. Target.do_call (Target.called (member (es.Obj runtime_id) (codes "setPub"))) (e ∷ h ∷ u ∷ []) (env_of H) s1 in
     let then' : Cont' = λ e1 s1. bind (Target.on_value_of writes e1 s1) next' in
     let adds : Cont' = λ e1 s1. bind (Target.on_value_of (binary_left (operator up) (t.num (pos 1)) (env_of H)) e1 s1) then' in
-    right_enter (right_enter (read_operands {k = suc (suc (suc k))} {j = suc k} below evx evk (on_read H up true l at) _ next (λ e1 s1. bind (Target.on_value_of (convert_plan un.Plus) e1 s1) adds) are.read (rel_less (omega arith) (rel_pay (rel_pay r1))) (omega arith) (omega arith) (throws_past (throws_past (throws_past x.throws))) (λ u f w2 z2 s2 m2 is3 r2 k2.
+    right_enter (right_enter (read_operands {k = suc (suc (suc k))} {j = suc k} below evx evk (on_read H up true l at) _ next (λ e1 s1. bind (Target.on_value_of (convert_plan un.Plus) e1 s1) adds) are.read (rel_less (omega arith) (rel_pay (rel_pay r1))) (omega arith) (omega arith) (throws_past (throws_past (throws_past x.throws))) (λ y2 u f w2 z2 s2 m2 is3 r2 k2.
     by_one_match up u f (on_next H l at u) next then' is3 r2 (λ r3 f3 z3 is4 r4.
-    subst (λ q. M H a (bind q next) z3 n (bind (writes f3 s2) next') y (suc m2)) (sym ((are.next u).value r3 w2))
+    subst (λ q. M H a (bind q next) z3 n (bind (writes f3 s2) next') y2 (suc m2)) (sym ((are.next u).value r3 w2))
     (guarded {j = suc k} {i = suc m2} below set_pub-guard (guards.set_pub 3) (tables.set_pub 3) set_plain (o ∷ p ∷ r3 ∷ []) (e ∷ h ∷ f3 ∷ []) (on_write H l at u r3) next next' (record { plan = refl; kept = refl }) (are.written u r3) (val_keep k2.heap o e is1, (val_keep k2.heap p h is2, (is4, tt))) r4 (omega arith) (omega arith) (value_from {j = suc k} {k = suc k} (omega arith) (omega arith) (stays_trans (stays_step (omega arith)) (stays_trans k2 (stays_step (omega arith)))) x)))))))
 
 pub before_body : {H : Here} {d b q : ℕ} {e : c.Tree c.expr} {e' : t.Tree t.expr} (up : Bool) → H.by < 64 → (us : List ℕ) → ValueLaw H d (b + 1) q e e' → ValueBody H d b (1 + 0 + (q + 0)) (c.step up true (c.member e (c.fixed us))) (with_temp b e' (runtime_call (codes "setPub") (triple (temp b) (t.text us) (by_one up (t.unary un.Plus (runtime_call (codes "readPub") (pair (temp b) (t.text us))))))))

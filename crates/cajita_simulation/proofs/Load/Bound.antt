@@ -94,7 +94,7 @@ known q x = module_names q.imports q.vars q.funcs x
 
 -- the names that its function begins with, and those when the imports are read; its first function stands at this place
 abbrev pub names_of : Module → ℕ → List EsValue → Names
-names_of q place us = imported q.imports us (bound_names q.funcs place (first_names (module_code q) first_values))
+names_of q place us = imported q.imports us (bound_names q.funcs place (first_names (module_code q) (first_values q)))
 
 -- what the names are when the statements begin
 pub record Opens (q : Module) (place : ℕ) (us : List EsValue) : Type 0 where
@@ -124,22 +124,22 @@ no_function {q = q} guests x hidden =
     ] in cases refl
 
 -- a hidden name has what it has at first
-hidden_first : {q : Module} → GuestNames q → (place : ℕ) (us : List EsValue) (x : List ℕ) → is_hidden x ≡ true → name_value x (names_of q place us) ≡ name_value x (first_names (module_code q) first_values)
+hidden_first : {q : Module} → GuestNames q → (place : ℕ) (us : List EsValue) (x : List ℕ) → is_hidden x ≡ true → name_value x (names_of q place us) ≡ name_value x (first_names (module_code q) (first_values q))
 hidden_first {q = q} guests place us x hidden =
-    imported-other q.imports us (bound_names q.funcs place (first_names (module_code q) first_values)) x (no_import guests x hidden) ∙ functions_other q.funcs place (first_names (module_code q) first_values) x (no_function guests x hidden)
+    imported-other q.imports us (bound_names q.funcs place (first_names (module_code q) (first_values q))) x (no_import guests x hidden) ∙ functions_other q.funcs place (first_names (module_code q) (first_values q)) x (no_function guests x hidden)
 
 pub opens : (vs free : KnownNames) (q : Module) (place : ℕ) (us : List EsValue) → Guest vs free c.stmts q.list → Declares q → GuestNames q → Opens q place us
 opens vs free q place us guest same guests = record {
-  result = hidden_first guests place us result_name refl ∙ hidden_there (module_vars q) result_name refl refl (result_known q);
+  result = hidden_first guests place us result_name refl ∙ hidden_there q.object (module_vars q) result_name refl refl (result_known q);
   temps = λ x is. let p = temp_of (temps c.stmts q.list) x is in
       subst (λ k. (e : EsValue) × (name_value k (names_of q place us) ≡ Some e)) (sym p.is)
-      (es.Undefined, hidden_first guests place us (temp_name p.number) (temp_hidden p.number) ∙ hidden_there (module_vars q) (temp_name p.number) refl refl (temps_known q p.number p.few));
-  runtime = hidden_first guests place us runtime_name refl ∙ runtime_there (module_vars q);
+      (es.Undefined, hidden_first guests place us (temp_name p.number) (temp_hidden p.number) ∙ hidden_there q.object (module_vars q) (temp_name p.number) refl refl (temps_known q p.number p.few));
+  runtime = hidden_first guests place us runtime_name refl ∙ runtime_there q.object (module_vars q);
   names = λ x is. imported-bound q.imports us (bound_names q.funcs place first) x (functions_bound q.funcs place first x ∙ bound x is);
 }
   where
     first : Names
-    first = first_names (module_code q) first_values
+    first = first_names (module_code q) (first_values q)
 
     either : (a b : Bool) → b ≡ true → (a || b) ≡ true
     either true b e = refl
@@ -158,14 +158,14 @@ opens vs free q place us guest same guests = record {
           | false ↦ λ e f. guests.vars x f
         ] in cases refl is
 
-    bound : (x : List ℕ) → known q x ≡ true → (is_declared q.funcs x || is_some (name_value x (first_names (module_code q) first_values))) ≡ true
+    bound : (x : List ℕ) → known q x ≡ true → (is_declared q.funcs x || is_some (name_value x (first_names (module_code q) (first_values q)))) ≡ true
     bound x is =
-        let cases = elim (is_declared q.funcs x) as (λ b. (b || ((false || is_among q.vars x) || is_among q.imports x)) ≡ true → (b || is_some (name_value x (first_names (module_code q) first_values))) ≡ true) [
+        let cases = elim (is_declared q.funcs x) as (λ b. (b || ((false || is_among q.vars x) || is_among q.imports x)) ≡ true → (b || is_some (name_value x (first_names (module_code q) (first_values q)))) ≡ true) [
           | true ↦ λ e. refl
           | false ↦ λ e.
               let among = turned (is_among q.vars x) (is_among q.imports x) e in
               let guest' = name_of x among in
-              vars_bound x (module_vars q) own_names (vars_known vs free q x guest same guest'.open_name guest'.own_name ∙ among)
+              vars_bound x (module_vars q) (own_names q.object) (vars_known vs free q x guest same guest'.open_name guest'.own_name ∙ among)
         ] in cases is
 
 -- imports and variables on both sides
@@ -217,17 +217,17 @@ both_undefined h true = tt
 both_undefined h false = tt
 
 -- each variable and each import is bound on both sides alike
-pub bound_alike : (names free : KnownNames) (h : Objects) (q : Module) (vs : List Value) (us : List EsValue) → Guest names free c.stmts q.list → Declares q → GuestNames q → Vals h vs us → Rattle.std.specs.Prelude.length vs ≡ Rattle.std.specs.Prelude.length q.imports → (x : List ℕ) → is_hidden x ≡ false → OptVal h (value_at x (world.with_vars q.vars (with_params q.imports vs []))) (name_value x (imported q.imports us (first_names (module_code q) first_values)))
+pub bound_alike : (names free : KnownNames) (h : Objects) (q : Module) (vs : List Value) (us : List EsValue) → Guest names free c.stmts q.list → Declares q → GuestNames q → Vals h vs us → Rattle.std.specs.Prelude.length vs ≡ Rattle.std.specs.Prelude.length q.imports → (x : List ℕ) → is_hidden x ≡ false → OptVal h (value_at x (world.with_vars q.vars (with_params q.imports vs []))) (name_value x (imported q.imports us (first_names (module_code q) (first_values q))))
 bound_alike names free h q vs us guest same guests are long x shown =
-    let first = first_names (module_code q) first_values in
+    let first = first_names (module_code q) (first_values q) in
     let b = all_bound h x (name_value x first) q.imports vs us [] first are long (by_none refl refl) in
-    by_bound (value_at x (with_params q.imports vs [])) (name_value x (imported q.imports us (first_names (module_code q) first_values))) refl refl b
+    by_bound (value_at x (with_params q.imports vs [])) (name_value x (imported q.imports us (first_names (module_code q) (first_values q)))) refl refl b
   where
-    unbound : is_among q.imports x ≡ false → name_value x (first_names (module_code q) first_values) ≡ undefined_value es.Undefined (is_among q.vars x)
+    unbound : is_among q.imports x ≡ false → name_value x (first_names (module_code q) (first_values q)) ≡ undefined_value es.Undefined (is_among q.vars x)
     unbound none =
-        let cases = elim (is_arguments x) as (λ b. is_arguments x ≡ b → name_value x (first_names (module_code q) first_values) ≡ undefined_value es.Undefined (is_among q.vars x)) [
-          | false ↦ λ own. open_there (module_vars q) x shown ∙ ap (λ b. undefined_value es.Undefined b) (vars_known names free q x guest same shown own ∙ ap (λ b. b || is_among q.vars x) none)
-          | true ↦ λ own. open_there (module_vars q) x shown ∙ ap (λ b. undefined_value es.Undefined b) (own_never (Rattle.es3_language.specs.Hoisting.vars_of (Rattle.cajita_simulation.proofs.Load.Names.module_body q)) x own ∙ sym (no_var own))
+        let cases = elim (is_arguments x) as (λ b. is_arguments x ≡ b → name_value x (first_names (module_code q) (first_values q)) ≡ undefined_value es.Undefined (is_among q.vars x)) [
+          | false ↦ λ own. open_there q.object (module_vars q) x shown ∙ ap (λ b. undefined_value es.Undefined b) (vars_known names free q x guest same shown own ∙ ap (λ b. b || is_among q.vars x) none)
+          | true ↦ λ own. open_there q.object (module_vars q) x shown ∙ ap (λ b. undefined_value es.Undefined b) (own_never (Rattle.es3_language.specs.Hoisting.vars_of (Rattle.cajita_simulation.proofs.Load.Names.module_body q)) x own ∙ sym (no_var own))
         ] in cases refl
       where
         no_var : is_arguments x ≡ true → is_among q.vars x ≡ false
@@ -240,10 +240,10 @@ bound_alike names free h q vs us guest same guests are long x shown =
     never : is_among q.imports x ≡ true → value_at x (with_params q.imports vs []) ≡ None → ⊥
     never known none = params_bound x q.imports vs [] known long none
 
-    by_bound : (o : Option Value) (o' : Option EsValue) → value_at x (with_params q.imports vs []) ≡ o → name_value x (imported q.imports us (first_names (module_code q) first_values)) ≡ o' → Bound h (value_at x (with_params q.imports vs [])) (name_value x (imported q.imports us (first_names (module_code q) first_values))) (name_value x (first_names (module_code q) first_values)) → OptVal h (value_at x (world.with_vars q.vars (with_params q.imports vs []))) (name_value x (imported q.imports us (first_names (module_code q) first_values)))
+    by_bound : (o : Option Value) (o' : Option EsValue) → value_at x (with_params q.imports vs []) ≡ o → name_value x (imported q.imports us (first_names (module_code q) (first_values q))) ≡ o' → Bound h (value_at x (with_params q.imports vs [])) (name_value x (imported q.imports us (first_names (module_code q) (first_values q)))) (name_value x (first_names (module_code q) (first_values q))) → OptVal h (value_at x (world.with_vars q.vars (with_params q.imports vs []))) (name_value x (imported q.imports us (first_names (module_code q) (first_values q))))
     by_bound o o' eo eo' (by_import v e a b is) = rw (value_at-bound x q.vars (with_params q.imports vs []) v a, b) is
     by_bound o o' eo eo' (by_none a b) =
-        let cases = elim (is_among q.imports x) as (λ k. is_among q.imports x ≡ k → OptVal h (value_at x (world.with_vars q.vars (with_params q.imports vs []))) (name_value x (imported q.imports us (first_names (module_code q) first_values)))) [
+        let cases = elim (is_among q.imports x) as (λ k. is_among q.imports x ≡ k → OptVal h (value_at x (world.with_vars q.vars (with_params q.imports vs []))) (name_value x (imported q.imports us (first_names (module_code q) (first_values q))))) [
           | true ↦ λ known. absurd (never known a)
           | false ↦ λ none. rw (value_at-unbound x q.vars (with_params q.imports vs []) a, b, unbound none) (both_undefined h (is_among q.vars x))
         ] in cases refl
@@ -260,18 +260,18 @@ imported-same (y ∷ xs) (e ∷ us) a b x same =
     ] in cases refl)
 
 -- each is where the interpreter has it
-stored_alike : (names free : KnownNames) (h : Objects) (q : Module) (vs : List Value) (us : List EsValue) → Guest names free c.stmts q.list → Declares q → GuestNames q → Vals h vs us → Rattle.std.specs.Prelude.length vs ≡ Rattle.std.specs.Prelude.length q.imports → ScopeIs h (world.with_vars q.vars (with_params q.imports vs [])) (imported q.imports us (first_names (module_code q) first_values))
+stored_alike : (names free : KnownNames) (h : Objects) (q : Module) (vs : List Value) (us : List EsValue) → Guest names free c.stmts q.list → Declares q → GuestNames q → Vals h vs us → Rattle.std.specs.Prelude.length vs ≡ Rattle.std.specs.Prelude.length q.imports → ScopeIs h (world.with_vars q.vars (with_params q.imports vs [])) (imported q.imports us (first_names (module_code q) (first_values q)))
 stored_alike names free h q vs us guest same guests are long x shown =
-    let first = first_names (module_code q) first_values in
+    let first = first_names (module_code q) (first_values q) in
     let pairs = world.with_vars q.vars (with_params q.imports vs []) in
     let alike = bound_alike names free h q vs us guest same guests are long x shown in
-    let cases = elim (is_arguments x) as (λ b. is_arguments x ≡ b → OptVal h (value_at x (world.with_vars q.vars (with_params q.imports vs []))) (name_value (cond b arguments_copy x) (imported q.imports us (first_names (module_code q) first_values)))) [
+    let cases = elim (is_arguments x) as (λ b. is_arguments x ≡ b → OptVal h (value_at x (world.with_vars q.vars (with_params q.imports vs []))) (name_value (cond b arguments_copy x) (imported q.imports us (first_names (module_code q) (first_values q))))) [
       | false ↦ λ own. alike
       | true ↦ λ own.
           let no_import_too : is_among q.imports x ≡ false = not_true (is_among q.imports x) (λ e. cc (sym own ∙ (guests.imports x e).own_name)) in
-          let here : name_value x (imported q.imports us first) ≡ None = imported-other q.imports us first x no_import_too ∙ open_there (module_vars q) x shown ∙ ap (λ b. undefined_value es.Undefined b) (own_never (vars_of (module_body q)) x own) in
+          let here : name_value x (imported q.imports us first) ≡ None = imported-other q.imports us first x no_import_too ∙ open_there q.object (module_vars q) x shown ∙ ap (λ b. undefined_value es.Undefined b) (own_never (vars_of (module_body q)) x own) in
           let no_var : is_among q.vars arguments_copy ≡ false = not_true (is_among q.vars arguments_copy) (λ e. no_open (guests.vars arguments_copy e).open_name) in
-          let there : name_value arguments_copy (imported q.imports us first) ≡ None = imported-other q.imports us first arguments_copy (no_import guests arguments_copy refl) ∙ with_vars-unbound arguments_copy (module_vars q) own_names refl ∙ ap (λ b. undefined_value es.Undefined b) (copy_unknown names free q guest same (no_import guests arguments_copy refl) no_var) in
+          let there : name_value arguments_copy (imported q.imports us first) ≡ None = imported-other q.imports us first arguments_copy (no_import guests arguments_copy refl) ∙ with_vars-unbound arguments_copy (module_vars q) (own_names q.object) refl ∙ ap (λ b. undefined_value es.Undefined b) (copy_unknown names free q guest same (no_import guests arguments_copy refl) no_var) in
           rw there (subst (λ o. OptVal h (value_at x pairs) o) here alike)
     ] in cases refl
   where
@@ -288,7 +288,7 @@ pub module_alike : (names free : KnownNames) (q : Module) (g : Tags) (s : Store)
 module_alike names free q g s by direct chain {objects = objects} below few old vs us guest same guests are long x shown =
     let place = Rattle.std.specs.Prelude.length s.heap.list in
     let pairs = world.with_vars q.vars (with_params q.imports vs []) in
-    let firsts = first_names (module_code q) first_values in
+    let firsts = first_names (module_code q) (first_values q) in
     let h = (named_store q.funcs chain by s).heap in
     let cases = elim (is_declared q.funcs x) as (λ b. is_declared q.funcs x ≡ b → OptVal h (value_at x (bound_pairs q.funcs direct by objects pairs)) (name_value (stored_name x) (names_of q place us))) [
       | true ↦ λ is.

@@ -14,7 +14,7 @@ use Rattle.cajita_tree.specs.Tree as c
 use Rattle.cajita_meaning.specs.World as world
 use Rattle.cajita_meaning.specs.World.{undefined, value_at}
 use Rattle.cajita_rewrite.specs.Rewrite.{runtime_name, imports_name, arguments_copy, result_name, temp_name, temps, declared, others, name_items, temp_items, head_items, import_stmts, rewritten, joined, marks, result_stmts}
-use Rattle.heap_rows.specs.Opening.{runtime_id, imports_id}
+use Rattle.heap_rows.specs.Opening.{runtime_id}
 use Rattle.cajita_simulation.specs.Guest.{Names as KnownNames, is_among, inner, Guest}
 use Rattle.cajita_simulation.proofs.Temporaries.{temp_hidden}
 use Rattle.cajita_simulation.proofs.Declaring.Trees.{func_list, declared_vars, declared_functions}
@@ -290,6 +290,7 @@ imports_kept (x ∷ xs) rest = ap (λ (l : List (List ℕ)). x ∷ l) (imports_k
 
 -- a module: what it imports, its variables, the functions that it declares, and its statements
 pub record Module : Type 0 where
+  pub object : ℕ
   pub imports : List (List ℕ)
   pub vars : List (List ℕ)
   pub funcs : c.Tree c.funcs
@@ -399,11 +400,11 @@ functions_are vars free q g = functions_imported q.imports (behind_imports q) �
 
 -- the names of the function, with the runtime's object and the imports
 
-abbrev pub own_names : Names
-own_names = with_params (runtime_name ∷ imports_name ∷ []) (es.Obj runtime_id ∷ es.Obj imports_id ∷ []) []
+abbrev pub own_names : ℕ → Names
+own_names o = with_params (runtime_name ∷ imports_name ∷ []) (es.Obj runtime_id ∷ es.Obj o ∷ []) []
 
-own_hidden : (x : List ℕ) → is_hidden x ≡ false → name_value x own_names ≡ None
-own_hidden x guest = rw (open_differs x runtime_name guest refl, open_differs x imports_name guest refl) refl
+own_hidden : (o : ℕ) (x : List ℕ) → is_hidden x ≡ false → name_value x (own_names o) ≡ None
+own_hidden o x guest = rw (open_differs x runtime_name guest refl, open_differs x imports_name guest refl) refl
 
 -- a declared name is bound
 pub vars_bound : (x : List ℕ) (vars : List (List ℕ)) (scope : Names) → is_among vars x ≡ true → is_some (name_value x (with_vars vars scope)) ≡ true
@@ -413,16 +414,16 @@ vars_bound x vars scope known =
       | Some e ↦ λ is. ap is_some (with_vars-bound x vars scope e is)
     ] in cases refl
 
-pub runtime_there : (vars : List (List ℕ)) → name_value runtime_name (with_vars vars own_names) ≡ Some (es.Obj runtime_id)
-runtime_there vars = with_vars-bound runtime_name vars own_names (es.Obj runtime_id) refl
+pub runtime_there : (o : ℕ) (vars : List (List ℕ)) → name_value runtime_name (with_vars vars (own_names o)) ≡ Some (es.Obj runtime_id)
+runtime_there o vars = with_vars-bound runtime_name vars (own_names o) (es.Obj runtime_id) refl
 
-pub imports_there : (vars : List (List ℕ)) → name_value imports_name (with_vars vars own_names) ≡ Some (es.Obj imports_id)
-imports_there vars = with_vars-bound imports_name vars own_names (es.Obj imports_id) refl
+pub imports_there : (o : ℕ) (vars : List (List ℕ)) → name_value imports_name (with_vars vars (own_names o)) ≡ Some (es.Obj o)
+imports_there o vars = with_vars-bound imports_name vars (own_names o) (es.Obj o) refl
 
 -- a hidden name that is declared, and is none of the two parameters, is undefined
-pub hidden_there : (vars : List (List ℕ)) (x : List ℕ) → same_units x runtime_name ≡ false → same_units x imports_name ≡ false → is_among vars x ≡ true → name_value x (with_vars vars own_names) ≡ Some es.Undefined
-hidden_there vars x a b known = with_vars-unbound x vars own_names (rw (a, b) refl) ∙ ap (λ q. undefined_value es.Undefined q) known
+pub hidden_there : (o : ℕ) (vars : List (List ℕ)) (x : List ℕ) → same_units x runtime_name ≡ false → same_units x imports_name ≡ false → is_among vars x ≡ true → name_value x (with_vars vars (own_names o)) ≡ Some es.Undefined
+hidden_there o vars x a b known = with_vars-unbound x vars (own_names o) (rw (a, b) refl) ∙ ap (λ q. undefined_value es.Undefined q) known
 
 -- a name that isn't hidden is undefined where it is declared
-pub open_there : (vars : List (List ℕ)) (x : List ℕ) → is_hidden x ≡ false → name_value x (with_vars vars own_names) ≡ undefined_value es.Undefined (is_among vars x)
-open_there vars x guest = with_vars-unbound x vars own_names (own_hidden x guest)
+pub open_there : (o : ℕ) (vars : List (List ℕ)) (x : List ℕ) → is_hidden x ≡ false → name_value x (with_vars vars (own_names o)) ≡ undefined_value es.Undefined (is_among vars x)
+open_there o vars x guest = with_vars-unbound x vars (own_names o) (own_hidden o x guest)

@@ -20,21 +20,24 @@ use Rattle.page_natives.specs.Natives.{Kept}
 use Rattle.cajita_simulation.specs.Guest.{module_free, Guest}
 use Rattle.cajita_simulation.proofs.Heaps.Lists.{slice_get-push}
 use Rattle.row_simulation.proofs.Changes.{by_number}
-use Rattle.cajita_simulation.proofs.Relation.{EsValue, Vals, tag_of_scope, Tags, ScopeIs, names_at, declared, unknown, holds, Temps, no_temps, SlotIs, Here, In, Related, Between, Rel, related_steps}
+use Rattle.cajita_simulation.proofs.Relation.{Turn, EsValue, Vals, tag_of_scope, Tags, ScopeIs, names_at, declared, unknown, holds, Temps, no_temps, SlotIs, Here, In, Related, Between, Rel, related_steps}
 use Rattle.cajita_simulation.proofs.Laws.{hold}
 use Rattle.cajita_simulation.proofs.Scopes.{in_stays}
 use Rattle.cajita_simulation.proofs.Entering.{names_new, names_other, scopes_are, NewScopes, related_function}
 use Rattle.cajita_simulation.proofs.Declaring.Stores.{named_store}
 use Rattle.cajita_simulation.proofs.Declaring.Names.{bound_pairs, objects_world}
-use Rattle.cajita_simulation.proofs.Declaring.Relation.{one_each, Few, shaped_named, related_declared}
+use Rattle.cajita_simulation.proofs.Declaring.Relation.{one_each, Few, keeps_all, shaped_named, related_declared}
 use Rattle.cajita_simulation.proofs.Load.Names.{Module, Declares}
 use Rattle.cajita_simulation.proofs.Load.Bound.{is_temp, known, names_of, Opens, opens, GuestNames, module_alike}
-use Rattle.cajita_simulation.proofs.Load.Entering.{module_code, made_store, functions_store, owner_of, place_first}
+use Rattle.row_simulation.specs.Correspond.{Keeps}
+use Rattle.row_simulation.proofs.Row.{keeps_trans}
+use Rattle.cajita_simulation.proofs.Load.Entering.{module_code, function_keeps, made_store, functions_store, owner_of, place_first}
 
 -- where the statements of the module stand: it may read what it imports too
-abbrev pub here : Rules → ℕ → Module → World → Store → Here
-here rules by q w s = record {
+abbrev pub here : Rules → Turn → ℕ → Module → World → Store → Here
+here rules turn by q w s = record {
   rules = rules;
+  turn = turn;
   around = record { chain = next_scope by w ∷ []; calls = 1 };
   by = by;
   chain = length s.scopes ∷ [];
@@ -120,8 +123,8 @@ resolve_first : (chain : List ℕ) (s : Store) (c : ℕ) (x : List ℕ) → is_s
 resolve_first chain s c x there = rw there refl
 
 -- where the names are found, before the marks and behind them
-pub in_begins : (rules : Rules) (by : ℕ) (q : Module) (us : List EsValue) (w : World) (g : Tags) (s : Store) → length g ≡ length s.scopes → Opens q (place_first by q s) us → In (here rules by q w s) (bound_tags by w g) (scoped_store by q us s)
-in_begins rules by q us w g s count opens = record {
+pub in_begins : (rules : Rules) (turn : Turn) (by : ℕ) (q : Module) (us : List EsValue) (w : World) (g : Tags) (s : Store) → length g ≡ length s.scopes → Opens q (place_first by q s) us → In (here rules turn by q w s) (bound_tags by w g) (scoped_store by q us s)
+in_begins rules turn by q us w g s count opens = record {
   captured = record {
     chained = (ap (slice_get (bound_tags by w g)) (sym count) ∙ slice_get-push g (tag_of_scope by (next_scope by w)), tt);
     within = (below, tt);
@@ -158,19 +161,21 @@ begins_runtime by q us s opens was k e is =
     (λ other. was k e (sym (ap (name_value runtime_name) (names_other (owner_of q s) (scope_names by q us s) (made_store by q s) k other)) ∙ is))
 
 -- the relation behind the marks, when the direct meaning took a step for each import, each function and one more at least, and the interpreter as many as it takes
-pub opening : (rules : Rules) (by : ℕ) → by < 64 → (q : Module) (vs : List Value) (us : List EsValue) {w : World} {z : List Item} {n : ℕ} {g : Tags} {s : Store} {y : Kept} {m : ℕ} (n' m' : ℕ) → Guest (known q) (module_free q.vars q.funcs) c.stmts q.list → Declares q → GuestNames q → Guest (known q) (module_free q.vars q.funcs) c.funcs q.funcs → Vals (made_store by q s).heap vs us → length vs ≡ length q.imports → Few q.funcs (suc (suc m)) → one_each q.funcs (suc (suc m)) ≤ m' → m' + 40 ≤ 64 * n' → 64 * n + 2 ≤ 64 * n' → Between w z n g s y m
-    → Rel (here rules by q w s) (first_temps q s) 40 (bound_world by q vs w) z n' (bound_tags by w g) (begun_store by q us s) y m'
-opening rules by below q vs us {w = w} {z = z} {n = n} {g = g} {s = s} {y = y} {m = m} n' m' guest same guests functions are long few some fits more r =
+pub opening : (rules : Rules) (turn : Turn) (by : ℕ) → by < 64 → (q : Module) (vs : List Value) (us : List EsValue) {w : World} {z : List Item} {n : ℕ} {g : Tags} {s : Store} {y : Kept} {m : ℕ} (n' m' : ℕ) → Guest (known q) (module_free q.vars q.funcs) c.stmts q.list → Declares q → GuestNames q → Guest (known q) (module_free q.vars q.funcs) c.funcs q.funcs → Vals (made_store by q s).heap vs us → length vs ≡ length q.imports → Few q.funcs (suc (suc m)) → one_each q.funcs (suc (suc m)) ≤ m' → m' + 40 ≤ 64 * n' → 64 * n + 2 ≤ 64 * n' → Between w z n g s y m
+    → Rel (here rules turn by q w s) (first_temps q s) 40 (bound_world by q vs w) z n' (bound_tags by w g) (begun_store by q us s) y m' × Keeps s.heap (begun_store by q us s).heap
+opening rules turn by below q vs us {w = w} {z = z} {n = n} {g = g} {s = s} {y = y} {m = m} n' m' guest same guests functions are long few some fits more r =
     let open_names = opens (known q) (module_free q.vars q.funcs) q (place_first by q s) us guest same guests in
     let begun : Related no_temps 0 w z n' g s y m = related_steps (omega arith) (omega (arith, more, r.steps)) r in
     let with_function : Related no_temps 0 w z n' g (made_store by q s) y (suc (suc m)) = related_function (module_code q) by (omega (arith, more, r.steps)) begun in
     let direct = next_scope by w ∷ [] in
     let chain = length s.scopes ∷ [] in
-    let stands = in_begins rules by q us w g s r.scopes.count open_names in
+    let stands = in_begins rules turn by q us w g s r.scopes.count open_names in
     let alike = module_alike (known q) (module_free q.vars q.funcs) q g (made_store by q s) by direct chain below few with_function.objects vs us guest same guests are long in
     let scopes = new_scopes q (module_pairs by q vs w) us by s (named_store q.funcs chain by (made_store by q s)) alike open_names in
-    let all = related_declared {k = 0} q.funcs by direct chain below few (omega (arith, some, fits)) scopes stands.captured functions with_function in
-    record {
-      all = related_steps some fits all;
-      here = in_stays (shaped_named q.funcs chain by (bound_tags by w g) (scoped_store by q us s)) (scopes_are (owner_of q s) (scope_names by q us s) (made_store by q s) tt r.scopes.are) all.scopes.are stands;
-    }
+    let all = related_declared {k = 0} q.funcs by direct chain below few (omega (arith, some, fits)) scopes stands.captured functions with_function in (
+      record {
+        all = related_steps some fits all;
+        here = in_stays (shaped_named q.funcs chain by (bound_tags by w g) (scoped_store by q us s)) (scopes_are (owner_of q s) (scope_names by q us s) (made_store by q s) tt r.scopes.are) all.scopes.are stands;
+      },
+      keeps_trans (function_keeps by q s) (keeps_all q.funcs g (made_store by q s) by direct chain below few with_function.objects),
+    )

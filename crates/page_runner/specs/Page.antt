@@ -1,0 +1,72 @@
+-- What a page comes to by the meaning of ECMAScript 3 of its programs: the same deeds, over the natives of a page.
+use Rattle.std.specs.Prelude.{ℕ, List, [], ◌∷◌, map, length, nat_eq, if◌then◌else◌}
+use Rattle.plans.specs.Plans.{Run as RunOf}
+use Rattle.page_deeds.specs.Deeds.{Deed as DeedOf, to_load, to_call, to_tick, label_of}
+use Rattle.page_deeds.specs.Shown.{Ended, by_return, by_throw, by_nothing}
+use Rattle.pages.specs.Pages.{Begun as BegunOf, Evaluator, page}
+use Rattle.es3_tree.specs.Tree as t
+use Rattle.es3_heap.specs.declared.value.Value.{Value}
+use Rattle.es3_heap.specs.declared.value.Value.TheVariants.{Undefined}
+use Rattle.es3_heap.specs.declared.value.Tag.{Tag}
+use Rattle.es3_heap.specs.Objects.{Objects}
+use Rattle.es3_language.specs.Store.{Store, with_heap}
+use Rattle.es3_language.specs.Natives.{Touched}
+use Rattle.es3_language.specs.Meaning.{Completion as EsCompletion, Task, es3, program_plan}
+use Rattle.es3_moves.specs.declared.natives.Completion.{Completion}
+use Rattle.es3_moves.specs.declared.natives.Completion.TheVariants.{Normal, Thrown}
+use Rattle.es3_machine.specs.Machine.{completed}
+use Rattle.heap_rows.specs.Doing.{ended}
+use Rattle.page_log.specs.Shown.{shown_value}
+use Rattle.page_natives.specs.Natives.{Kept, page_table, page_of, importing, tells, without_first}
+use Rattle.module_loader.specs.Turns.{Results, plain_value, granted_pairs, with_imports_of, key_plan, tick_plan}
+
+abbrev pub Deed : Type 0
+Deed = DeedOf (t.Tree t.program)
+
+abbrev pub Begun : Type 0
+Begun = BegunOf Task EsCompletion Store Touched Kept
+
+-- the first function that waits is taken, and called
+abbrev pub tick_begun : ℕ → List Value → Store → Kept → Begun
+tick_begun m [] s z = record { store = s; kept = z; turns = [] }
+tick_begun m (f ∷ fs) s z = record { store = s; kept = without_first m z; turns = (λ x y. tick_plan m f x) ∷ [] }
+
+-- among so many modules
+abbrev pub begin : ℕ → Deed → Results → Store → Kept → Begun
+begin modules (to_load m p gs) r s z =
+    record { store = with_heap s (with_imports_of m (granted_pairs modules r gs) s.heap); kept = importing m (length s.heap.list) z; turns = (λ x y. program_plan p m x) ∷ [] }
+begin modules (to_call k m key args) r s z = record { store = s; kept = z; turns = (λ x y. key_plan m key (r m ∷ map plain_value args) x y) ∷ [] }
+begin modules (to_tick k m) r s z = tick_begun m ((page_of z).queues m) s z
+
+abbrev pub end_of_turn : Objects → Completion → Ended Tag
+end_of_turn h (Normal x) = by_return (shown_value h x)
+end_of_turn h (Thrown x) = by_throw (shown_value h x)
+
+-- a load that threw has no result
+abbrev pub value_given : Completion → Value
+value_given (Normal x) = x
+value_given (Thrown x) = Undefined
+
+abbrev pub result : Deed → EsCompletion → Results → Results
+result (to_load m p gs) e r = λ n. if nat_eq n m then value_given (completed e) else r n
+result d e r = r
+
+abbrev pub evaluator : ℕ → Evaluator Deed Results Task EsCompletion Store Touched Kept
+evaluator modules = record {
+  language = es3 page_table;
+  begin = begin modules;
+  none = λ d s z. tells (ended (label_of d) by_nothing ∷ []) z;
+  ended = λ d e s z. tells (ended (label_of d) (end_of_turn s.heap (completed e)) ∷ []) z;
+  result = result;
+}
+
+abbrev pub Run : Type 0
+Run = RunOf Results Store Kept
+
+-- nothing was loaded
+abbrev pub no_results : Results
+no_results m = Undefined
+
+-- what a page of so many modules comes to, from a store, with so many steps
+abbrev pub es3_page : ℕ → List Deed → Store → Kept → ℕ → Run
+es3_page modules ds s z n = page (evaluator modules) ds n no_results s z

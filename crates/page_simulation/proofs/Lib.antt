@@ -1,0 +1,7 @@
+pub mod Shown
+pub mod Between
+pub mod Sides
+pub mod Loads
+pub mod Calls
+pub mod Ticks
+pub mod Theorem
