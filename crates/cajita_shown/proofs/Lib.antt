@@ -17,3 +17,4 @@ mod Modules
 mod Mixed
 mod Refused
 mod Depth
+mod Pages

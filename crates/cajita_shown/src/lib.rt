@@ -1,22 +1,29 @@
 //! Worked modules: sources, with all that the direct meaning gives for each: how the load ended, the steps that it took, and what was told, in order.
 //!
-//! specs/Shown.antt cuts, reads, judges, resolves and loads a source by computation. Each row of proofs/ is equal to what is expected; the files are named
-//! after what they show. There is no code. The functions here have no bodies: their contracts are the rows that tell most, a few of each kind of form.
+//! specs/Shown.antt cuts, reads, judges, resolves and loads a source by computation, and specs/Pages.antt does the deeds of a page of such sources. Each row of
+//! proofs/ is equal to what is expected; the files are named after what they show. There is no code. The functions here have no bodies: their contracts are
+//! the rows that tell most, a few of each kind of form.
 #![tactic(auto)]
 
 ghost use Rattle.std.specs.Prelude.{ℕ, List, ◌≡◌, [], ◌∷◌, codes, map, pos};
 ghost use Rattle.plans.specs.Plans.{number_fault, depth_fault};
 ghost use Rattle.acts.specs.Acts.{fault};
 ghost use Rattle.cajita_tree.specs.Tree as c;
+ghost use Rattle.page_deeds.specs.Deeds as deed;
+ghost use Rattle.page_deeds.specs.Deeds.{a_cell, a_result, to_load, to_tick, of_load, of_call, of_tick};
+ghost use Rattle.page_deeds.specs.Shown as log;
+ghost use Rattle.page_deeds.specs.Shown.{thing, by_return, by_throw, by_nothing};
 ghost use Rattle.rows.specs.Rows as r;
 ghost use Rattle.rows.specs.Rows.{to_get, to_set, to_delete, to_has, to_keys, to_call};
 ghost use Rattle.rows.specs.Names.{of_cajita};
-ghost use Rattle.cajita_meaning.specs.World.{World, Value, made_name, own_name, built_name, tools_name, undefined, number, text, object};
+ghost use Rattle.cajita_meaning.specs.World.{World, Value, made_name, cell_name, own_name, built_name, tools_name, undefined, number, text, object};
 ghost use Rattle.cajita_names.specs.Rules.{fixed_names};
 ghost use Rattle.cajita_meaning.specs.Imports.{fixed_imports};
 ghost use Rattle.cajita_meaning.specs.Asking.{entry_reply};
-ghost use Rattle.cajita_meaning.specs.Direct.{gave, threw, made, got, touched, passed, said};
+ghost use Rattle.cajita_meaning.specs.Direct.{gave, threw, made, got, touched, passed, granted, said, ended};
+ghost use Rattle.cajita_meaning.specs.Events.{the_page};
 ghost use Rattle.cajita_shown.specs.Shown.{came, faulted, spent, breaks, shown, shown_second, shown_call};
+ghost use Rattle.cajita_shown.specs.Pages.{done, shown_page};
 
 /// Without a grant a module may import the fixed names, in the order in which the rules have them, and no other name.
 #[tactic(auto, using(crate::proofs::Imports::fixed_names_are_imported))]
@@ -219,4 +226,35 @@ pub fn names_are_counted_by_module()
 pub fn a_source_that_breaks_a_rule_is_refused()
     ensures arguments { shown (codes "arguments;") 10 ≡ breaks 10 0 }
     ensures first { shown (codes "delete x;") 10 ≡ breaks 12 0 }
+{}
+
+/// A page of two modules that share a cell: the first keeps a record there and gives a function; the second changes the record, and lets a function wait,
+/// which calls the first one's with it. The one event gets 2, which is read by the first module; for the next nothing waits.
+#[tactic(auto, using(crate::proofs::Pages::a_cell_is_shared_and_a_function_waits))]
+pub fn a_page_goes_on_after_its_loads()
+    ensures { shown_page
+        (to_load 0 (codes "k.set({v: 1}); ({f: function (x) { return x.v; }});") ((codes "k", a_cell 0) ∷ []) ∷
+        to_load 1 (codes "k.get().v = 2; later(function () { return a.f(k.get()); });") ((codes "k", a_cell 0) ∷ (codes "a", a_result 0) ∷ []) ∷
+        to_tick 0 1 ∷ to_tick 1 1 ∷ []) 200 ≡
+        done (granted 0 (cell_name 0 0) ∷ made 0 (made_name 0 0) ∷ touched 0 to_get (cell_name 0 0) (codes "set" ∷ []) ∷ got 0 (cell_name 0 0) (cell_name 0 2) ∷
+        touched 0 to_call (cell_name 0 2) [] ∷ made 0 (made_name 0 1) ∷ made 0 (made_name 0 2) ∷ passed 0 the_page (made_name 0 2) ∷
+        ended (of_load 0) (by_return (thing log.a_record (made_name 0 2))) ∷
+        granted 1 (cell_name 0 0) ∷ granted 1 (made_name 0 2) ∷ touched 1 to_get (cell_name 0 0) (codes "get" ∷ []) ∷ got 1 (cell_name 0 0) (cell_name 0 1) ∷
+        touched 1 to_call (cell_name 0 1) [] ∷ got 1 (cell_name 0 1) (made_name 0 0) ∷ touched 1 to_set (made_name 0 0) (codes "v" ∷ []) ∷
+        made 1 (made_name 1 0) ∷ touched 1 to_call (own_name 1 1) [] ∷ ended (of_load 1) (by_return log.undefined) ∷
+        touched 1 to_get (cell_name 0 0) (codes "get" ∷ []) ∷ got 1 (cell_name 0 0) (cell_name 0 1) ∷ touched 1 to_call (cell_name 0 1) [] ∷
+        got 1 (cell_name 0 1) (made_name 0 0) ∷ touched 1 to_get (made_name 0 2) (codes "f" ∷ []) ∷ got 1 (made_name 0 2) (made_name 0 1) ∷
+        touched 1 to_call (made_name 0 1) [] ∷ passed 1 0 (made_name 0 0) ∷ touched 0 to_get (made_name 0 0) (codes "v" ∷ []) ∷
+        ended (of_tick 0 1) (by_return (log.number (pos 2))) ∷ ended (of_tick 1 1) by_nothing ∷ []) }
+{}
+
+/// A load that throws has no result: a module that is granted it gets undefined, and an event that calls a key of it gets a TypeError, `no object`.
+#[tactic(auto, using(crate::proofs::Pages::a_load_that_throws_has_no_result))]
+pub fn a_load_that_throws_has_no_result()
+    ensures { shown_page
+        (to_load 0 (codes "throw {m: 1};") [] ∷ to_load 1 (codes "a;") ((codes "a", a_result 0) ∷ []) ∷ deed.to_call 0 0 (codes "f") [] ∷ []) 50 ≡
+        done (made 0 (made_name 0 0) ∷ passed 0 the_page (made_name 0 0) ∷ ended (of_load 0) (by_throw (thing log.a_record (made_name 0 0))) ∷
+        ended (of_load 1) (by_return log.undefined) ∷
+        made 0 (made_name 0 1) ∷ passed 0 the_page (made_name 0 1) ∷
+        ended (of_call 0 0 (codes "f")) (by_throw (log.error (made_name 0 1) (codes "TypeError") (codes "no object"))) ∷ []) }
 {}

@@ -1,3 +1,6 @@
 pub mod Spelled
 pub mod Refusals
 pub mod Formats
+pub mod Each
+pub mod Outcomes
+pub mod Back

@@ -1,5 +1,5 @@
 -- What becomes of a source.
-use Rattle.std.specs.Prelude.{ℕ, List, [], Option, Some, None}
+use Rattle.std.specs.Prelude.{ℕ, List, Option, Some, None}
 use Rattle.es3_tree.specs.Tree as t
 use Rattle.es3_tree.specs.Placed as p
 use Rattle.es3_tree.specs.Placed.{Placed}
@@ -28,14 +28,14 @@ judged None None = broken 0 0
 abbrev pub statements : Placed t.program → Placed t.stmts
 statements (p.script body) = body
 
--- the module of a page by itself is granted no names
-abbrev pub outcome_of_body : Placed t.stmts → Outcome
-outcome_of_body body = judged (first (faults [] body)) (module_of [] body)
+-- where these names are granted
+abbrev pub outcome_of_body : List (List ℕ) → Placed t.stmts → Outcome
+outcome_of_body granted body = judged (first (faults granted body)) (module_of granted body)
 
-abbrev pub outcome_of : Source → Outcome
-outcome_of (s.uncut number at) = uncut number at
-outcome_of (s.unread number at) = unread number at
-outcome_of (s.spelled program) = outcome_of_body (statements program)
+abbrev pub outcome_of : List (List ℕ) → Source → Outcome
+outcome_of granted (s.uncut number at) = uncut number at
+outcome_of granted (s.unread number at) = unread number at
+outcome_of granted (s.spelled program) = outcome_of_body granted (statements program)
 
-abbrev pub outcome : List ℕ → Outcome
-outcome source = outcome_of (source_of source_limits source)
+abbrev pub outcome : List (List ℕ) → List ℕ → Outcome
+outcome granted source = outcome_of granted (source_of source_limits source)

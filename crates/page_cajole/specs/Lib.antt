@@ -4,3 +4,5 @@ pub mod Cajoled
 pub mod Answers
 pub mod Formatted
 pub mod Text
+pub mod Pages
+pub mod PageAnswers

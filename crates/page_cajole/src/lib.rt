@@ -1,33 +1,38 @@
 //! From a source to the cajoled program that stands for it, and its text, or to its own printed text, or to its own program, which runs as it stands; or
-//! to the stage that refuses it.
+//! to the stage that refuses it. From a page to what runs for its modules.
 #![tactic(auto)]
 
 ghost use Rattle.std.specs.Prelude.{◌≡◌, ℕ, List, IfOk};
+ghost use Rattle.es3_tree.specs.Tree as t;
 ghost use Rattle.es3_tree.specs.View.{program as program_view};
 ghost use Rattle.es3_tree.specs.PlacedView.{of_stmts};
 ghost use Rattle.cajita_tree.specs.View.{module_view};
 ghost use Rattle.cajita_rewrite.specs.Rewrite.{program_of};
+ghost use Rattle.es3_printed.specs.Back.{IsReadBack};
 ghost use Rattle.es3_printed.specs.Tokens.{printed};
+ghost use Rattle.page_cajole.specs.Cajoled as source_becomes;
 ghost use Rattle.page_cajole.specs.Cajoled.{outcome, outcome_of_body};
 ghost use Rattle.page_cajole.specs.Answers.{Answers};
 ghost use Rattle.page_cajole.specs.Formatted.{IsFormatted};
 
 mod formatting;
+mod pages;
 mod source;
 mod text;
 
-use caja_units::Memory;
+use caja_units::{Memory, Units};
 use cajita_rewrite::rewrite;
 use cajita_tree::Module;
 use es3_printer::print_program;
 use es3_tree::Program;
 pub use formatting::{FormatAnswer, format};
+pub use pages::{CajoleError, Stage, a_page_is_what_its_modules_are, cajole_all};
 use scope_rules::{RuleError, check};
 use source::{SOURCE_LIMITS, SourceRead, read_source};
 use std::alloc::Global;
 pub use text::{TextAnswer, read_text};
 
-/// A cajoled module: the program that stands for it, and that program's text in bytes of ASCII.
+/// What runs for a module: its program and the text of that. Where the module is cajoled, the program stands for it, and the text is in bytes of ASCII.
 #[derive(Drop)]
 pub struct CajoledModule {
     pub text: Vec<u8>,
@@ -58,27 +63,27 @@ fn cajoled(alloc: Global, resolved: &Module) -> Result<CajoledModule, Memory>
     Ok(CajoledModule { text, program })
 }
 
-/// The answer for a program that was read.
-fn judge(alloc: Global, program: &Program) -> Result<Answer, Memory>
-    ensures { IfOk result (λ a. Answers a (outcome_of_body (of_stmts program.now.body.items))) }
+/// The answer for a program that was read, where these names are granted.
+fn judge(alloc: Global, program: &Program, granted: &[Units]) -> Result<Answer, Memory>
+    ensures { IfOk result (λ a. Answers a (outcome_of_body granted.now (of_stmts program.now.body.items))) }
 {
-    match check(alloc, program, &[]) {
+    match check(alloc, program, granted) {
         Ok(module) => Ok(Answer::Module(cajoled(alloc, &module)?)),
         Err(RuleError::Fault(number, at, _name)) => Ok(Answer::Broken(number, at)),
         Err(RuleError::Memory) => Err(Memory),
     }
 }
 
-/// The cajoled module of a source, which is granted no names, or what refuses it: cutting it into tokens, reading these, or a rule, in this order.
+/// The cajoled module of a source that is granted these names, or what refuses it: cutting it into tokens, reading these, or a rule, in this order.
 ///
 /// # Errors
 ///
 /// `Memory` where memory is wanting.
-pub fn cajole(alloc: Global, source: &[u8]) -> Result<Answer, Memory>
-    ensures { IfOk result (λ a. Answers a (outcome source.now)) }
+pub fn cajole(alloc: Global, source: &[u8], granted: &[Units]) -> Result<Answer, Memory>
+    ensures { IfOk result (λ a. Answers a (outcome granted.now source.now)) }
 {
     match read_source(alloc, source, SOURCE_LIMITS)? {
-        SourceRead::Spelled(program) => judge(alloc, &program),
+        SourceRead::Spelled(program) => judge(alloc, &program, granted),
         SourceRead::Uncut(number, at) => Ok(Answer::Uncut(number, at)),
         SourceRead::Unread(number, at) => Ok(Answer::Unread(number, at)),
     }
@@ -88,4 +93,10 @@ pub fn cajole(alloc: Global, source: &[u8]) -> Result<Answer, Memory>
 /// program again, apart from places, and it may stand in a page; and a source is refused just where it spells no program within the limits.
 pub fn formatting_keeps_the_program()
     ensures { (source : List ℕ) → IsFormatted source }
+{}
+
+/// The text of a cajoled source is read back as the very program that it is of, whatever names were granted.
+#[tactic(auto, using(crate::proofs::Back::cajoled_back))]
+pub fn a_cajoled_text_is_read_back()
+    ensures { (granted : List (List ℕ)) (source : List ℕ) (p : t.Tree t.program) → outcome granted source ≡ source_becomes.cajoled p → IsReadBack p }
 {}

@@ -1,4 +1,6 @@
-pub mod Shown
 pub mod Theorem
-pub mod Meant
 pub mod Causes
+pub mod Reach
+pub mod Sources
+pub mod Texts
+pub mod Meant

@@ -1,103 +1,122 @@
--- Where a rewritten module does what its source does, its page shows what the source means.
-use Rattle.std.proofs.Common.{◌≡◌, ◌≢◌, ℕ, ◌≤◌, ◌*◌, List, [], ◌∷◌, ◌++◌, refl, sym, ap, ◌∙◌, subst, arith}
-use Rattle.std.proofs.lemmas.List.{append-nil, append_assoc}
-use Rattle.plans.specs.Plans.{over, stopped, out, kept_of}
+-- Where the page of rewritten modules does what the page of their sources does, it shows what the sources mean.
+use Rattle.std.proofs.Common.{◌≡◌, ◌≢◌, ℕ, suc, ◌+◌, ◌*◌, ◌≤◌, Bool, List, [], ◌∷◌, ◌++◌, length, refl, sym, ap, ◌∙◌, subst, arith}
+use Rattle.std.specs.Prelude.{map}
+use Rattle.std.proofs.lemmas.List.{append_assoc}
+use Rattle.plans.specs.Plans.{Fault, number_fault, depth_fault, convert_fault, over, stopped, out, count_of, kept_of}
 use Rattle.matching.specs.Sentences.{IsFinished}
-use Rattle.es3_language.specs.Meaning as Target
+use Rattle.es3_tree.specs.Tree as t
+use Rattle.rows.specs.Nodes.{no_rules}
 use Rattle.cajita_tree.specs.Tree as c
-use Rattle.cajita_meaning.specs.Direct as Source
-use Rattle.cajita_meaning.specs.Direct.{Item, printed}
 use Rattle.cajita_rewrite.specs.Rewrite.{program_of}
-use Rattle.page_natives.specs.Natives.{Kept}
-use Rattle.module_loader.specs.Page.{module_run}
-use Rattle.page_runner.specs.declared.End.TheVariants.{Convert, Steps}
-use Rattle.page_runner.specs.Log.{told_lines, run_log, run_end, page_log, page_end}
-use Rattle.cajita_simulation.specs.Guest.{GuestModule}
-use Rattle.cajita_simulation.specs.Alike.{IsPrefix, shown, most_steps}
-use Rattle.cajita_simulation.specs.Correct.{direct_run, EndAlike, Correct}
-use Rattle.cajita_simulation.proofs.Theorem.{correct}
-use Rattle.page_meaning.specs.DirectLog.{item_line, item_lines, load_shown, load_end, direct_log, direct_end}
-use Rattle.page_meaning.specs.Means.{EndsAfter, ShowsTheSame, IsFront, SourceMeans}
-use Rattle.page_meaning.proofs.Shown.{lines_alike, log_same, end_same, end_converts_nothing}
+use Rattle.heap_rows.specs.Doing.{Told}
+use Rattle.heap_rows.specs.Opening.{runtime_id}
+use Rattle.page_log.specs.Log.{Names, line, log}
+use Rattle.page_natives.specs.Natives.{new_kept}
+use Rattle.module_loader.specs.Turns.{page_store}
+use Rattle.page_deeds.specs.Deeds.{to_load, to_call, to_tick}
+use Rattle.event_script.specs.Events.{Asked, a_call, a_tick}
+use Rattle.cajita_page.specs.DirectPage as direct
+use Rattle.page_runner.specs.Page as es3
+use Rattle.page_runner.specs.Page.{es3_page}
+use Rattle.page_runner.specs.Outcome.{end_of, fault_end}
+use Rattle.page_runner.specs.declared.running.End.TheVariants.{Convert, Steps}
+use Rattle.page_manifest.specs.Page.{Module, Page}
+use Rattle.page_manifest.specs.Deeds.{loads, events, deeds}
+use Rattle.cajita_simulation.specs.Alike.{IsPrefix, GuestFault, most_page_steps}
+use Rattle.page_simulation.specs.Pages.{program_deed, program_deeds}
+use Rattle.page_simulation.specs.Correct.{told_of, EndAlike, ConvertsNothing, program_page, PageCorrect}
+use Rattle.manifest_deeds.specs.Names.{page_names}
+use Rattle.page_meaning.specs.PageRuns.{programs_run, sources_run, programs_log, programs_end, sources_log, sources_end, direct_end}
+use Rattle.page_meaning.specs.Means.{programs_of, EndsAfter, ShowsTheSame, IsFront, SourcesMean}
+
+-- the same deeds, of the modules and of the programs that stand for them
+
+deeds_append : (ds es : List direct.Deed) → program_deeds (ds ++ es) ≡ program_deeds ds ++ program_deeds es
+deeds_append [] es = refl
+deeds_append (d ∷ ds) es = ap (λ l. program_deed d ∷ l) (deeds_append ds es)
+
+loads_same : (i : ℕ) (ms : List Module) (ss : List (c.Tree c.program)) → program_deeds (loads i ms ss) ≡ loads i ms (programs_of ss)
+loads_same i [] ss = refl
+loads_same i (m ∷ ms) [] = refl
+loads_same i (m ∷ ms) (s ∷ ss) = ap (λ l. program_deed (to_load i s m.grants) ∷ l) (loads_same (i + 1) ms ss)
+
+events_same : (k : ℕ) (es : List Asked) → program_deeds (events k es) ≡ events k es
+events_same k [] = refl
+events_same k (a_call m key args ∷ es) = ap (λ l. to_call k m key args ∷ l) (events_same (k + 1) es)
+events_same k (a_tick m ∷ es) = ap (λ l. to_tick k m ∷ l) (events_same (k + 1) es)
+
+pub deeds_same : (p : Page) (ss : List (c.Tree c.program)) → program_deeds (deeds p ss) ≡ deeds p (programs_of ss)
+deeds_same p ss =
+    deeds_append (loads 0 p.modules ss) (events 0 p.events)
+    ∙ ap (λ l. l ++ program_deeds (events 0 p.events)) (loads_same 0 p.modules ss)
+    ∙ ap (λ l. loads 0 p.modules (programs_of ss) ++ l) (events_same 0 p.events)
 
 -- a run that wants no step is finished
 
-source_finished : (r : Source.Run) → load_end r ≢ Steps → IsFinished r
+source_finished : (r : direct.Run) → direct_end r ≢ Steps → IsFinished r
 source_finished (over e w z n) h = tt
 source_finished (stopped f w z n) h = tt
 source_finished (out w z n) h = absurd (h refl)
 
-target_finished : (t : Target.Run Kept) → run_end t ≢ Steps → IsFinished t
-target_finished (over e s y n) h = tt
-target_finished (stopped f s y n) h = tt
-target_finished (out s y n) h = absurd (h refl)
-
-direct_finished : (m : c.Tree c.program) (n : ℕ) → direct_end m n ≢ Steps → IsFinished (direct_run m 0 n)
-unfolding direct_end
-direct_finished m n h = source_finished (direct_run m 0 n) h
-
-page_finished : (m : c.Tree c.program) (s : ℕ) → page_end (program_of m) s ≢ Steps → IsFinished (module_run (program_of m) 0 s)
-unfolding page_end
-page_finished m s h = target_finished (module_run (program_of m) 0 s) h
-
--- the log of the page of a module, and that of the direct run
-
-page_is : (m : c.Tree c.program) (s : ℕ) → page_log (program_of m) s ≡ run_log (module_run (program_of m) 0 s)
-unfolding page_log
-page_is m s = refl
-
-direct_is : (m : c.Tree c.program) (n : ℕ) → direct_log m n ≡ item_lines (printed (kept_of (direct_run m 0 n))) ++ load_shown (direct_run m 0 n)
-unfolding direct_log
-direct_is m n = refl
+program_finished : (q : es3.Run) → end_of q ≢ Steps → IsFinished q
+program_finished (over e s y n) h = tt
+program_finished (stopped f s y n) h = tt
+program_finished (out s y n) h = absurd (h refl)
 
 -- like ends are shown alike
 
-shows : (m : c.Tree c.program) (s n : ℕ) → EndAlike (direct_run m 0 n) (module_run (program_of m) 0 s) → ShowsTheSame m s n
-unfolding page_end direct_log direct_end
-shows m s n p = record { log = page_is m s ∙ log_same (direct_run m 0 n) (module_run (program_of m) 0 s) p; end = end_same (direct_run m 0 n) (module_run (program_of m) 0 s) p }
+end_same : (touching : Bool) (r : direct.Run) (q : es3.Run) → EndAlike touching r q → end_of q ≡ direct_end r
+end_same touching (over r w z n) (over r' s y n') h = refl
+end_same touching (stopped f w z n) (stopped g s y n') h = ap fault_end (sym h.0)
+end_same touching _ _ h = absurd h
 
--- where a run is cut, what was said by then is the front of what the direct run says
+told_same : (touching : Bool) (r : direct.Run) (q : es3.Run) → EndAlike touching r q → (kept_of q).told ≡ told_of touching (kept_of r)
+told_same touching (over r w z n) (over r' s y n') h = sym h
+told_same touching (stopped f w z n) (stopped g s y n') h = sym h.2
+told_same touching _ _ h = absurd h
 
-lines_append : (a b : List Item) → item_lines (a ++ b) ≡ item_lines a ++ item_lines b
-lines_append [] b = refl
-lines_append (i ∷ a) b = ap (λ l. item_line i ++ l) (lines_append a b) ∙ sym (append_assoc (item_line i) (item_lines a) (item_lines b))
+log_append : (names : Names) (a b : List Told) → log names (a ++ b) ≡ log names a ++ log names b
+log_append names [] b = refl
+log_append names (t ∷ a) b = ap (λ l. line names t ++ l) (log_append names a b) ∙ sym (append_assoc (line names t) (log names a) (log names b))
 
-front_of_same : (part all : List ℕ) → part ≡ all → IsFront part all
-front_of_same part all p = record { rest = []; is = sym p ∙ sym (append-nil part) }
+front : (names : Names) (a b : List Told) → IsPrefix a b → IsFront (log names a) (log names b)
+front names a b p = record { rest = log names p.rest; is = ap (log names) p.is ∙ log_append names a p.rest }
 
-said_first : (y : Kept) (z : List Item) (line : List ℕ) → IsPrefix (shown y) (printed z) → IsFront (told_lines y.told ++ []) (item_lines (printed z) ++ line)
-said_first y z line p = record {
-  rest = item_lines p.rest ++ line;
-  is = ap (λ l. l ++ line) (ap item_lines p.is ∙ lines_append (shown y) p.rest)
-      ∙ append_assoc (item_lines (shown y)) (item_lines p.rest) line
-      ∙ ap (λ l. l ++ (item_lines p.rest ++ line)) (sym (append-nil (told_lines y.told) ∙ lines_alike y.told));
-}
+-- faults
 
-cut_run : (m : c.Tree c.program) (t : Target.Run Kept) → (IsFinished t → (k : ℕ) × ((n : ℕ) → k ≤ n → run_log t ≡ direct_log m n)) → ((k : ℕ) × ((n : ℕ) → k ≤ n → IsPrefix (shown (kept_of t)) (printed (kept_of (direct_run m 0 n))))) → (k : ℕ) × ((n : ℕ) → k ≤ n → IsFront (run_log t) (direct_log m n))
-cut_run m (over e s y l) f g = let h = f tt in (h.0, λ n le. front_of_same _ _ (h.1 n le))
-cut_run m (stopped q s y l) f g = let h = f tt in (h.0, λ n le. front_of_same _ _ (h.1 n le))
-cut_run m (out s y l) f g = (g.0, λ n le. subst (IsFront (told_lines y.told ++ [])) (sym (direct_is m n)) (said_first y (kept_of (direct_run m 0 n)) (load_shown (direct_run m 0 n)) (g.1 n le)))
+no_conversion : (f : Fault) → GuestFault f → fault_end f ≢ Convert
+no_conversion number_fault p = λ e. cc
+no_conversion depth_fault p = λ e. cc
+no_conversion convert_fault p = absurd p
 
-module _ (m : c.Tree c.program) (does : Correct 0 m) where
-  forward : (n c s : ℕ) → EndsAfter m n c → 64 * c ≤ s → 64 * c ≤ most_steps → ShowsTheSame m s n
-  forward n c s after le most = shows m s n (does.forward n c s (direct_finished m n after.ends) after.taken le most).0
+converts_nothing : (q : es3.Run) → ConvertsNothing q → end_of q ≢ Convert
+converts_nothing (over r s y n) p = λ x. cc
+converts_nothing (stopped f s y n) p = no_conversion f p
+converts_nothing (out s y n) p = λ x. cc
 
-  finished : (s : ℕ) → s ≤ most_steps → IsFinished (module_run (program_of m) 0 s) → (k : ℕ) × ((n : ℕ) → k ≤ n → ShowsTheSame m s n)
-  finished s le fin = let b = does.backward s le fin in (b.0, λ n more. shows m s n (b.1 n more))
+module _ (p : Page) (ms : List (c.Tree c.program)) (touching : Bool) (correct : PageCorrect no_rules (length p.modules) (length p.cells) touching (deeds p ms)) where
+  run_same : (s : ℕ) → program_page (length p.modules) (length p.cells) touching (deeds p ms) s ≡ programs_run p (programs_of ms) touching s
+  run_same s = ap (λ ds. es3_page (length p.modules) ds (page_store (length p.modules) (length p.cells)) (new_kept runtime_id touching) s) (deeds_same p ms)
 
-  backward : (s : ℕ) → s ≤ most_steps → page_end (program_of m) s ≢ Steps → (k : ℕ) × ((n : ℕ) → k ≤ n → ShowsTheSame m s n)
-  backward s le h = finished s le (page_finished m s h)
+  alike : (n s : ℕ) → EndAlike touching (sources_run p ms n) (program_page (length p.modules) (length p.cells) touching (deeds p ms) s) → EndAlike touching (sources_run p ms n) (programs_run p (programs_of ms) touching s)
+  alike n s h = subst (EndAlike touching (sources_run p ms n)) (run_same s) h
 
-  cut : (s : ℕ) → s ≤ most_steps → (k : ℕ) × ((n : ℕ) → k ≤ n → IsFront (page_log (program_of m) s) (direct_log m n))
-  cut s le = subst (λ l. (k : ℕ) × ((n : ℕ) → k ≤ n → IsFront l (direct_log m n))) (sym (page_is m s)) (cut_run m (module_run (program_of m) 0 s) (λ fin. let b = finished s le fin in (b.0, λ n more. sym (page_is m s) ∙ (b.1 n more).log)) (does.cut s le))
+  shows : (n s : ℕ) → EndAlike touching (sources_run p ms n) (program_page (length p.modules) (length p.cells) touching (deeds p ms) s) → ShowsTheSame p ms touching s n
+  shows n s h = record {
+    log = ap (log (page_names p)) (told_same touching (sources_run p ms n) (programs_run p (programs_of ms) touching s) (alike n s h));
+    end = end_same touching (sources_run p ms n) (programs_run p (programs_of ms) touching s) (alike n s h);
+  }
 
-  never_converts : (s : ℕ) → s ≤ most_steps → page_end (program_of m) s ≢ Convert
-  unfolding page_end
-  never_converts s le = end_converts_nothing (module_run (program_of m) 0 s) (does.never_converts s le)
+  finished_of : (s : ℕ) → programs_end p (programs_of ms) touching s ≢ Steps → IsFinished (program_page (length p.modules) (length p.cells) touching (deeds p ms) s)
+  finished_of s h = subst IsFinished (sym (run_same s)) (program_finished (programs_run p (programs_of ms) touching s) h)
 
-  source_means : SourceMeans m
-  source_means = record { forward = forward; backward = backward; cut = cut; never_converts = never_converts }
+  pub told_cut : (s : ℕ) → s ≤ most_page_steps → (k : ℕ) × ((n : ℕ) → k ≤ n → IsPrefix (kept_of (programs_run p (programs_of ms) touching s)).told (told_of touching (kept_of (sources_run p ms n))))
+  told_cut s le = let h = correct.cut s le in (h.0, λ n more. subst (λ (q : es3.Run). IsPrefix (kept_of q).told (told_of touching (kept_of (sources_run p ms n)))) (run_same s) (h.1 n more))
 
--- a module that was accepted does what its source does
-pub guests_mean : (m : c.Tree c.program) → GuestModule m → SourceMeans m
-guests_mean m guest = source_means m (correct m 0 (omega arith) tt guest)
+  pub sources_mean : SourcesMean p ms touching
+  sources_mean = record {
+    forward = λ n c s after le most. shows n s (correct.forward n c s (source_finished (sources_run p ms n) after.ends) after.taken le most).0;
+    backward = λ s le h. let b = correct.backward s le (finished_of s h) in (b.0, λ n more. shows n s (b.1 n more));
+    cut = λ s le. let h = told_cut s le in (h.0, λ n more. front (page_names p) _ _ (h.1 n more));
+    never_converts = λ s le. converts_nothing (programs_run p (programs_of ms) touching s) (subst ConvertsNothing (run_same s) (correct.never_converts s le));
+  }

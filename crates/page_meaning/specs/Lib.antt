@@ -1,4 +1,7 @@
-pub mod DirectLog
+pub mod PageRuns
 pub mod Means
-pub mod Meant
+pub mod Reach
 pub mod Causes
+pub mod Sources
+pub mod Texts
+pub mod Meant

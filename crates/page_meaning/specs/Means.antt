@@ -1,36 +1,40 @@
--- What the page of a rewritten module shows is what the module's source means.
-use Rattle.std.specs.Prelude.{◌≡◌, ◌≢◌, ◌≤◌, ℕ, ◌+◌, ◌*◌, List, ◌++◌}
+-- What the page of rewritten modules shows is what their sources mean.
+use Rattle.std.specs.Prelude.{◌≡◌, ◌≢◌, ◌≤◌, ℕ, ◌+◌, ◌*◌, Bool, List, ◌++◌, map}
 use Rattle.plans.specs.Plans.{count_of}
+use Rattle.es3_tree.specs.Tree as t
 use Rattle.cajita_tree.specs.Tree as c
 use Rattle.cajita_rewrite.specs.Rewrite.{program_of}
-use Rattle.page_runner.specs.declared.End.TheVariants.{Convert, Steps}
-use Rattle.page_runner.specs.Log.{page_log, page_end}
-use Rattle.cajita_simulation.specs.Alike.{most_steps}
-use Rattle.cajita_simulation.specs.Correct.{direct_run}
-use Rattle.page_meaning.specs.DirectLog.{direct_log, direct_end}
+use Rattle.cajita_simulation.specs.Alike.{most_page_steps}
+use Rattle.page_manifest.specs.Page.{Page}
+use Rattle.page_runner.specs.declared.running.End.TheVariants.{Convert, Steps}
+use Rattle.page_meaning.specs.PageRuns.{sources_run, programs_log, programs_end, sources_log, sources_end}
+
+-- the programs that stand for modules
+abbrev pub programs_of : List (c.Tree c.program) → List (t.Tree t.program)
+programs_of ms = map program_of ms
 
 -- the direct run with n steps comes to its end, or stops for good, after c of them
-pub record EndsAfter (m : c.Tree c.program) (n c : ℕ) : Type 0 where
-  pub ends : direct_end m n ≢ Steps
-  pub taken : count_of (direct_run m 0 n) + c ≡ n
+pub record EndsAfter (p : Page) (ms : List (c.Tree c.program)) (n c : ℕ) : Type 0 where
+  pub ends : sources_end p ms n ≢ Steps
+  pub taken : count_of (sources_run p ms n) + c ≡ n
 
 -- the page with s steps of the interpreter shows what the direct run with n steps shows: the same log and the same end
-pub record ShowsTheSame (m : c.Tree c.program) (s n : ℕ) : Type 0 where
-  pub log : page_log (program_of m) s ≡ direct_log m n
-  pub end : page_end (program_of m) s ≡ direct_end m n
+pub record ShowsTheSame (p : Page) (ms : List (c.Tree c.program)) (touching : Bool) (s n : ℕ) : Type 0 where
+  pub log : programs_log p (programs_of ms) touching s ≡ sources_log p ms touching n
+  pub end : programs_end p (programs_of ms) touching s ≡ sources_end p ms n
 
 -- a log is the front of another
 pub record IsFront (part all : List ℕ) : Type 0 where
   pub rest : List ℕ
   pub is : all ≡ part ++ rest
 
--- the page of a module shows what its source means
-pub record SourceMeans (m : c.Tree c.program) : Type 0 where
+-- the page shows what the sources of its modules mean, with a line for each touch or without
+pub record SourcesMean (p : Page) (ms : List (c.Tree c.program)) (touching : Bool) : Type 0 where
   -- where the direct run ends after c steps, the page shows the same with any number of steps from 64 times c on
-  pub forward : (n c s : ℕ) → EndsAfter m n c → 64 * c ≤ s → 64 * c ≤ most_steps → ShowsTheSame m s n
+  pub forward : (n c s : ℕ) → EndsAfter p ms n c → 64 * c ≤ s → 64 * c ≤ most_page_steps → ShowsTheSame p ms touching s n
   -- where the page ends, it shows what the direct run shows with every number of steps that is large enough
-  pub backward : (s : ℕ) → s ≤ most_steps → page_end (program_of m) s ≢ Steps → (k : ℕ) × ((n : ℕ) → k ≤ n → ShowsTheSame m s n)
+  pub backward : (s : ℕ) → s ≤ most_page_steps → programs_end p (programs_of ms) touching s ≢ Steps → (k : ℕ) × ((n : ℕ) → k ≤ n → ShowsTheSame p ms touching s n)
   -- wherever the page is cut off, its log is a front of the log of the direct run with every number of steps that is large enough
-  pub cut : (s : ℕ) → s ≤ most_steps → (k : ℕ) × ((n : ℕ) → k ≤ n → IsFront (page_log (program_of m) s) (direct_log m n))
+  pub cut : (s : ℕ) → s ≤ most_page_steps → (k : ℕ) × ((n : ℕ) → k ≤ n → IsFront (programs_log p (programs_of ms) touching s) (sources_log p ms touching n))
   -- the page never ends at a conversion that would run code of a text
-  pub never_converts : (s : ℕ) → s ≤ most_steps → page_end (program_of m) s ≢ Convert
+  pub never_converts : (s : ℕ) → s ≤ most_page_steps → programs_end p (programs_of ms) touching s ≢ Convert

@@ -1,18 +1,30 @@
-//! What the page of a rewritten module shows is what its source means.
+//! What the page of rewritten modules shows is what their sources mean.
 //!
-//! The definitions stand in specs/: `direct_log` and `direct_end` say what a source means, `SourceMeans` that the page shows it. There is no code. The
-//! function here has no body: its contract is the law.
+//! The definitions stand in specs/: what a page comes to by either meaning and what that shows (PageRuns.antt), that the one shows what the other means (Means.antt), why it ends so
+//! (Causes.antt), that what is touched lies in reach (Reach.antt), what becomes of each source (Sources.antt, Texts.antt), and all of that of a page (Meant.antt). There is no code. The
+//! functions here have no body: their contracts are the laws.
 #![tactic(auto)]
 
-ghost use Rattle.cajita_tree.specs.Tree as c;
-ghost use Rattle.cajita_simulation.specs.Guest.{GuestModule};
-ghost use Rattle.page_meaning.specs.Means.{SourceMeans};
+ghost use Rattle.std.specs.Prelude.{ℕ, List};
+ghost use Rattle.page_manifest.specs.Page.{Page};
+ghost use Rattle.page_meaning.specs.Sources.{IsSource};
+ghost use Rattle.page_meaning.specs.Texts.{IsText};
+ghost use Rattle.page_meaning.specs.Meant.{IsPage, IsMeant};
 
-/// The page of an accepted module shows what the module's source means: the same log and the same end.
-///
-/// Where the source ends after so many steps, the page shows the same from 64 times as many on; where the page ends, it shows what the source means;
-/// wherever the page is cut off, its log is a front of the source's; and no page ends at a conversion.
-#[tactic(auto, using(crate::proofs::Theorem::guests_mean))]
-pub fn the_log_is_the_sources_meaning()
-    ensures { (m : c.Tree c.program) → GuestModule m → SourceMeans m }
+/// A page of modules in Cajita is meant: its sources are what they are just where that is so, and where all are accepted, the page of the programs that stand for them shows what they mean, ends
+/// for the causes for which they do, and touches what lies in reach alone.
+pub fn an_accepted_page_is_meant()
+    ensures { (p : Page) → IsPage p → IsMeant p }
+{}
+
+/// What becomes of a source that is granted names.
+#[tactic(auto, using(crate::proofs::Sources::is_source))]
+pub fn a_source_is_cajoled_or_refused()
+    ensures { (granted : List (List ℕ)) (source : List ℕ) → IsSource granted source }
+{}
+
+/// What becomes of a text that runs as it stands.
+#[tactic(auto, using(crate::proofs::Texts::is_text))]
+pub fn a_text_runs_or_is_refused()
+    ensures { (source : List ℕ) → IsText source }
 {}
