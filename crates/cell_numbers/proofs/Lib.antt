@@ -1,0 +1,12 @@
+pub mod Forms
+pub mod Lists
+pub mod Worlds
+pub mod Rows
+pub mod Calls
+pub mod Questions
+pub mod Events
+pub mod Turns
+pub mod Pages
+pub mod Exchanges
+pub mod Names
+pub mod Cells

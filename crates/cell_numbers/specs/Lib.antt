@@ -1,0 +1,5 @@
+pub mod Renumbering
+pub mod Mapped
+pub mod Names
+pub mod Cells
+pub mod Promises

@@ -1,0 +1,123 @@
+-- Accepted pages that agree on a group give it the same lines and texts.
+use Rattle.std.proofs.Common.{◌≡◌, ℕ, zero, suc, Bool, List, [], ◌∷◌, Option, Some, None, Ok, Result, Contains, refl, sym, ap, ap₂, ◌∙◌, subst}
+use Rattle.std.specs.Prelude.{map, option_map, slice_get}
+use Rattle.std.proofs.lemmas.Option.{slice_get-map}
+use Rattle.rows.specs.Nodes.{no_rules}
+use Rattle.scope_rules.specs.Resolve.{module_of}
+use Rattle.page_deeds.specs.Deeds.{Grants}
+use Rattle.cell_numbers.specs.Names.{SameGrants}
+use Rattle.page_manifest.specs.Page.{Module, Page}
+use Rattle.manifest_deeds.specs.Names.{page_names}
+use Rattle.page_cajole.specs.Cajoled.{statements}
+use Rattle.page_cajole.specs.Pages.{Runnable, Refusal, granted_names, module_outcome, page_outcome}
+use Rattle.page_cajole.proofs.Outcomes as pages
+use Rattle.page_meaning.specs.PageRuns.{sources_run}
+use Rattle.page_meaning.specs.Sources.{SpellsModule}
+use Rattle.page_meaning.specs.Meant.{SpellModules, IsPage}
+use Rattle.page_meaning.proofs.Sources.{is_source}
+use Rattle.page_agreement.specs.Agree.{IsAt, AgreeOn}
+use Rattle.page_agreement.specs.Lines.{group_log}
+use Rattle.page_agreement.specs.Isolated.{direct_lines, SameFor, IsIsolated}
+use Rattle.page_agreement.proofs.Groups.{member_below}
+use Rattle.page_agreement.proofs.Agrees.{Program, InStep, there_is}
+use Rattle.page_agreement.proofs.Own.{IsOver}
+use Rattle.page_agreement.proofs.Direct.{same_lines}
+use Rattle.page_agreement.proofs.Told.{sources_over, tells_the_same}
+
+-- a source spells one module at most
+one_module : (granted : List (List ℕ)) (source : List ℕ) (s r : Program) → SpellsModule granted source s → SpellsModule granted source r → s ≡ r
+one_module granted source s r a b =
+    let tree = (is_source granted source).one a.tree b.tree a.spelled b.spelled in
+    let same : Some s ≡ Some r = sym a.resolved ∙ ap (λ k. module_of granted (statements k)) tree ∙ b.resolved in
+    cc
+
+spelled_at : (ms : List Module) (ss : List Program) → SpellModules ms ss → (i : ℕ) (m : Module) (s : Program) → slice_get ms i ≡ Some m → slice_get ss i ≡ Some s → SpellsModule (granted_names m) m.source s
+spelled_at [] [] h i m s at is = absurd cc
+spelled_at [] (r ∷ ss) h i m s at is = absurd h
+spelled_at (n ∷ ms) [] h i m s at is = absurd h
+spelled_at (n ∷ ms) (r ∷ ss) h zero m s at is =
+    let module_same : n ≡ m = cc in
+    let program_same : r ≡ s = cc in
+    subst (λ (k : Module). SpellsModule (granted_names k) k.source s) module_same (subst (SpellsModule (granted_names n) n.source) program_same h.0)
+spelled_at (n ∷ ms) (r ∷ ss) h (suc i) m s at is = spelled_at ms ss h.1 i m s at is
+
+-- as many modules as names, and as programs
+
+in_step : (ms ns : List Module) (ss rs : List Program) → map (λ (m : Module). m.name) ms ≡ map (λ (m : Module). m.name) ns → SpellModules ms ss → SpellModules ns rs → InStep ms ns ss rs
+in_step [] [] [] [] names h k = tt
+in_step [] [] [] (r ∷ rs) names h k = absurd k
+in_step [] [] (s ∷ ss) rs names h k = absurd h
+in_step [] (n ∷ ns) ss rs names h k = absurd cc
+in_step (m ∷ ms) [] ss rs names h k = absurd cc
+in_step (m ∷ ms) (n ∷ ns) [] rs names h k = absurd h
+in_step (m ∷ ms) (n ∷ ns) (s ∷ ss) [] names h k = absurd k
+in_step (m ∷ ms) (n ∷ ns) (s ∷ ss) (r ∷ rs) names h k = let rest : map (λ (m : Module). m.name) ms ≡ map (λ (m : Module). m.name) ns = cc in in_step ms ns ss rs rest h.1 k.1
+
+-- the same grants have the same names
+names_same : (names others : List (List ℕ)) (gs hs : Grants) → SameGrants names others gs hs → map (λ g. g.0) gs ≡ map (λ g. g.0) hs
+names_same names others [] [] s = refl
+names_same names others ((x, g) ∷ gs) ((y, h) ∷ hs) s = ap₂ (λ (k : List ℕ) (l : List (List ℕ)). k ∷ l) s.0 (names_same names others gs hs s.2)
+names_same names others gs hs s = absurd s
+
+-- what runs for a module, by what becomes of it
+the_same_runs : (o o' : Option Runnable) (a b : Result Runnable Refusal) → Some a ≡ option_map Ok o → Some b ≡ option_map Ok o' → a ≡ b → o ≡ o'
+the_same_runs None o' a b h k e = absurd cc
+the_same_runs (Some r) None a b h k e = absurd cc
+the_same_runs (Some r) (Some s) a b h k e = let same : r ≡ s = cc in ap Some same
+
+runs_at : (p : Page) (rs : List Runnable) → page_outcome p ≡ Ok rs → (i : ℕ) (m : Module) → IsAt p i m → Some (module_outcome m) ≡ option_map Ok (slice_get rs i)
+runs_at p rs e i m at =
+    ap (option_map module_outcome) (sym at) ∙ sym (slice_get-map module_outcome p.modules i) ∙ ap (λ l. slice_get l i) (((pages.is_cajoled_page p).where_accepted rs).0 e) ∙ slice_get-map Ok rs i
+
+module _ (p q : Page) (g : List ℕ) (agree : AgreeOn p q g) (is : IsPage p) (is' : IsPage q) where
+  -- a module of the group, in both pages
+  record InBoth (i : ℕ) : Type 0 where
+    left : Module
+    right : Module
+    here : IsAt p i left
+    there : IsAt q i right
+
+  in_both : (i : ℕ) → Contains g i → InBoth i
+  in_both i member =
+      let m = there_is p.modules i (member_below p is.valid g agree.here i member) in
+      let n = there_is q.modules i (member_below q is'.valid g agree.there i member) in
+      record { left = m.0; right = n.0; here = m.1; there = n.1 }
+
+  granted_same : (i : ℕ) → Contains g i → (b : InBoth i) → granted_names b.left ≡ granted_names b.right
+  granted_same i member b = names_same p.cells q.cells b.left.grants b.right.grants (agree.modules i b.left b.right member b.here b.there).grants
+
+  same_sources : (ls ms : List Program) → SpellModules p.modules ls → SpellModules q.modules ms → (i : ℕ) (s r : Program) → Contains g i → slice_get ls i ≡ Some s → slice_get ms i ≡ Some r → s ≡ r
+  same_sources ls ms h k i s r member at at' =
+      let b = in_both i member in
+      let a = agree.modules i b.left b.right member b.here b.there in
+      one_module (granted_names b.right) b.right.source s r
+      (subst (λ x. SpellsModule x b.right.source s) (granted_same i member b) (subst (λ x. SpellsModule (granted_names b.left) x s) a.source (spelled_at p.modules ls h i b.left s b.here at)))
+      (spelled_at q.modules ms k i b.right r b.there at')
+
+  direct_same : (ls ms : List Program) → SpellModules p.modules ls → SpellModules q.modules ms → (touching : Bool) (n k : ℕ) → IsOver (sources_run p ls n) → IsOver (sources_run q ms k) → direct_lines p ls touching n g ≡ direct_lines q ms touching k g
+  direct_same ls ms h h' touching n k o o' =
+      same_lines p q is.valid is'.valid g agree no_rules ls ms (same_sources ls ms h h') (in_step p.modules p.modules ls ls refl h h) (in_step p.modules q.modules ls ms agree.names h h') touching n k o o'
+
+  module _ (rs ss : List Runnable) (e : page_outcome p ≡ Ok rs) (e' : page_outcome q ≡ Ok ss) where
+    same_texts : (i : ℕ) → Contains g i → slice_get rs i ≡ slice_get ss i
+    same_texts i member =
+        let b = in_both i member in
+        let a = agree.modules i b.left b.right member b.here b.there in
+        the_same_runs (slice_get rs i) (slice_get ss i) (module_outcome b.left) (module_outcome b.right) (runs_at p rs e i b.left b.here) (runs_at q ss e' i b.right b.there)
+        ((pages.is_cajoled_page p).alone b.left b.right a.language a.source (granted_same i member b))
+
+    same_for : SameFor g p q rs ss
+    same_for = record {
+      lines = λ ms h touching s n le done done'.
+          let a = tells_the_same p is rs e touching s le done in
+          ap (group_log (page_names p) g) a.told ∙ direct_same a.sources ms a.spelled h touching a.steps n a.done (sources_over (sources_run q ms n) done');
+      written = λ touching s k le le' done done'.
+          let a = tells_the_same p is rs e touching s le done in
+          let b = tells_the_same q is' ss e' touching k le' done' in
+          ap (group_log (page_names p) g) a.told ∙ direct_same a.sources b.sources a.spelled b.spelled touching a.steps b.steps a.done b.done ∙ sym (ap (group_log (page_names q) g) b.told);
+      direct = λ ls ms h h' touching n k done done'. direct_same ls ms h h' touching n k (sources_over (sources_run p ls n) done) (sources_over (sources_run q ms k) done');
+      texts = same_texts;
+    }
+
+pub isolated : (p : Page) → IsPage p → IsIsolated p
+isolated p is q g agree is' rs ss e e' = same_for p q g agree is is' rs ss e e'

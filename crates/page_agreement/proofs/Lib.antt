@@ -1,0 +1,9 @@
+pub mod Groups
+pub mod Once
+pub mod Agrees
+pub mod Own
+pub mod Shown
+pub mod Direct
+pub mod Told
+pub mod Isolated
+pub mod Worked

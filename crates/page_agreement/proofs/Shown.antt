@@ -1,0 +1,150 @@
+-- The lines of a group: they are those of its items, and the names of cells that two pages have in common make them the same.
+use Rattle.std.proofs.Common.{◌≡◌, ℕ, Bool, true, false, cond, List, [], ◌∷◌, ◌++◌, refl, sym, ap, ◌∙◌}
+use Rattle.std.specs.Prelude.{get_or, codes, if◌then◌else◌}
+use Rattle.caja_units.specs.Index.{number_units}
+use Rattle.caja_units.specs.Literal.{literal}
+use Rattle.caja_units.specs.Utf8.{utf8_of}
+use Rattle.page_deeds.specs.Deeds.{Label, of_load, of_call, of_tick}
+use Rattle.page_deeds.specs.Shown as show
+use Rattle.page_deeds.specs.Shown.{Shown, Sort, renamed, Ended, by_return, by_throw, by_nothing, end_renamed}
+use Rattle.acts.specs.Laws.{All}
+use Rattle.rows.specs.Rows.{Touch}
+use Rattle.rows.specs.Names.{Tools, of_cajita, of_math, code_of}
+use Rattle.heap_rows.specs.Natives.{tag_of_code, tag_of_tools}
+use Rattle.heap_rows.specs.Doing as told
+use Rattle.heap_rows.specs.Doing.{Told, heard}
+use Rattle.cajita_meaning.specs.World.{Name, made_name, cell_name, own_name, built_name, tools_name, facet_name, forward_name}
+use Rattle.cajita_meaning.specs.Direct.{Item, made, got, touched, passed, granted, said, was_revoked, changed_node, ended}
+use Rattle.cajita_laws.specs.Parts.{Group, items_of}
+use Rattle.row_simulation.specs.Correspond.{tag_of_name}
+use Rattle.row_simulation.specs.RowLaw.{shown}
+use Rattle.page_log.specs.Log.{Names, name_in, own_ends, cell_ends, object_name, sort_text, shown_text, label_text, end_text, touch_text, key_text, line_end, line, log}
+use Rattle.cell_numbers.specs.Renumbering.{Renumbering, name_anew, item_anew, items_anew}
+use Rattle.cell_numbers.specs.Cells.{cells_of, cells_shown, cells_ended, cells_told, cells_in}
+use Rattle.page_agreement.specs.Lines.{is_among, told_of}
+
+-- the group's lines are those of its items
+
+module _ (g : List ℕ) (cells : ℕ → Bool) where
+  abbrev its_group : Group
+  its_group = record { modules = is_among g; cells = cells; roots = λ r. false }
+
+  -- an item that has a line, and what is told behind it
+  one_line : (b touching : Bool) (i : Item) (t : Told) (z : List Item) (ts us : List Told) → ((y : List Item) → heard touching (shown (i ∷ y)) ≡ t ∷ heard touching (shown y)) → ts ≡ heard touching (shown z)
+      → cond b (t ∷ ts) ts ≡ heard touching (shown (if b then i ∷ z else z))
+  one_line true touching i t z ts us shows e = ap (λ l. t ∷ l) e ∙ sym (shows z)
+  one_line false touching i t z ts us shows e = e
+
+  -- an item that has none
+  no_line : (b touching : Bool) (i : Item) (z : List Item) (ts : List Told) → ((y : List Item) → heard touching (shown (i ∷ y)) ≡ heard touching (shown y)) → ts ≡ heard touching (shown z) → ts ≡ heard touching (shown (if b then i ∷ z else z))
+  no_line true touching i z ts shows e = e ∙ sym (shows z)
+  no_line false touching i z ts shows e = e
+
+  pub its_lines : (touching : Bool) (z : List Item) → told_of g (heard touching (shown z)) ≡ heard touching (shown (items_of true its_group z))
+  its_lines touching [] = refl
+  its_lines true (touched m t o k ∷ z) = one_line (is_among g m) true (touched m t o k) (told.touched m t (tag_of_name o) k) (items_of true its_group z) (told_of g (heard true (shown z))) [] (λ y. refl) (its_lines true z)
+  its_lines false (touched m t o k ∷ z) = no_line (is_among g m) false (touched m t o k) (items_of true its_group z) (told_of g (heard false (shown z))) (λ y. refl) (its_lines false z)
+  its_lines touching (said m us ∷ z) = one_line (is_among g m) touching (said m us) (told.said m us) (items_of true its_group z) (told_of g (heard touching (shown z))) [] (λ y. refl) (its_lines touching z)
+  its_lines touching (ended l e ∷ z) =
+      one_line (is_among g (Rattle.page_deeds.specs.Deeds.labelled l)) touching (ended l e) (told.ended l (end_renamed tag_of_name e)) (items_of true its_group z) (told_of g (heard touching (shown z))) [] (λ y. refl) (its_lines touching z)
+  its_lines touching (made m o ∷ z) = no_line (is_among g m) touching (made m o) (items_of true its_group z) (told_of g (heard touching (shown z))) (λ y. refl) (its_lines touching z)
+  its_lines touching (got m h o ∷ z) = no_line (is_among g m) touching (got m h o) (items_of true its_group z) (told_of g (heard touching (shown z))) (λ y. refl) (its_lines touching z)
+  its_lines touching (passed a b o ∷ z) = no_line (is_among g a) touching (passed a b o) (items_of true its_group z) (told_of g (heard touching (shown z))) (λ y. refl) (its_lines touching z)
+  its_lines touching (granted m o ∷ z) = no_line (is_among g m) touching (granted m o) (items_of true its_group z) (told_of g (heard touching (shown z))) (λ y. refl) (its_lines touching z)
+  its_lines touching (was_revoked m p ∷ z) = no_line (is_among g m) touching (was_revoked m p) (items_of true its_group z) (told_of g (heard touching (shown z))) (λ y. refl) (its_lines touching z)
+  its_lines touching (changed_node r k c ∷ z) = its_lines touching z
+
+-- what holds of all holds of the last ones
+all_behind : (P : ℕ → Type 0) (xs ys : List ℕ) → All P (xs ++ ys) → All P ys
+all_behind P [] ys h = h
+all_behind P (x ∷ xs) ys h = all_behind P xs ys h.1
+
+all_before : (P : ℕ → Type 0) (xs ys : List ℕ) → All P (xs ++ ys) → All P xs
+all_before P [] ys h = tt
+all_before P (x ∷ xs) ys h = (h.0, all_before P xs ys h.1)
+
+-- under the names of two pages, with the cells of the second one numbered anew: of the cells that are told of, each has the same name in both
+
+module _ (a b : Names) (modules : a.modules ≡ b.modules) (f : Renumbering) (own : ℕ → Bool) (known : (c : ℕ) → own (f.anew c) ≡ true → name_in a.cells (f.anew c) ≡ name_in b.cells c) where
+  abbrev AllOwn : List ℕ → Type 0
+  AllOwn cs = All (λ c. own c ≡ true) cs
+
+  maker : (m : ℕ) → name_in a.modules m ≡ name_in b.modules m
+  maker m = ap (λ names. name_in names m) modules
+
+  -- the names of built-ins are everybody's
+  code_shown : (code : List ℕ) → object_name a (tag_of_code code) ≡ object_name b (tag_of_code code)
+  code_shown [] = refl
+  code_shown (n ∷ []) = refl
+  code_shown (n ∷ k ∷ []) = refl
+  code_shown (n ∷ k ∷ l ∷ rest) = refl
+
+  tools_shown : (t : Tools) → object_name a (tag_of_tools t) ≡ object_name b (tag_of_tools t)
+  tools_shown of_cajita = refl
+  tools_shown of_math = refl
+
+  object_shown : (o : Name) → AllOwn (cells_of (name_anew f o)) → object_name a (tag_of_name (name_anew f o)) ≡ object_name b (tag_of_name o)
+  object_shown (made_name m n) h = ap (λ name. name ++ codes "#" ++ number_units n) (maker m)
+  object_shown (cell_name c i) h = ap (λ name. codes "cell:" ++ name ++ get_or cell_ends i (codes "?")) (known c h.0)
+  object_shown (own_name m i) h = ap (λ name. name ++ get_or own_ends i (codes "?")) (maker m)
+  object_shown (built_name n) h = code_shown (code_of n)
+  object_shown (tools_name t) h = tools_shown t
+  object_shown (facet_name r k) h = refl
+  object_shown (forward_name m p c i) h = refl
+
+  value_shown : (v : Shown Name) → AllOwn (cells_shown (renamed (name_anew f) v)) → shown_text a (renamed tag_of_name (renamed (name_anew f) v)) ≡ shown_text b (renamed tag_of_name v)
+  value_shown show.undefined h = refl
+  value_shown show.null h = refl
+  value_shown (show.truth t) h = refl
+  value_shown (show.number n) h = refl
+  value_shown (show.text us) h = refl
+  value_shown (show.thing s o) h = ap (λ name. sort_text s ++ name) (object_shown o h)
+  value_shown (show.error o name message) h = ap (λ n. codes "error " ++ n ++ codes " " ++ utf8_of name ++ codes " " ++ literal message) (object_shown o h)
+
+  end_shown : (e : Ended Name) → AllOwn (cells_ended (end_renamed (name_anew f) e)) → end_text a (end_renamed tag_of_name (end_renamed (name_anew f) e)) ≡ end_text b (end_renamed tag_of_name e)
+  end_shown (by_return v) h = ap (λ t. codes " return " ++ t) (value_shown v h)
+  end_shown (by_throw v) h = ap (λ t. codes " throw " ++ t) (value_shown v h)
+  end_shown by_nothing h = refl
+
+  label_shown : (l : Label) → label_text a l ≡ label_text b l
+  label_shown (of_load m) = ap (λ name. codes "load " ++ name) (maker m)
+  label_shown (of_call k m key) = ap (λ name. codes "event " ++ number_units k ++ codes " call " ++ name ++ codes " " ++ literal key) (maker m)
+  label_shown (of_tick k m) = ap (λ name. codes "event " ++ number_units k ++ codes " tick " ++ name) (maker m)
+
+  -- lines
+
+  touched_line : (m : ℕ) (t : Touch) (o : Name) (k : List (List ℕ)) → AllOwn (cells_of (name_anew f o)) → line a (told.touched m t (tag_of_name (name_anew f o)) k) ≡ line b (told.touched m t (tag_of_name o) k)
+  touched_line m t o k h =
+      ap (λ name. codes "touch " ++ name ++ touch_text t ++ object_name a (tag_of_name (name_anew f o)) ++ key_text k ++ line_end) (maker m)
+      ∙ ap (λ name. codes "touch " ++ name_in b.modules m ++ touch_text t ++ name ++ key_text k ++ line_end) (object_shown o h)
+
+  said_line : (m : ℕ) (us : List ℕ) → line a (told.said m us) ≡ line b (told.said m us)
+  said_line m us = ap (λ name. codes "say " ++ name ++ codes " " ++ literal us ++ line_end) (maker m)
+
+  ended_line : (l : Label) (e : Ended Name) → AllOwn (cells_ended (end_renamed (name_anew f) e)) → line a (told.ended l (end_renamed tag_of_name (end_renamed (name_anew f) e))) ≡ line b (told.ended l (end_renamed tag_of_name e))
+  ended_line l e h =
+      ap (λ t. t ++ end_text a (end_renamed tag_of_name (end_renamed (name_anew f) e)) ++ line_end) (label_shown l)
+      ∙ ap (λ t. label_text b l ++ t ++ line_end) (end_shown e h)
+
+  -- logs
+
+  first : (i : Item) (z : List Item) → AllOwn (cells_in (items_anew f (i ∷ z))) → AllOwn (cells_told (item_anew f i))
+  first i z h = all_before (λ c. own c ≡ true) (cells_told (item_anew f i)) (cells_in (items_anew f z)) h
+
+  behind : (i : Item) (z : List Item) → AllOwn (cells_in (items_anew f (i ∷ z))) → AllOwn (cells_in (items_anew f z))
+  behind i z h = all_behind (λ c. own c ≡ true) (cells_told (item_anew f i)) (cells_in (items_anew f z)) h
+
+  pub same_log : (touching : Bool) (z : List Item) → AllOwn (cells_in (items_anew f z)) → log a (heard touching (shown (items_anew f z))) ≡ log b (heard touching (shown z))
+  same_log touching [] h = refl
+  same_log true (touched m t o k ∷ z) h =
+      ap (λ l. l ++ log a (heard true (shown (items_anew f z)))) (touched_line m t o k (first (touched m t o k) z h)) ∙ ap (λ l. line b (told.touched m t (tag_of_name o) k) ++ l) (same_log true z (behind (touched m t o k) z h))
+  same_log false (touched m t o k ∷ z) h = same_log false z (behind (touched m t o k) z h)
+  same_log touching (said m us ∷ z) h = ap (λ l. l ++ log a (heard touching (shown (items_anew f z)))) (said_line m us) ∙ ap (λ l. line b (told.said m us) ++ l) (same_log touching z (behind (said m us) z h))
+  same_log touching (ended n x ∷ z) h =
+      ap (λ l. l ++ log a (heard touching (shown (items_anew f z)))) (ended_line n x (first (ended n x) z h)) ∙ ap (λ l. line b (told.ended n (end_renamed tag_of_name x)) ++ l) (same_log touching z (behind (ended n x) z h))
+  same_log touching (made m o ∷ z) h = same_log touching z (behind (made m o) z h)
+  same_log touching (got m o p ∷ z) h = same_log touching z (behind (got m o p) z h)
+  same_log touching (passed x y o ∷ z) h = same_log touching z (behind (passed x y o) z h)
+  same_log touching (granted m o ∷ z) h = same_log touching z (behind (granted m o) z h)
+  same_log touching (was_revoked m p ∷ z) h = same_log touching z (behind (was_revoked m p) z h)
+  same_log touching (changed_node r k n ∷ z) h = same_log touching z (behind (changed_node r k n) z h)

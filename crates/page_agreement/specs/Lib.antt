@@ -1,0 +1,4 @@
+pub mod Agree
+pub mod Lines
+pub mod Isolated
+pub mod Worked

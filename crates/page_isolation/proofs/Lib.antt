@@ -1,0 +1,4 @@
+pub mod Both
+pub mod Sides
+pub mod Deeds
+pub mod Isolates

@@ -1,0 +1,3 @@
+pub mod Agree
+pub mod Promises
+pub mod Worked
