@@ -1,4 +1,6 @@
 pub mod Written
-pub mod Words
-pub mod Runs
-pub mod Solos
+pub mod Promised
+pub mod Rests
+pub mod Lengths
+pub mod Planned
+pub mod Statuses

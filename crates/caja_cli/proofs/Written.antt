@@ -1,35 +1,42 @@
 -- What a call wrote, by how far it came: an input that is too long, or an input that was read.
 use Rattle.std.specs.Prelude.{codes, IfSome}
-use Rattle.std.proofs.Common.{◌≡◌, ℕ, ◌+◌, ◌<◌, ◌≤◌, List, [], ◌∷◌, ◌++◌, Option, Some, None, length, refl, sym, ap, subst, ◌∙◌, arith}
+use Rattle.std.proofs.lemmas.Fmt.{decimal_digit}
+use Rattle.caja_units.specs.Index.{number_units}
+use Rattle.page_log.specs.Log.{line_end}
+use Rattle.std.proofs.Common.{◌≡◌, ℕ, ◌+◌, ◌<◌, ◌≤◌, List, [], ◌∷◌, ◌++◌, Option, Some, None, length, refl, sym, ap, subst, ◌∙◌, ◌⊎◌, inl, inr, arith}
 use Rattle.std.proofs.Math.ListN.{replicate}
 use Rattle.std.proofs.lemmas.List.{length-replicate}
 use Rattle.std.proofs.lemmas.Bool.{lt-ltb, le-ltb}
-use Rattle.std.proofs.lemmas.Fmt.{decimal_digit}
-use Rattle.caja_units.specs.Index.{number_units}
-use Rattle.page_runner.specs.Log.{main_name, line_end}
 use Rattle.caja_io.specs.Source.{IsEmptied}
 use Rattle.caja_io.specs.Sink.{Appends, AppendsPart}
-use Rattle.caja_cli.specs.Words.{command_of}
-use Rattle.caja_cli.specs.Output.{output, command_output, refusal, longest_input}
+use Rattle.command_words.specs.Words.{command_of, longest_input}
+use Rattle.caja_cli.specs.Output.{output, command_output, too_long, refusal, the_page, main_name}
 use Rattle.caja_cli.specs.Answered.{IsLeft, Wrote, WrotePart}
-use Rattle.caja_cli.specs.declared.command.Command.{Command}
+use Rattle.command_words.specs.declared.Options.{Options}
+use Rattle.command_words.specs.declared.Command.{Command}
+use Rattle.command_words.specs.declared.Command.TheVariants.{Solo, Cajole, Format, Run, Page}
 use Rattle.caja_cli.specs.declared.status.Status.{Status}
 use Rattle.caja_cli.specs.declared.status.Status.TheVariants.{Refused}
 
 -- the line for an input that is too long, as it is written
-abbrev too_long_text : List ℕ
-too_long_text = codes "refused main input 1 0" ++ line_end
 
-refused_at : List ℕ → List ℕ → List ℕ
-refused_at number place = codes "refused " ++ main_name ++ codes " " ++ codes "input" ++ codes " " ++ number ++ codes " " ++ place ++ line_end
+refused_at : List ℕ → List ℕ → List ℕ → List ℕ
+refused_at who number place = codes "refused " ++ who ++ codes " " ++ codes "input" ++ codes " " ++ number ++ codes " " ++ place ++ line_end
 
-too_long_line : refusal (codes "input") 1 0 ≡ too_long_text
+too_long_text : (who : List ℕ) → refusal who (codes "input") 1 0 ≡ codes "refused " ++ who ++ codes " " ++ codes "input" ++ codes " " ++ (49 ∷ []) ++ codes " " ++ (48 ∷ []) ++ line_end
 unfolding refused_at
-too_long_line =
-    ap (λ (n : List ℕ). refused_at n (number_units 0)) (decimal_digit 1 (omega arith))
-    ∙ ap (refused_at (49 ∷ [])) (decimal_digit 0 (omega arith))
+too_long_text who = ap (λ (n : List ℕ). refused_at who n (number_units 0)) (decimal_digit 1 (omega arith)) ∙ ap (refused_at who (49 ∷ [])) (decimal_digit 0 (omega arith))
 
-output-too_long : (words : List (List ℕ)) (c : Command) (input : List ℕ) → command_of words ≡ Some c → longest_input c < length input → output words input ≡ (refusal (codes "input") 1 0, Refused)
+pub of_page : (c : Command) → ((o : Options) × (c ≡ Page o)) ⊎ ((o : Options) × (c ≡ Run o)) → codes "refused - input 1 0" ++ line_end ≡ too_long c
+of_page c (inl h) = sym (ap too_long h.1 ∙ too_long_text the_page)
+of_page c (inr h) = sym (ap too_long h.1 ∙ too_long_text the_page)
+
+pub of_module : (c : Command) → ((o : Options) × (c ≡ Solo o)) ⊎ ((c ≡ Cajole) ⊎ (c ≡ Format)) → codes "refused main input 1 0" ++ line_end ≡ too_long c
+of_module c (inl h) = sym (ap too_long h.1 ∙ too_long_text main_name)
+of_module c (inr (inl h)) = sym (ap too_long h ∙ too_long_text main_name)
+of_module c (inr (inr h)) = sym (ap too_long h ∙ too_long_text main_name)
+
+output-too_long : (words : List (List ℕ)) (c : Command) (input : List ℕ) → command_of words ≡ Some c → longest_input c < length input → output words input ≡ (too_long c, Refused)
 output-too_long words c input command far = rw (command, lt-ltb (longest_input c) (length input) far) refl
 
 output-read : (words : List (List ℕ)) (c : Command) (input : List ℕ) → command_of words ≡ Some c → length input ≤ longest_input c → output words input ≡ command_output c input
@@ -49,8 +56,8 @@ is_left : (left : Option (List ℕ)) (input : List ℕ) → IfSome left (λ all.
 is_left (Some all) input e = sym e
 is_left None input _ = tt
 
-pub wrote-too_long : (words : List (List ℕ)) (c : Command) (status : Status) (left left' written written' : Option (List ℕ)) → (limit : ℕ) → command_of words ≡ Some c → limit ≡ longest_input c → IfSome left (λ all. limit < length all) → Appends written written' too_long_text → status ≡ Refused → Wrote words status left left' written written'
-wrote-too_long words c status left left' written written' limit command same far bytes refused =
+pub wrote-too_long : (words : List (List ℕ)) (c : Command) (status : Status) (left left' written written' : Option (List ℕ)) → (limit : ℕ) (bytes : List ℕ) → command_of words ≡ Some c → limit ≡ longest_input c → IfSome left (λ all. limit < length all) → bytes ≡ too_long c → Appends written written' bytes → status ≡ Refused → Wrote words status left left' written written'
+wrote-too_long words c status left left' written written' limit bytes command same far line appends refused =
     let l = longer (longest_input c) left (subst (λ (n : ℕ). IfSome left (λ all. n < length all)) same far) in
     let e = output-too_long words c l.input command l.far in
     let beyond : longest_input c < length l.input = l.far in
@@ -58,17 +65,17 @@ wrote-too_long words c status left left' written written' limit command same far
       input = l.input;
       of_source = λ _. l.of_source;
       read = λ d is near. let same : d ≡ c = cc in absurd (let close : length l.input ≤ longest_input c = subst (λ (e : Command). length l.input ≤ longest_input e) same near in omega (arith, beyond, close));
-      bytes = subst (λ (o : List ℕ × Status). Appends written written' o.0) (sym e) (subst (λ (b : List ℕ). Appends written written' b) (sym too_long_line) bytes);
+      bytes = subst (λ (o : List ℕ × Status). Appends written written' o.0) (sym e) (subst (λ (b : List ℕ). Appends written written' b) line appends);
       result = ap (λ (o : List ℕ × Status). o.1) e ∙ sym refused;
     }
 
-pub wrote_part-too_long : (words : List (List ℕ)) (c : Command) (left written written' : Option (List ℕ)) → (limit : ℕ) → command_of words ≡ Some c → limit ≡ longest_input c → IfSome left (λ all. limit < length all) → AppendsPart written written' too_long_text → WrotePart words left written written'
-wrote_part-too_long words c left written written' limit command same far part =
+pub wrote_part-too_long : (words : List (List ℕ)) (c : Command) (left written written' : Option (List ℕ)) → (limit : ℕ) (bytes : List ℕ) → command_of words ≡ Some c → limit ≡ longest_input c → IfSome left (λ all. limit < length all) → bytes ≡ too_long c → AppendsPart written written' bytes → WrotePart words left written written'
+wrote_part-too_long words c left written written' limit bytes command same far line part =
     let l = longer (longest_input c) left (subst (λ (n : ℕ). IfSome left (λ all. n < length all)) same far) in
     record {
       input = l.input;
       of_source = λ _. l.of_source;
-      bytes = subst (λ (o : List ℕ × Status). AppendsPart written written' o.0) (sym (output-too_long words c l.input command l.far)) (subst (λ (b : List ℕ). AppendsPart written written' b) (sym too_long_line) part);
+      bytes = subst (λ (o : List ℕ × Status). AppendsPart written written' o.0) (sym (output-too_long words c l.input command l.far)) (subst (λ (b : List ℕ). AppendsPart written written' b) line part);
     }
 
 pub wrote-read : (words : List (List ℕ)) (c : Command) (status : Status) (left left' written written' : Option (List ℕ)) (all input text bytes : List ℕ) (given_status : Status) → command_of words ≡ Some c → IfSome left (λ told. all ≡ told) → length all ≤ longest_input c → IsEmptied left left' → input ≡ all → text ≡ (command_output c input).0 → bytes ≡ text → given_status ≡ (command_output c input).1 → Appends written written' bytes → status ≡ given_status → Wrote words status left left' written written'

@@ -2,9 +2,9 @@
 use Rattle.std.specs.Prelude.{◌≡◌, ℕ, ◌≤◌, List, Option, Some, IfSome, IsTrue, length}
 use Rattle.caja_io.specs.Source.{IsEmptied}
 use Rattle.caja_io.specs.Sink.{Appends, AppendsPart}
-use Rattle.caja_cli.specs.Words.{command_of}
-use Rattle.caja_cli.specs.Output.{output, is_command, longest_input}
-use Rattle.caja_cli.specs.declared.command.Command.{Command}
+use Rattle.command_words.specs.Words.{command_of, longest_input}
+use Rattle.caja_cli.specs.Output.{output, is_command}
+use Rattle.command_words.specs.declared.Command.{Command}
 use Rattle.caja_cli.specs.declared.status.Status.{Status}
 use Rattle.caja_cli.specs.declared.status.Status.TheVariants.{ReadFault, WriteFault, Memory, NoRoom}
 

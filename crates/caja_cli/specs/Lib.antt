@@ -1,6 +1,4 @@
 pub mod Codes
-pub mod Words
 pub mod Output
 pub mod Answered
-pub mod Run
-pub mod Solo
+pub mod Promised

@@ -1,31 +1,39 @@
 -- What the program writes for its words and its input, and the status that it ends with.
-use Rattle.std.specs.Prelude.{ℕ, ◌+◌, ◌*◌, ◌++◌, Bool, true, false, List, Option, Some, None, length, nat_lt, codes, if◌then◌else◌}
+use Rattle.std.specs.Prelude.{ℕ, ◌+◌, ◌*◌, ◌++◌, Bool, true, false, List, [], ◌∷◌, Option, Some, None, Result, Ok, Err, length, map, nat_lt, codes, if◌then◌else◌}
 use Rattle.caja_units.specs.Index.{number_units}
+use Rattle.caja_units.specs.Utf8.{utf8_of}
 use Rattle.es3_tree.specs.Tree as t
 use Rattle.es3_printed.specs.Tokens.{printed}
 use Rattle.page_cajole.specs.Cajoled.{Outcome, uncut, unread, broken, cajoled, outcome}
 use Rattle.page_cajole.specs.Formatted.{Formatted, formatted}
 use Rattle.page_cajole.specs.Formatted as f
-use Rattle.page_cajole.specs.Text.{Text, text_outcome}
-use Rattle.page_cajole.specs.Text as x
-use Rattle.page_runner.specs.declared.End.{End}
-use Rattle.page_runner.specs.declared.End.TheVariants as the_end
-use Rattle.page_runner.specs.Log.{main_name, line_end, page_log, page_end}
-use Rattle.page_runner.specs.Text.{text_log, text_end}
-use Rattle.caja_cli.specs.Words.{command_of}
-use Rattle.caja_cli.specs.declared.command.Command.{Command}
-use Rattle.caja_cli.specs.declared.command.Command.TheVariants.{Solo, Cajole, Format, Run}
+use Rattle.page_cajole.specs.Pages.{Refusal, Runnable, page_outcome}
+use Rattle.page_log.specs.Log.{Names, line_end, name_in}
+use Rattle.page_manifest.specs.Faults.{Found}
+use Rattle.page_manifest.specs.Page.{Module, Page, cajita}
+use Rattle.page_manifest.specs.Read.{page_of}
+use Rattle.reach_report.specs.Pages.{page_groups}
+use Rattle.page_runner.specs.Page.{Run as PageRun}
+use Rattle.page_runner.specs.Outcome.{log_of, end_of}
+use Rattle.page_runner.specs.declared.running.End.{End}
+use Rattle.page_runner.specs.declared.running.End.TheVariants as the_end
+use Rattle.manifest_deeds.specs.Names.{page_names}
+use Rattle.page_meaning.specs.PageRuns.{programs_run, texts_run}
+use Rattle.command_words.specs.Words.{command_of, longest_input}
+use Rattle.command_words.specs.declared.Options.{Options}
+use Rattle.command_words.specs.declared.Command.{Command}
+use Rattle.command_words.specs.declared.Command.TheVariants.{Solo, Cajole, Format, Run, Page as OfPage}
 use Rattle.caja_cli.specs.declared.status.Status.{Status}
 use Rattle.caja_cli.specs.declared.status.Status.TheVariants as status
 
--- the longest input, in bytes: 64 MiB of `run`, and 4 MiB of the others
-abbrev pub longest_input : Command → ℕ
-longest_input (Run n) = 67108864
-longest_input c = 4194304
+abbrev pub Written : Type 0
+Written = List ℕ × Status
 
--- the steps of a page: 64 of ECMAScript 3 for each of so many direct ones
+-- the steps of ECMAScript 3 for so many direct ones
 abbrev pub page_steps : ℕ → ℕ
 page_steps n = 64 * n
+
+-- ---- words
 
 -- the most bytes that are read for the words: one more than the longest input of their command, and none where they are no command
 abbrev pub most_of : Option Command → ℕ
@@ -43,13 +51,48 @@ is_some (Some c) = true
 abbrev pub is_command : List (List ℕ) → Bool
 is_command words = is_some (command_of words)
 
--- `refused main STAGE NUMBER PLACE`
-abbrev pub refusal : List ℕ → ℕ → ℕ → List ℕ
-refusal stage number place = codes "refused " ++ main_name ++ codes " " ++ stage ++ codes " " ++ number_units number ++ codes " " ++ number_units place ++ line_end
+-- ---- refusals
 
--- `module main LENGTH`, and the text
-abbrev pub module_part : List ℕ → List ℕ
-module_part text = codes "module " ++ main_name ++ codes " " ++ number_units (length text) ++ line_end ++ text ++ line_end
+-- the module of `solo`, `cajole` and `format`; a page itself
+abbrev pub main_name : List ℕ
+main_name = codes "main"
+
+abbrev pub the_page : List ℕ
+the_page = codes "-"
+
+-- `refused WHO STAGE NUMBER PLACE`
+abbrev pub refusal : List ℕ → List ℕ → ℕ → ℕ → List ℕ
+refusal who stage number place = codes "refused " ++ who ++ codes " " ++ stage ++ codes " " ++ number_units number ++ codes " " ++ number_units place ++ line_end
+
+-- ---- the parts of an output
+
+-- `module NAME LENGTH`, and the text
+abbrev pub module_part : List ℕ → List ℕ → List ℕ
+module_part name text = codes "module " ++ utf8_of name ++ codes " " ++ number_units (length text) ++ line_end ++ text ++ line_end
+
+-- of each module, the text that stands for it
+abbrev pub module_parts : List Module → List Runnable → List ℕ
+module_parts (m ∷ ms) (r ∷ rs) = module_part m.name r.text ++ module_parts ms rs
+module_parts ms rs = []
+
+abbrev pub programs_in : List Runnable → List (t.Tree t.program)
+programs_in rs = map (λ r. r.program) rs
+
+-- `group`, and the names of its modules
+abbrev pub group_words : List (List ℕ) → List ℕ → List ℕ
+group_words names [] = []
+group_words names (m ∷ ms) = codes " " ++ name_in names m ++ group_words names ms
+
+abbrev pub group_line : List (List ℕ) → List ℕ → List ℕ
+group_line names ms = codes "group" ++ group_words names ms ++ line_end
+
+abbrev pub group_lines : List (List ℕ) → List (List ℕ) → List ℕ
+group_lines names [] = []
+group_lines names (g ∷ gs) = group_line names g ++ group_lines names gs
+
+-- `html LENGTH`, and the text of the document: there is none
+abbrev pub html_part : List ℕ
+html_part = codes "html 0" ++ line_end ++ line_end
 
 abbrev pub end_word : End → List ℕ
 end_word the_end.Done = codes "done"
@@ -68,48 +111,92 @@ end_status the_end.Depth = status.Depth
 end_status the_end.Convert = status.Convert
 end_status the_end.Steps = status.Steps
 
--- the printed program, the log of the interpreter's meaning of that program with the steps for n direct ones, and how that ends; and the status
-abbrev pub solo_parts : ℕ → t.Tree t.program → List ℕ × Status
-solo_parts n p = (module_part (printed p) ++ page_log p (page_steps n) ++ end_line (page_end p (page_steps n)), end_status (page_end p (page_steps n)))
+-- ---- pages
+
+-- groups and document are written of a page, and not of a module that is alone
+abbrev pub framed_groups : Bool → Page → List ℕ
+framed_groups framed p = if framed then group_lines (page_names p).modules (page_groups p) else []
+
+abbrev pub framed_html : Bool → List ℕ
+framed_html framed = if framed then html_part else []
+
+-- its groups, its log and its document, and how it ended; and the status
+abbrev pub run_parts : Bool → Page → PageRun → List ℕ
+run_parts framed p r = framed_groups framed p ++ log_of (page_names p) r ++ framed_html framed ++ end_line (end_of r)
+
+abbrev pub run_status : PageRun → Status
+run_status r = end_status (end_of r)
+
+-- a stage refuses a module
+abbrev pub module_refused : Page → ℕ × Refusal → Written
+module_refused p r = (refusal (name_in (page_names p).modules r.0) r.1.stage r.1.number r.1.at, status.Refused)
+
+-- the texts that stand for the modules, and what their page comes to by the interpreter's meaning, with the steps for so many direct ones
+abbrev pub cajoled_parts : Bool → Options → Page → List Runnable → Written
+cajoled_parts framed o p rs =
+    let r = programs_run p (programs_in rs) o.touch (page_steps o.steps) in
+    (module_parts p.modules rs ++ run_parts framed p r, run_status r)
+
+-- texts that run as they stand
+abbrev pub texts_parts : Options → Page → List Runnable → Written
+texts_parts o p rs = let r = texts_run p (programs_in rs) o.touch o.steps in (run_parts true p r, run_status r)
+
+-- what is made of what runs for a page, or the refusal
+abbrev pub of_page : (Page → List Runnable → Written) → Page → Result (List Runnable) (ℕ × Refusal) → Written
+of_page make p (Ok rs) = make p rs
+of_page make p (Err r) = module_refused p r
+
+abbrev pub page_output : (Page → List Runnable → Written) → Page → Written
+page_output make p = of_page make p (page_outcome p)
+
+-- what is made of the page that a manifest is of, or the first fault of the manifest
+abbrev pub of_manifest : (Page → Written) → Found Page → Written
+of_manifest make (Ok p) = make p
+of_manifest make (Err f) = (refusal the_page (codes "page") f.0 f.1, status.Refused)
+
+-- the page of one module, without grants and events
+abbrev pub lone_page : List ℕ → Page
+lone_page source = record { cells = []; modules = record { name = main_name; language = cajita; source = source; grants = [] } ∷ []; events = [] }
+
+-- ---- single sources
 
 -- the printed program and a line end
-abbrev pub cajoled_line : t.Tree t.program → List ℕ × Status
+abbrev pub cajoled_line : t.Tree t.program → Written
 cajoled_line p = (printed p ++ line_end, status.Done)
 
 -- what is made of the program that stands for a source, or the refusal
-abbrev pub source_output : (t.Tree t.program → List ℕ × Status) → Outcome → List ℕ × Status
-source_output make (uncut number place) = (refusal (codes "lex") number place, status.Refused)
-source_output make (unread number place) = (refusal (codes "read") number place, status.Refused)
-source_output make (broken number place) = (refusal (codes "rule") number place, status.Refused)
+abbrev pub source_output : (t.Tree t.program → Written) → Outcome → Written
+source_output make (uncut number place) = (refusal main_name (codes "lex") number place, status.Refused)
+source_output make (unread number place) = (refusal main_name (codes "read") number place, status.Refused)
+source_output make (broken number place) = (refusal main_name (codes "rule") number place, status.Refused)
 source_output make (cajoled p) = make p
 
 -- the printed text of the program that the source spells, and a line end
-abbrev pub format_output : Formatted → List ℕ × Status
-format_output (f.uncut number place) = (refusal (codes "lex") number place, status.Refused)
-format_output (f.unread number place) = (refusal (codes "read") number place, status.Refused)
+abbrev pub format_output : Formatted → Written
+format_output (f.uncut number place) = (refusal main_name (codes "lex") number place, status.Refused)
+format_output (f.unread number place) = (refusal main_name (codes "read") number place, status.Refused)
 format_output (f.text w) = (w ++ line_end, status.Done)
 
--- the log of the interpreter's meaning of a program with n steps, and how that ends
-abbrev pub run_parts : t.Tree t.program → ℕ → List ℕ
-run_parts p n = text_log p n ++ end_line (text_end p n)
+-- ---- commands
 
-abbrev pub run_output : ℕ → Text → List ℕ × Status
-run_output n (x.uncut number place) = (refusal (codes "lex") number place, status.Refused)
-run_output n (x.unread number place) = (refusal (codes "read") number place, status.Refused)
-run_output n (x.misplaced place) = (refusal (codes "label") 1 place, status.Refused)
-run_output n (x.runs p) = (run_parts p n, end_status (text_end p n))
+-- of an input that is too long
+abbrev pub too_long : Command → List ℕ
+too_long (Run o) = refusal the_page (codes "input") 1 0
+too_long (OfPage o) = refusal the_page (codes "input") 1 0
+too_long c = refusal main_name (codes "input") 1 0
 
 -- what a command makes of an input that isn't too long
-abbrev pub command_output : Command → List ℕ → List ℕ × Status
-command_output (Solo n) input = source_output (solo_parts n) (outcome input)
-command_output Cajole input = source_output cajoled_line (outcome input)
+abbrev pub command_output : Command → List ℕ → Written
+command_output (Solo o) input = page_output (cajoled_parts false o) (lone_page input)
+command_output Cajole input = source_output cajoled_line (outcome [] input)
 command_output Format input = format_output (formatted input)
-command_output (Run n) input = run_output n (text_outcome input)
+command_output (Run o) input = of_manifest (page_output (texts_parts o)) (page_of true input)
+command_output (OfPage o) input = of_manifest (page_output (cajoled_parts true o)) (page_of false input)
 
-abbrev pub input_output : Option Command → List ℕ → List ℕ × Status
+abbrev pub input_output : Option Command → List ℕ → Written
 input_output None input = (codes "usage" ++ line_end, status.Usage)
-input_output (Some c) input = if nat_lt (longest_input c) (length input) then (refusal (codes "input") 1 0, status.Refused) else command_output c input
+input_output (Some c) input = if nat_lt (longest_input c) (length input) then (too_long c, status.Refused) else command_output c input
 
 -- what is written, and the status
-abbrev pub output : List (List ℕ) → List ℕ → List ℕ × Status
+abbrev pub output : List (List ℕ) → List ℕ → Written
 output words input = input_output (command_of words) input

@@ -2,9 +2,10 @@
 
 ghost use Rattle.std.specs.Prelude.{◌≡◌, ◌++◌, IfOk};
 ghost use Rattle.page_cajole.specs.Formatted.{formatted};
-ghost use Rattle.page_runner.specs.Log.{line_end};
+ghost use Rattle.page_log.specs.Log.{line_end};
 ghost use Rattle.caja_cli.specs.Output.{format_output};
 
+use crate::page_commands::MAIN;
 use crate::refusal::refused;
 use crate::status::Status;
 use caja_units::Memory;
@@ -17,8 +18,8 @@ pub fn format_source(alloc: Global, input: &[u8]) -> Result<(Vec<u8>, Status), M
     ensures status { IfOk result (λ r. r.1 ≡ (format_output (formatted input.now)).1) }
 {
     match format(alloc, input)? {
-        FormatAnswer::Uncut(number, place) => refused(alloc, "lex", number, place),
-        FormatAnswer::Unread(number, place) => refused(alloc, "read", number, place),
+        FormatAnswer::Uncut(number, place) => refused(alloc, MAIN, "lex", number, place),
+        FormatAnswer::Unread(number, place) => refused(alloc, MAIN, "read", number, place),
         FormatAnswer::Text(text) => line_of(text),
     }
 }

@@ -1,44 +1,86 @@
-use Rattle.std.proofs.Common.{◌≡◌, ◌≤◌, Some, length, map, string_bytes, arith}
-use Rattle.caja_cli.specs.Words.{command_of}
-use Rattle.caja_cli.specs.Output.{longest_input}
+use Rattle.std.proofs.Common.{◌≡◌, ◌≤◌, Some, length, map, string_bytes, sym, ◌∙◌, arith}
+use Rattle.command_words.specs.Words.{command_of, longest_input}
+use Rattle.caja_cli.proofs.Promised.{lone_is_meant, are_isolated}
 use Rattle.caja_cli.proofs.Written.{wrote-too_long, wrote_part-too_long, wrote-read, wrote_part-read}
 use Rattle.caja_cli.proofs.caja.Goals as goal
 
 pub returns-in-Err-TooLong-clause-answer : goal.returns-in-Err-TooLong-clause-answer
 returns-in-Err-TooLong-clause-answer g c = λ answer.
     let ends = c.finish-in-Err-TooLong.ensures.answer answer in
-    let command : command_of (map string_bytes c.args.words.now) ≡ Some c.in-Some.command = cc in
-    wrote-too_long _ _ _ _ _ _ _ _ command c.longest_input.ensures (c.in-Err-TooLong.ensures.too_long (cc)) ends.0 ends.1
+    let command : command_of (map string_bytes c.args.words.now) ≡ Some c.in-Ok-Some.command = sym c.in-Ok-Some.ensures ∙ c.in-Ok-Some.field-0-is in
+    wrote-too_long _ _ _ _ _ _ _ _ _ command c.longest_input.ensures (c.in-Err-TooLong.ensures.too_long (cc)) c.too_long.ensures ends.0 ends.1
 
 pub returns-in-Err-TooLong-clause-write_fault : goal.returns-in-Err-TooLong-clause-write_fault
 returns-in-Err-TooLong-clause-write_fault g c = λ fault.
     let ends = c.finish-in-Err-TooLong.ensures.write_fault fault in
-    let command : command_of (map string_bytes c.args.words.now) ≡ Some c.in-Some.command = cc in
-    (ends.0, wrote_part-too_long _ _ _ _ _ _ command c.longest_input.ensures (c.in-Err-TooLong.ensures.too_long (cc)) ends.1)
+    let command : command_of (map string_bytes c.args.words.now) ≡ Some c.in-Ok-Some.command = sym c.in-Ok-Some.ensures ∙ c.in-Ok-Some.field-0-is in
+    (ends.0, wrote_part-too_long _ _ _ _ _ _ _ command c.longest_input.ensures (c.in-Err-TooLong.ensures.too_long (cc)) c.too_long.ensures ends.1)
 
 pub returns-in-Err-TooLong-clause-no_room : goal.returns-in-Err-TooLong-clause-no_room
 returns-in-Err-TooLong-clause-no_room g c = λ none.
     let ends = c.finish-in-Err-TooLong.ensures.no_room none in
-    let command : command_of (map string_bytes c.args.words.now) ≡ Some c.in-Some.command = cc in
-    (ends.0, wrote_part-too_long _ _ _ _ _ _ command c.longest_input.ensures (c.in-Err-TooLong.ensures.too_long (cc)) ends.1)
+    let command : command_of (map string_bytes c.args.words.now) ≡ Some c.in-Ok-Some.command = sym c.in-Ok-Some.ensures ∙ c.in-Ok-Some.field-0-is in
+    (ends.0, wrote_part-too_long _ _ _ _ _ _ _ command c.longest_input.ensures (c.in-Err-TooLong.ensures.too_long (cc)) c.too_long.ensures ends.1)
 
 pub returns-clause-answer : goal.returns-clause-answer
 returns-clause-answer g c = λ answer.
     let ends = c.finish-in-Ok-perform.ensures.answer answer in
-    let command : command_of (map string_bytes c.args.words.now) ≡ Some c.in-Some.command = cc in
-    let near : length c.in-Ok.input.items ≤ longest_input c.in-Some.command = omega (arith, c.in-Ok.ensures.within, c.longest_input.ensures) in
+    let command : command_of (map string_bytes c.args.words.now) ≡ Some c.in-Ok-Some.command = sym c.in-Ok-Some.ensures ∙ c.in-Ok-Some.field-0-is in
+    let near : length c.in-Ok.input.items ≤ longest_input c.in-Ok-Some.command = omega (arith, c.in-Ok.ensures.within, c.longest_input.ensures) in
     wrote-read _ _ _ _ _ _ _ c.in-Ok.input.items c.deref.result.now c.in-Ok-perform.text.items c.deref-in-Ok-perform.result.now c.in-Ok-perform.status command c.in-Ok.ensures.all near c.in-Ok.ensures.end c.deref.ensures.value c.in-Ok-perform.ensures.text c.deref-in-Ok-perform.ensures.value c.in-Ok-perform.ensures.status ends.0 ends.1
 
 pub returns-clause-write_fault : goal.returns-clause-write_fault
 returns-clause-write_fault g c = λ fault.
     let ends = c.finish-in-Ok-perform.ensures.write_fault fault in
-    let command : command_of (map string_bytes c.args.words.now) ≡ Some c.in-Some.command = cc in
-    let near : length c.in-Ok.input.items ≤ longest_input c.in-Some.command = omega (arith, c.in-Ok.ensures.within, c.longest_input.ensures) in
+    let command : command_of (map string_bytes c.args.words.now) ≡ Some c.in-Ok-Some.command = sym c.in-Ok-Some.ensures ∙ c.in-Ok-Some.field-0-is in
+    let near : length c.in-Ok.input.items ≤ longest_input c.in-Ok-Some.command = omega (arith, c.in-Ok.ensures.within, c.longest_input.ensures) in
     (ends.0, wrote_part-read _ _ _ _ _ c.in-Ok.input.items c.deref.result.now c.in-Ok-perform.text.items c.deref-in-Ok-perform.result.now command c.in-Ok.ensures.all near c.deref.ensures.value c.in-Ok-perform.ensures.text c.deref-in-Ok-perform.ensures.value ends.1)
 
 pub returns-clause-no_room : goal.returns-clause-no_room
 returns-clause-no_room g c = λ none.
     let ends = c.finish-in-Ok-perform.ensures.no_room none in
-    let command : command_of (map string_bytes c.args.words.now) ≡ Some c.in-Some.command = cc in
-    let near : length c.in-Ok.input.items ≤ longest_input c.in-Some.command = omega (arith, c.in-Ok.ensures.within, c.longest_input.ensures) in
+    let command : command_of (map string_bytes c.args.words.now) ≡ Some c.in-Ok-Some.command = sym c.in-Ok-Some.ensures ∙ c.in-Ok-Some.field-0-is in
+    let near : length c.in-Ok.input.items ≤ longest_input c.in-Ok-Some.command = omega (arith, c.in-Ok.ensures.within, c.longest_input.ensures) in
     (ends.0, wrote_part-read _ _ _ _ _ c.in-Ok.input.items c.deref.result.now c.in-Ok-perform.text.items c.deref-in-Ok-perform.result.now command c.in-Ok.ensures.all near c.deref.ensures.value c.in-Ok-perform.ensures.text c.deref-in-Ok-perform.ensures.value ends.1)
+
+pub returns-in-Err-clause-solo : goal.returns-in-Err-clause-solo
+returns-in-Err-clause-solo g c = lone_is_meant
+
+pub returns-in-Ok-None-clause-solo : goal.returns-in-Ok-None-clause-solo
+returns-in-Ok-None-clause-solo g c = lone_is_meant
+
+pub returns-in-Err-Failed-clause-solo : goal.returns-in-Err-Failed-clause-solo
+returns-in-Err-Failed-clause-solo g c = lone_is_meant
+
+pub returns-in-Err-Memory-clause-solo : goal.returns-in-Err-Memory-clause-solo
+returns-in-Err-Memory-clause-solo g c = lone_is_meant
+
+pub returns-in-Err-TooLong-clause-solo : goal.returns-in-Err-TooLong-clause-solo
+returns-in-Err-TooLong-clause-solo g c = lone_is_meant
+
+pub returns-in-Err-perform-clause-solo : goal.returns-in-Err-perform-clause-solo
+returns-in-Err-perform-clause-solo g c = lone_is_meant
+
+pub returns-clause-solo : goal.returns-clause-solo
+returns-clause-solo g c = lone_is_meant
+
+pub returns-in-Err-clause-isolated : goal.returns-in-Err-clause-isolated
+returns-in-Err-clause-isolated g c = are_isolated
+
+pub returns-in-Ok-None-clause-isolated : goal.returns-in-Ok-None-clause-isolated
+returns-in-Ok-None-clause-isolated g c = are_isolated
+
+pub returns-in-Err-Failed-clause-isolated : goal.returns-in-Err-Failed-clause-isolated
+returns-in-Err-Failed-clause-isolated g c = are_isolated
+
+pub returns-in-Err-Memory-clause-isolated : goal.returns-in-Err-Memory-clause-isolated
+returns-in-Err-Memory-clause-isolated g c = are_isolated
+
+pub returns-in-Err-TooLong-clause-isolated : goal.returns-in-Err-TooLong-clause-isolated
+returns-in-Err-TooLong-clause-isolated g c = are_isolated
+
+pub returns-in-Err-perform-clause-isolated : goal.returns-in-Err-perform-clause-isolated
+returns-in-Err-perform-clause-isolated g c = are_isolated
+
+pub returns-clause-isolated : goal.returns-clause-isolated
+returns-clause-isolated g c = are_isolated

@@ -1,0 +1,80 @@
+// The parts of an output: the texts of modules, the groups, and what stands for the document.
+
+ghost use Rattle.std.specs.Prelude.{◌≡◌, ◌++◌, map, OnOk};
+ghost use Rattle.page_log.specs.Log.{name_in};
+ghost use Rattle.caja_cli.specs.Output.{module_part, group_words, group_line, group_lines};
+
+use caja_units::{Memory, Units};
+use std::alloc::Global;
+
+/// What is written of a document: there is none.
+pub const NO_DOCUMENT: &[u8] = b"html 0\n\n";
+
+/// Appends `module NAME LENGTH`, and the text.
+pub fn push_module(
+    alloc: Global,
+    out: &mut Vec<u8>,
+    name: &Units,
+    text: &[u8],
+) -> Result<(), Memory>
+    ensures { OnOk result (out.new.items ≡ out.old.items ++ module_part name.now text.now) }
+{
+    out.extend_from_slice(b"module ")?;
+    name.push_utf8(out)?;
+    out.push(b' ')?;
+    let length = text.len().to_string(alloc)?;
+    out.extend_from_slice(length.as_bytes())?;
+    out.push(b'\n')?;
+    out.extend_from_slice(text)?;
+    out.push(b'\n')?;
+    Ok(())
+}
+
+/// Appends bytes.
+fn push(out: &mut Vec<u8>, bytes: &[u8]) -> Result<(), Memory>
+    ensures { OnOk result (out.new.items ≡ out.old.items ++ bytes.now) }
+{
+    out.extend_from_slice(bytes)?;
+    Ok(())
+}
+
+/// Appends the name of the module with this number; `?` where there is none.
+pub fn push_name(out: &mut Vec<u8>, names: &[Units], number: u32) -> Result<(), Memory>
+    ensures { OnOk result (out.new.items ≡ out.old.items ++ name_in names.now number) }
+{
+    match names.get(number as usize) {
+        Some(name) => name.push_utf8(out),
+        None => push(out, b"?"),
+    }
+}
+
+/// Appends ` NAME` for each of these modules.
+fn push_names(out: &mut Vec<u8>, names: &[Units], modules: &[u32]) -> Result<(), Memory>
+    ensures { OnOk result (out.new.items ≡ out.old.items ++ group_words names.now modules.now) }
+{
+    for number in modules {
+        out.push(b' ')?;
+        push_name(out, names, *number)?;
+    }
+    Ok(())
+}
+
+/// Appends `group` and the names of its modules.
+fn push_group(out: &mut Vec<u8>, names: &[Units], modules: &[u32]) -> Result<(), Memory>
+    ensures { OnOk result (out.new.items ≡ out.old.items ++ group_line names.now modules.now) }
+{
+    out.extend_from_slice(b"group")?;
+    push_names(out, names, modules)?;
+    out.push(b'\n')?;
+    Ok(())
+}
+
+/// Appends a line for each group.
+pub fn push_groups(out: &mut Vec<u8>, names: &[Units], groups: &[Vec<u32>]) -> Result<(), Memory>
+    ensures { OnOk result (out.new.items ≡ out.old.items ++ group_lines names.now (map (λ g. g.items) groups.now)) }
+{
+    for group in groups {
+        push_group(out, names, group)?;
+    }
+    Ok(())
+}
