@@ -6,6 +6,9 @@ use caja_units::Memory;
 use std::alloc::Global;
 use std::test::Fail;
 
+/// The room for what a row writes, in bytes.
+pub const ROOM: usize = 16_384;
+
 /// The words of a command, which spaces part.
 pub fn words(alloc: Global, command: &str) -> Result<Vec<String>, Memory> {
     let mut words = Vec::new(alloc);
@@ -20,9 +23,9 @@ pub fn source(alloc: Global, input: &[u8]) -> Result<MemSource, Memory> {
     Ok(MemSource::new(input.to_vec(alloc)?, 4096, Vec::new(alloc)))
 }
 
-/// A sink of which no write fails.
-pub fn sink(alloc: Global) -> Result<MemSink, Memory> {
-    let room = vec![in alloc; 0; 1024]?;
+/// A sink of so much room, of which no write fails.
+pub fn sink(alloc: Global, room: usize) -> Result<MemSink, Memory> {
+    let room = vec![in alloc; 0; room]?;
     Ok(MemSink::new(4096, room, Vec::new(alloc)))
 }
 
@@ -41,7 +44,7 @@ pub fn outcome(
 /// What a command answers and writes for an input, where no read and no write fails.
 pub fn run(alloc: Global, command: &str, input: &[u8]) -> Result<(Status, Vec<u8>), Memory> {
     let source = source(alloc, input)?;
-    outcome(alloc, command, source, sink(alloc)?)
+    outcome(alloc, command, source, sink(alloc, ROOM)?)
 }
 
 /// Whether the output is a text and a line end.

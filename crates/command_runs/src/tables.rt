@@ -1,5 +1,6 @@
 //! Tables of texts: a row is the words, a text, and what the text gives.
 
+use crate::manifests::manifest_of;
 use crate::runs::{is_line, run};
 use caja_cli::Status;
 use caja_units::Memory;
@@ -13,20 +14,47 @@ fn parts(row: &str) -> (&str, &str, &str) {
     (words, text, wanted)
 }
 
-/// Whether the text ends, and its log says that its load gave this.
+/// Whether the words are those of a page of texts.
+fn is_of_texts(words: &str) -> bool {
+    words.split_whitespace().next() == Some("run")
+}
+
+/// Whether the text ends as the only module of a page, and the log says that its load gave this.
 pub fn gives(alloc: Global, row: &str) -> Result<bool, Memory> {
     let (words, text, wanted) = parts(row);
-    let (status, output) = run(alloc, words, text.as_bytes())?;
-    let given = match output.strip_prefix(b"load main ") {
-        Some(line) => line.strip_suffix(b"\nend done\n"),
+    let (status, output) = run(alloc, words, manifest_of(alloc, text)?.as_bytes())?;
+    let given = match output.strip_prefix(b"group main\nload main ") {
+        Some(line) => line.strip_suffix(b"\nhtml 0\n\nend done\n"),
         None => None,
     };
     Ok(status == Status::Done && given == Some(wanted.as_bytes()))
 }
 
-/// Whether the words and the text give this status and this one line.
+/// What a page of one text that logs nothing writes before its last line; the line that refuses it stands alone.
+fn before_last(line: &str) -> &'static str {
+    if line.starts_with("end ") {
+        "group main\nhtml 0\n\n"
+    } else {
+        ""
+    }
+}
+
+/// Whether the words and the text give this status and this one line, behind what a page writes before it.
+fn page_ends(alloc: Global, row: &str, ended: &Status) -> Result<bool, Memory> {
+    let (words, text, wanted) = parts(row);
+    let (status, output) = run(alloc, words, manifest_of(alloc, text)?.as_bytes())?;
+    Ok(match behind(&output, before_last(wanted)) {
+        Some(line) => status == *ended && is_line(line, wanted),
+        None => false,
+    })
+}
+
+/// Whether the words and the text, which is the only module of a page for `run`, give this status and this one line.
 fn ends(alloc: Global, row: &str, ended: &Status) -> Result<bool, Memory> {
     let (words, text, wanted) = parts(row);
+    if is_of_texts(words) {
+        return page_ends(alloc, row, ended);
+    }
     let (status, output) = run(alloc, words, text.as_bytes())?;
     Ok(status == *ended && is_line(&output, wanted))
 }

@@ -11,7 +11,7 @@ use std::test::Fail;
 /// What becomes of a source: the length of its cajoled text, in bytes, or the stage that refuses it, the number of the refusal
 /// and the byte where it is.
 fn answer(alloc: Global, source: &str) -> Result<(usize, &'static str, u8, u32), Memory> {
-    Ok(match cajole(alloc, source.as_bytes())? {
+    Ok(match cajole(alloc, source.as_bytes(), &[])? {
         Answer::Module(module) => (module.text.len(), "", 0, 0),
         Answer::Uncut(number, at) => (0, "lex", number, at),
         Answer::Unread(number, at) => (0, "read", number, at),

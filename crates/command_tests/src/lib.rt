@@ -6,6 +6,6 @@ mod cajole_rows;
 #[cfg(test)]
 mod format_rows;
 #[cfg(test)]
-mod page_rows;
+mod input_rows;
 #[cfg(test)]
 mod source_rows;

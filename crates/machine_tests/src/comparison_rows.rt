@@ -4,7 +4,7 @@
 use crate::samples::{between, made};
 use es3_convert::{less, loose_equal, out_of_memory, strict_equal, to_bool, to_number, to_text};
 use es3_heap::{Heap, Stop};
-use module_loader::open;
+use module_loader::open_page;
 use std::alloc::Global;
 use std::test::Fail;
 
@@ -61,7 +61,7 @@ fn converts(alloc: Global, heap: &mut Heap, asked: &Asked, row: &str) -> Result<
 
 /// The first row with another answer is the failure.
 fn check_conversions(alloc: Global, asked: &Asked, table: &'static str) -> Result<(), Fail> {
-    let mut heap = open(alloc)?.heap;
+    let mut heap = open_page(alloc, 1, 0)?.heap;
     for row in table.lines() {
         if !converts(alloc, &mut heap, asked, row)? {
             return Err(row.into());
@@ -99,7 +99,7 @@ fn compares(alloc: Global, heap: &mut Heap, operator: &str, row: &str) -> Result
 
 /// The first row with another answer is the failure.
 fn check_comparisons(alloc: Global, operator: &str, table: &'static str) -> Result<(), Fail> {
-    let mut heap = open(alloc)?.heap;
+    let mut heap = open_page(alloc, 1, 0)?.heap;
     for row in table.lines() {
         if !compares(alloc, &mut heap, operator, row)? {
             return Err(row.into());
@@ -159,7 +159,7 @@ const WHITE: &str = "'\t\n\u{b}\u{c}\r \u{a0}\u{2028}\u{2029}'";
 #[test]
 fn a_number_is_whole_and_in_range_or_a_fault(rt: HostRuntime) -> Result<(), Fail> {
     check_conversions(rt.alloc(), &Asked::Number, NUMBERS)?;
-    let mut heap = open(rt.alloc())?.heap;
+    let mut heap = open_page(rt.alloc(), 1, 0)?.heap;
     assert!(rt; is_number(rt.alloc(), &mut heap, WHITE, "0")?);
     Ok(())
 }
@@ -267,7 +267,7 @@ false === true ⇒ false
 
 /// Whether an object is strictly equal to itself.
 fn is_itself(alloc: Global) -> Result<bool, Stop> {
-    let mut heap = open(alloc).map_err(out_of_memory)?.heap;
+    let mut heap = open_page(alloc, 1, 0).map_err(out_of_memory)?.heap;
     let object = made(alloc, &mut heap, "{}")?;
     let same = object.copy(alloc).map_err(out_of_memory)?;
     Ok(strict_equal(&object, &same))

@@ -5,7 +5,7 @@ use caja_num::Whole;
 use caja_units::Units;
 use es3_convert::{add, number_text, out_of_memory, to_primitive, to_text};
 use es3_heap::{Heap, Stop, Value};
-use module_loader::open;
+use module_loader::open_page;
 use std::alloc::Global;
 use std::test::Fail;
 
@@ -39,7 +39,7 @@ fn a_number_has_decimal_digits_and_a_sign(rt: HostRuntime) -> Result<(), Fail> {
 
 #[test]
 fn null_gives_nothing_to_the_text_of_an_array(rt: HostRuntime) -> Result<(), Fail> {
-    let mut heap = open(rt.alloc())?.heap;
+    let mut heap = open_page(rt.alloc(), 1, 0)?.heap;
     let array = made(rt.alloc(), &mut heap, "[1,null]")?;
     let primitive = to_primitive(rt.alloc(), &heap, &array)?;
     assert!(rt; is_same(&primitive, &Value::Text(ascii(rt.alloc(), b"1,")?)));
@@ -54,7 +54,7 @@ fn has_text(alloc: Global, heap: &Heap, v: &Value, bytes: &[u8]) -> Result<bool,
 
 #[test]
 fn an_object_with_a_conversion_of_its_own_stops_the_run(rt: HostRuntime) -> Result<(), Fail> {
-    let mut heap = open(rt.alloc())?.heap;
+    let mut heap = open_page(rt.alloc(), 1, 0)?.heap;
     let object = made(rt.alloc(), &mut heap, "{}")?;
     assert!(rt; has_text(rt.alloc(), &heap, &object, b"[object Object]")?);
     assert!(rt; put_conversion(rt.alloc(), &mut heap, &object)?);
@@ -65,7 +65,7 @@ fn an_object_with_a_conversion_of_its_own_stops_the_run(rt: HostRuntime) -> Resu
 
 #[test]
 fn arrays_are_nested_at_most_32_deep(rt: HostRuntime) -> Result<(), Fail> {
-    let mut heap = open(rt.alloc())?.heap;
+    let mut heap = open_page(rt.alloc(), 1, 0)?.heap;
     let most = nested(rt.alloc(), &mut heap, 32)?;
     assert!(rt; has_text(rt.alloc(), &heap, &most, &[b','; 62])?);
     let more = nested(rt.alloc(), &mut heap, 33)?;
@@ -100,7 +100,7 @@ fn is_sum(alloc: Global, heap: &mut Heap, sample: &str, sum: &str) -> Result<boo
 
 #[test]
 fn a_sum_is_a_number_or_a_text(rt: HostRuntime) -> Result<(), Fail> {
-    let mut heap = open(rt.alloc())?.heap;
+    let mut heap = open_page(rt.alloc(), 1, 0)?.heap;
     for (sample, sum) in SUMS.iter() {
         assert!(rt; is_sum(rt.alloc(), &mut heap, sample, sum)?, "{sample} + 1");
     }

@@ -5,7 +5,7 @@ use caja_units::Units;
 use es3_convert::{out_of_memory, strict_equal};
 use es3_heap::{Heap, Stop, Tag, Value};
 use guard_runtime::{Guard, call_guard};
-use module_loader::open;
+use module_loader::open_page;
 use row_outcomes::Outcome;
 use std::alloc::Global;
 use std::test::Fail;
@@ -224,7 +224,7 @@ fn a_key_with_a_conversion_of_its_own_stops_the_run(rt: HostRuntime) -> Result<(
 
 #[test]
 fn a_key_of_arrays_that_nest_too_deep_stops_the_run(rt: HostRuntime) -> Result<(), Fail> {
-    let mut heap = open(rt.alloc())?.heap;
+    let mut heap = open_page(rt.alloc(), 1, 0)?.heap;
     let key = nested(rt.alloc(), &mut heap, 33)?;
     let (read, record) = stops_of(rt.alloc(), &mut heap, &key)?;
     assert_eq!(rt; read, Some(Stop::Depth));

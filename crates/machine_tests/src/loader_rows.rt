@@ -4,7 +4,7 @@ use crate::lists::alone;
 use caja_units::{Memory, Units};
 use es3_heap::{Class, FuncKind, ObjId, Tag, Value};
 use es3_moves::natives::{Answer, Natives};
-use module_loader::{Opened, open};
+use module_loader::{Opened, add_imports_of, open_page};
 use page_natives::PageNatives;
 use std::alloc::Global;
 use std::test::Fail;
@@ -17,13 +17,14 @@ fn calls(alloc: Global, is_function: bool) -> Result<bool, Memory> {
     let Opened {
         mut heap,
         runtime,
-        imports,
         globals: _,
-    } = open(alloc)?;
+    } = open_page(alloc, 1, 0)?;
+    let imports = add_imports_of(alloc, &mut heap, 0, Vec::new(alloc))?;
     let function = heap.make_func(FuncKind::Code(0), 0)?;
     let callee = if is_function { function } else { imports };
     let args = alone(alloc, Value::Obj(callee))?;
-    let mut natives = PageNatives::new(alloc, runtime, imports);
+    let mut natives = PageNatives::new(alloc, runtime, false)?;
+    natives.importing(0, imports);
     match natives.call(alloc, &mut heap, LOAD_MODULE, 0, &Value::Undefined, &args) {
         Answer::Invoke(_, _, _, _) => Ok(true),
         _other => Ok(false),
@@ -39,7 +40,7 @@ fn load_module_calls_a_function_and_no_record(rt: HostRuntime) -> Result<(), Fai
 
 #[test]
 fn char_at_is_the_function_of_number_23(rt: HostRuntime) -> Result<(), Fail> {
-    let opened = open(rt.alloc())?;
+    let opened = open_page(rt.alloc(), 1, 0)?;
     let char_at = ObjId::new(53);
     assert_eq!(rt; opened.heap.class(char_at), Class::Function);
     assert_eq!(rt; opened.heap.tag(char_at), Tag::Built(23));
@@ -48,7 +49,7 @@ fn char_at_is_the_function_of_number_23(rt: HostRuntime) -> Result<(), Fail> {
 
 #[test]
 fn the_record_cajita_is_frozen(rt: HostRuntime) -> Result<(), Fail> {
-    let opened = open(rt.alloc())?;
+    let opened = open_page(rt.alloc(), 1, 0)?;
     let cajita = ObjId::new(30);
     let frozen = Units::from_ascii(rt.alloc(), b"FROZEN___")?;
     assert_eq!(rt; opened.heap.tag(cajita), Tag::Built(0));

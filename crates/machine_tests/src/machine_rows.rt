@@ -25,15 +25,16 @@ fn started(alloc: Global, heap: &mut Heap, body: Vec<Stmt>) -> Result<Machine, M
 }
 
 /// Natives of which none is called here.
-fn natives(alloc: Global) -> PageNatives {
-    PageNatives::new(alloc, ObjId::new(0), ObjId::new(0))
+fn natives(alloc: Global) -> Result<PageNatives, Memory> {
+    PageNatives::new(alloc, ObjId::new(0), false)
 }
 
 /// Runs a program in a new store.
 fn run(alloc: Global, body: Vec<Stmt>, steps: u64) -> Result<(Completion, u64), Stop> {
     let mut heap = Heap::new(alloc).map_err(out_of_memory)?;
     let mut machine = started(alloc, &mut heap, body).map_err(out_of_memory)?;
-    machine.run(&mut heap, &mut natives(alloc), steps)
+    let mut natives = natives(alloc).map_err(out_of_memory)?;
+    machine.run(&mut heap, &mut natives, steps)
 }
 
 fn name(alloc: Global, text: &str) -> Result<Name, Memory> {
@@ -122,14 +123,15 @@ fn called_from_outside(alloc: Global, argument: Value) -> Result<(Completion, u6
     let function = identity(alloc).map_err(out_of_memory)?;
     let body = alone(alloc, Stmt::Expr(function)).map_err(out_of_memory)?;
     let mut machine = started(alloc, &mut heap, body).map_err(out_of_memory)?;
-    let (completion, _taken) = machine.run(&mut heap, &mut natives(alloc), 100)?;
+    let mut natives = natives(alloc).map_err(out_of_memory)?;
+    let (completion, _taken) = machine.run(&mut heap, &mut natives, 100)?;
     let function = match completion {
         Completion::Normal(v) => v,
         Completion::Thrown(v) => v,
     };
     let args = alone(alloc, argument).map_err(out_of_memory)?;
     machine.start_call(function, Value::Undefined, args, 0);
-    machine.run(&mut heap, &mut natives(alloc), 2)
+    machine.run(&mut heap, &mut natives, 2)
 }
 
 #[test]

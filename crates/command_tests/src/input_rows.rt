@@ -1,17 +1,19 @@
-//! Inputs of the top call with `solo`, and what becomes of each; wrong words; faults of the input and of the output.
+//! Inputs of the top call, and what becomes of each; words; faults of the input and of the output.
 
 use caja_cli::{Status, caja};
 use caja_io::{MemSink, MemSource, read_all};
 use caja_units::Memory;
-use command_runs::runs::{check_refusals, outcome, refuses, run, sink, source, words};
+use command_runs::page_tables::check_outputs;
+use command_runs::runs::{ROOM, check_refusals, outcome, refuses, run, sink, source, words};
+use command_runs::tables::check_ends;
 use std::alloc::Global;
 use std::test::Fail;
 
 /// The longest input, in bytes: 4 MiB.
 const LONGEST_INPUT: usize = 4_194_304;
 
-// The room of a sink, in bytes.
-const ROOM: usize = 1024;
+/// The longest input of `run`, in bytes: 64 MiB.
+const LONGEST_TEXTS: usize = 67_108_864;
 
 // The bytes before the first end of a line.
 fn first_line(output: &[u8]) -> &[u8] {
@@ -119,7 +121,7 @@ fn failing_source(alloc: Global) -> Result<MemSource, Memory> {
 #[test]
 fn nothing_is_written_after_a_failing_read(rt: HostRuntime) -> Result<(), Fail> {
     let source = failing_source(rt.alloc())?;
-    let (status, output) = outcome(rt.alloc(), "solo", source, sink(rt.alloc())?)?;
+    let (status, output) = outcome(rt.alloc(), "solo", source, sink(rt.alloc(), ROOM)?)?;
     assert_eq!(rt; status, Status::ReadFault);
     assert_eq!(rt; output.len(), 0);
     Ok(())
@@ -157,8 +159,8 @@ fn a_sink_that_takes_nothing_has_no_room(rt: HostRuntime) -> Result<(), Fail> {
 
 // Whether wrong words are answered.
 fn is_answered(alloc: Global, source: &mut MemSource) -> Result<bool, Memory> {
-    let words = words(alloc, "page")?;
-    let mut sink = sink(alloc)?;
+    let words = words(alloc, "walk")?;
+    let mut sink = sink(alloc, ROOM)?;
     let status = caja(&words, source, &mut sink, alloc);
     Ok(status == Status::Usage && sink.written() == b"usage\n".as_slice())
 }
@@ -176,5 +178,141 @@ fn a_wrong_word_is_answered_before_the_input_is_read(rt: HostRuntime) -> Result<
 fn an_input_of_a_byte_too_many_is_refused(rt: HostRuntime) -> Result<(), Fail> {
     let input = vec![in rt.alloc(); b' '; LONGEST_INPUT + 1]?;
     assert!(rt; refuses(rt.alloc(), "solo", &input, "refused main input 1 0")?);
+    assert!(rt; refuses(rt.alloc(), "cajole", &input, "refused main input 1 0")?);
+    assert!(rt; refuses(rt.alloc(), "page", &input, "refused - input 1 0")?);
+    assert!(rt; refuses(rt.alloc(), "run", &input, "refused - page 1 0")?);
     Ok(())
+}
+
+#[test]
+fn texts_of_a_byte_too_many_are_refused(rt: HostRuntime) -> Result<(), Fail> {
+    let input = vec![in rt.alloc(); b' '; LONGEST_TEXTS + 1]?;
+    assert!(rt; refuses(rt.alloc(), "run", &input, "refused - input 1 0")?);
+    Ok(())
+}
+
+#[test]
+fn bytes_that_are_no_manifest_are_refused(rt: HostRuntime) -> Result<(), Fail> {
+    for command in ["page", "run", "page --touch", "run --steps 5"] {
+        assert!(rt;
+            refuses(rt.alloc(), command, b"\xFF", "refused - page 1 0")?,
+            "{command}"
+        );
+        assert!(rt;
+            refuses(rt.alloc(), command, b"", "refused - page 1 0")?,
+            "{command}"
+        );
+        assert!(rt;
+            refuses(rt.alloc(), command, b"\xEF\xBB\xBF{}", "refused - page 1 0")?,
+            "{command}"
+        );
+        assert!(rt;
+            refuses(rt.alloc(), command, b"{}", "refused - page 2 0")?,
+            "{command}"
+        );
+    }
+    Ok(())
+}
+
+/// Words, an input, and the one line that is written.
+static USAGE: &str = "
+walk ⇒ 1; ⇒ usage
+gen 5 ⇒ 1; ⇒ usage
+check ⇒ 1; ⇒ usage
+gadget ⇒ 1; ⇒ usage
+--touch page ⇒ {} ⇒ usage
+--steps 5 page ⇒ {} ⇒ usage
+page page ⇒ {} ⇒ usage
+page 5 ⇒ {} ⇒ usage
+page -- ⇒ {} ⇒ usage
+page --help ⇒ {} ⇒ usage
+page --version ⇒ {} ⇒ usage
+page --touch --touch ⇒ {} ⇒ usage
+page --touch --steps 5 --touch ⇒ {} ⇒ usage
+page --touch=1 ⇒ {} ⇒ usage
+page --touched ⇒ {} ⇒ usage
+page --steps ⇒ {} ⇒ usage
+page --steps --touch ⇒ {} ⇒ usage
+page --steps 0 ⇒ {} ⇒ usage
+page --steps 10000001 ⇒ {} ⇒ usage
+page --steps 5 --steps=5 ⇒ {} ⇒ usage
+solo --touch --touch ⇒ 1; ⇒ usage
+solo --touch 5 ⇒ 1; ⇒ usage
+format --touch ⇒ 1; ⇒ usage
+cajole --touch ⇒ 1; ⇒ usage
+";
+
+#[test]
+fn other_words_are_usage(rt: HostRuntime) -> Result<(), Fail> {
+    check_ends(rt.alloc(), USAGE, Status::Usage)
+}
+
+/// The options of a page in each order.
+static OPTIONS: &str = r#"
+# none
+page
+{"version":1,"modules":[{"name":"a","language":"cajita","source":"({}).x;"}]}
+⇒
+module a 141
+___.loadModule(function(___,IMPORTS___){var moduleResult___;moduleResult___=___.readPub(___.initializeMap([]),"x");return moduleResult___;});
+group a
+load a return undefined
+html 0
+
+end done
+# touches
+page --touch
+{"version":1,"modules":[{"name":"a","language":"cajita","source":"({}).x;"}]}
+⇒
+module a 141
+___.loadModule(function(___,IMPORTS___){var moduleResult___;moduleResult___=___.readPub(___.initializeMap([]),"x");return moduleResult___;});
+group a
+touch a get a#0 "x"
+load a return undefined
+html 0
+
+end done
+# touches before steps
+page --touch --steps 1
+{"version":1,"modules":[{"name":"a","language":"cajita","source":"({}).x; while (true) {}"}]}
+⇒
+module a 154
+___.loadModule(function(___,IMPORTS___){var moduleResult___;moduleResult___=___.readPub(___.initializeMap([]),"x");while(true){}return moduleResult___;});
+group a
+touch a get a#0 "x"
+html 0
+
+end steps
+# steps before touches
+page --steps=00000001 --touch
+{"version":1,"modules":[{"name":"a","language":"cajita","source":"({}).x; while (true) {}"}]}
+⇒
+module a 154
+___.loadModule(function(___,IMPORTS___){var moduleResult___;moduleResult___=___.readPub(___.initializeMap([]),"x");while(true){}return moduleResult___;});
+group a
+touch a get a#0 "x"
+html 0
+
+end steps
+# a module by itself
+solo --steps 1 --touch
+({}).x; while (true) {}
+⇒
+module main 154
+___.loadModule(function(___,IMPORTS___){var moduleResult___;moduleResult___=___.readPub(___.initializeMap([]),"x");while(true){}return moduleResult___;});
+touch main get main#0 "x"
+end steps
+# texts
+run --touch --steps=10
+{"version":1,"modules":[{"name":"a","language":"es3","source":"while (true) {}"}]}
+⇒
+group a
+html 0
+
+end steps
+"#;
+
+#[test]
+fn options_stand_in_any_order(rt: HostRuntime) -> Result<(), Fail> {
+    check_outputs(rt.alloc(), OPTIONS)
 }

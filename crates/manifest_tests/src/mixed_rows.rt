@@ -1,0 +1,355 @@
+//! Manifests with a key twice, with two faults, and with numbers of other forms, each with the number and the place of its first fault; zeros where it has none.
+
+/// Keys that stand twice: the last one counts.
+pub static KEYS_TWICE: [(&str, &str, u8, u32); 29] = [
+    (
+        "cells twice, the last are right",
+        r#"{"version":1,"cells":7,"cells":["k"],"modules":[]}"#,
+        0,
+        0,
+    ),
+    (
+        "cells twice, the last are wrong",
+        r#"{"version":1,"cells":["k"],"cells":7,"modules":[]}"#,
+        3,
+        0,
+    ),
+    (
+        "cells twice, and a cell of the first ones is granted",
+        r#"{"version":1,"cells":["k"],"cells":["l"],"modules":[{"name":"a","language":"cajita","source":"","grants":[{"name":"g","cell":"k"}]}]}"#,
+        7,
+        0,
+    ),
+    (
+        "modules twice, the last are wrong",
+        r#"{"version":1,"modules":[],"modules":7}"#,
+        3,
+        0,
+    ),
+    (
+        "modules twice, and an event of the first ones",
+        r#"{"version":1,"modules":[{"name":"a","language":"cajita","source":""}],"modules":[],"events":[{"tick":"a"}]}"#,
+        10,
+        0,
+    ),
+    (
+        "events twice, the last are right",
+        r#"{"version":1,"modules":[],"events":7,"events":[]}"#,
+        0,
+        0,
+    ),
+    (
+        "events twice, the last are wrong",
+        r#"{"version":1,"modules":[],"events":[],"events":7}"#,
+        3,
+        0,
+    ),
+    (
+        "a version twice by an escape",
+        r#"{"version":2,"\u0076ersion":1,"modules":[]}"#,
+        0,
+        0,
+    ),
+    (
+        "an unknown field twice",
+        r#"{"version":1,"x":1,"x":2,"modules":[]}"#,
+        4,
+        0,
+    ),
+    (
+        "a name twice, the last is wrong",
+        r#"{"version":1,"modules":[{"name":"a","language":"cajita","source":""},{"name":"b","name":7,"language":"cajita","source":""}]}"#,
+        3,
+        1,
+    ),
+    (
+        "a language twice, the last is right",
+        r#"{"version":1,"modules":[{"name":"a","language":"cajita","source":""},{"name":"b","language":"valija","language":"cajita","source":""}]}"#,
+        0,
+        0,
+    ),
+    (
+        "a language twice, the last is wrong",
+        r#"{"version":1,"modules":[{"name":"a","language":"cajita","source":""},{"name":"b","language":"cajita","language":"valija","source":""}]}"#,
+        3,
+        1,
+    ),
+    (
+        "a source twice, the last is right",
+        r#"{"version":1,"modules":[{"name":"a","language":"cajita","source":""},{"name":"b","language":"cajita","source":1,"source":""}]}"#,
+        0,
+        0,
+    ),
+    (
+        "a source twice, the last is wrong",
+        r#"{"version":1,"modules":[{"name":"a","language":"cajita","source":""},{"name":"b","language":"cajita","source":"","source":1}]}"#,
+        3,
+        1,
+    ),
+    (
+        "grants twice, the last are right",
+        r#"{"version":1,"modules":[{"name":"a","language":"cajita","source":""},{"name":"b","language":"cajita","source":"","grants":7,"grants":[]}]}"#,
+        0,
+        0,
+    ),
+    (
+        "grants twice, the last are wrong",
+        r#"{"version":1,"modules":[{"name":"a","language":"cajita","source":""},{"name":"b","language":"cajita","source":"","grants":[],"grants":7}]}"#,
+        3,
+        1,
+    ),
+    (
+        "a name of a grant twice, the last is wrong",
+        r#"{"version":1,"cells":["k"],"modules":[{"name":"a","language":"cajita","source":""},{"name":"b","language":"cajita","source":"","grants":[{"name":"g","name":"eval","value":1}]}]}"#,
+        5,
+        1,
+    ),
+    (
+        "a cell twice in a grant, the last is there",
+        r#"{"version":1,"cells":["k"],"modules":[{"name":"a","language":"cajita","source":""},{"name":"b","language":"cajita","source":"","grants":[{"name":"g","cell":"l","cell":"k"}]}]}"#,
+        0,
+        0,
+    ),
+    (
+        "a cell twice in a grant, the last is not there",
+        r#"{"version":1,"cells":["k"],"modules":[{"name":"a","language":"cajita","source":""},{"name":"b","language":"cajita","source":"","grants":[{"name":"g","cell":"k","cell":"l"}]}]}"#,
+        7,
+        1,
+    ),
+    (
+        "a module twice in a grant, the last is earlier",
+        r#"{"version":1,"cells":["k"],"modules":[{"name":"a","language":"cajita","source":""},{"name":"b","language":"cajita","source":"","grants":[{"name":"g","module":"b","module":"a"}]}]}"#,
+        0,
+        0,
+    ),
+    (
+        "a module twice in a grant, the last is later",
+        r#"{"version":1,"cells":["k"],"modules":[{"name":"a","language":"cajita","source":""},{"name":"b","language":"cajita","source":"","grants":[{"name":"g","module":"a","module":"b"}]}]}"#,
+        8,
+        1,
+    ),
+    (
+        "a value twice, the last is wrong",
+        r#"{"version":1,"cells":["k"],"modules":[{"name":"a","language":"cajita","source":""},{"name":"b","language":"cajita","source":"","grants":[{"name":"g","value":1,"value":[]}]}]}"#,
+        3,
+        1,
+    ),
+    (
+        "a tick twice, the last is there",
+        r#"{"version":1,"modules":[{"name":"a","language":"cajita","source":""}],"events":[{"tick":"a"},{"tick":"c","tick":"a"}]}"#,
+        0,
+        0,
+    ),
+    (
+        "a tick twice, the last is not there",
+        r#"{"version":1,"modules":[{"name":"a","language":"cajita","source":""}],"events":[{"tick":"a"},{"tick":"a","tick":"c"}]}"#,
+        10,
+        1,
+    ),
+    (
+        "a call twice, the last is not there",
+        r#"{"version":1,"modules":[{"name":"a","language":"cajita","source":""}],"events":[{"tick":"a"},{"call":"a","call":"c","key":"f"}]}"#,
+        10,
+        1,
+    ),
+    (
+        "a key twice, the last is right",
+        r#"{"version":1,"modules":[{"name":"a","language":"cajita","source":""}],"events":[{"tick":"a"},{"call":"a","key":1,"key":"f"}]}"#,
+        0,
+        0,
+    ),
+    (
+        "a key twice, the last is wrong",
+        r#"{"version":1,"modules":[{"name":"a","language":"cajita","source":""}],"events":[{"tick":"a"},{"call":"a","key":"f","key":1}]}"#,
+        3,
+        1,
+    ),
+    (
+        "arguments twice, the last are right",
+        r#"{"version":1,"modules":[{"name":"a","language":"cajita","source":""}],"events":[{"tick":"a"},{"call":"a","key":"f","args":7,"args":[]}]}"#,
+        0,
+        0,
+    ),
+    (
+        "arguments twice, the last are wrong",
+        r#"{"version":1,"modules":[{"name":"a","language":"cajita","source":""}],"events":[{"tick":"a"},{"call":"a","key":"f","args":[],"args":7}]}"#,
+        3,
+        1,
+    ),
+];
+
+/// Two faults at once, in the order of the walk.
+pub static TWO_FAULTS: [(&str, &str, u8, u32); 20] = [
+    (
+        "a version before cells",
+        r#"{"version":2,"cells":7,"modules":[]}"#,
+        12,
+        0,
+    ),
+    (
+        "a cell before modules",
+        r#"{"version":1,"cells":["k","K"],"modules":7}"#,
+        5,
+        1,
+    ),
+    (
+        "cells before a missing list of modules",
+        r#"{"version":1,"cells":["k",7]}"#,
+        3,
+        1,
+    ),
+    (
+        "a module before events",
+        r#"{"version":1,"modules":[{"name":"a","language":"cajita","source":""},{"name":"b","language":"cajita"}],"events":7}"#,
+        2,
+        1,
+    ),
+    (
+        "a source before grants",
+        r#"{"version":1,"modules":[{"name":"a","language":"cajita","source":""},{"name":"b","language":"cajita","grants":7}]}"#,
+        2,
+        1,
+    ),
+    (
+        "grants of the first module before the second",
+        r#"{"version":1,"modules":[{"name":"a","language":"cajita","source":"","grants":[{"name":"g"}]},7]}"#,
+        2,
+        0,
+    ),
+    (
+        "an unknown field of a module before a missing source",
+        r#"{"version":1,"modules":[{"name":"a","language":"cajita","source":""},{"name":"b","language":"cajita","x":1}]}"#,
+        4,
+        1,
+    ),
+    (
+        "an unknown field of a grant before a name",
+        r#"{"version":1,"cells":["k"],"modules":[{"name":"a","language":"cajita","source":""},{"name":"b","language":"cajita","source":"","grants":[{"name":"eval","value":1,"x":1}]}]}"#,
+        4,
+        1,
+    ),
+    (
+        "the name of a grant before its value",
+        r#"{"version":1,"cells":["k"],"modules":[{"name":"a","language":"cajita","source":""},{"name":"b","language":"cajita","source":"","grants":[{"name":"eval","value":[]}]}]}"#,
+        5,
+        1,
+    ),
+    (
+        "the first grant before the second",
+        r#"{"version":1,"cells":["k"],"modules":[{"name":"a","language":"cajita","source":""},{"name":"b","language":"cajita","source":"","grants":[{"name":"g","cell":"K"},{"name":1,"cell":"k"}]}]}"#,
+        5,
+        1,
+    ),
+    (
+        "an unknown field of an event before a tick",
+        r#"{"version":1,"modules":[{"name":"a","language":"cajita","source":""}],"events":[{"tick":"a"},{"tick":"A","x":1}]}"#,
+        4,
+        1,
+    ),
+    (
+        "a call before arguments",
+        r#"{"version":1,"modules":[{"name":"a","language":"cajita","source":""}],"events":[{"tick":"a"},{"call":"A","key":"f","args":7}]}"#,
+        5,
+        1,
+    ),
+    (
+        "the first event of a wrong kind before the second",
+        r#"{"version":1,"modules":[],"events":[{"tick":1},{}]}"#,
+        3,
+        0,
+    ),
+    (
+        "events before a cell that stands twice",
+        r#"{"version":1,"cells":["k","k"],"modules":[],"events":[{"tick":"a"},{}]}"#,
+        2,
+        1,
+    ),
+    (
+        "events before a module that is granted to itself",
+        r#"{"version":1,"modules":[{"name":"a","language":"cajita","source":"","grants":[{"name":"g","module":"a"}]}],"events":[{"tick":"a"},{"tick":"A"}]}"#,
+        5,
+        1,
+    ),
+    (
+        "a cell twice before a grant twice",
+        r#"{"version":1,"cells":["k","l","l"],"modules":[{"name":"a","language":"cajita","source":"","grants":[{"name":"g","value":1},{"name":"g","value":1}]}]}"#,
+        6,
+        2,
+    ),
+    (
+        "a grant twice in the second module before one in the third",
+        r#"{"version":1,"modules":[{"name":"a","language":"cajita","source":""},{"name":"b","language":"cajita","source":"","grants":[{"name":"g","value":1},{"name":"g","value":1}]},{"name":"c","language":"cajita","source":"","grants":[{"name":"g","value":1},{"name":"g","value":1}]}]}"#,
+        6,
+        1,
+    ),
+    (
+        "a cell that is not there before a later module",
+        r#"{"version":1,"cells":["k"],"modules":[{"name":"a","language":"cajita","source":""},{"name":"b","language":"cajita","source":"","grants":[{"name":"g","cell":"l"},{"name":"h","module":"b"}]}]}"#,
+        7,
+        1,
+    ),
+    (
+        "a grant of the second module before an event",
+        r#"{"version":1,"modules":[{"name":"a","language":"cajita","source":""},{"name":"b","language":"cajita","source":"","grants":[{"name":"g","cell":"k"}]}],"events":[{"tick":"c"}]}"#,
+        7,
+        1,
+    ),
+    (
+        "no page before all that is wrong in it",
+        r#"{"version":2,"cells":7,"modules":7,"events":7}}"#,
+        1,
+        0,
+    ),
+];
+
+/// Numbers.
+pub static NUMBERS: [(&str, &str, u8, u32); 8] = [
+    (
+        "an argument with an exponent",
+        r#"{"version":1,"modules":[{"name":"a","language":"cajita","source":""}],"events":[{"tick":"a"},{"call":"a","key":"f","args":[1e0]}]}"#,
+        3,
+        1,
+    ),
+    (
+        "an argument of minus zero",
+        r#"{"version":1,"modules":[{"name":"a","language":"cajita","source":""}],"events":[{"tick":"a"},{"call":"a","key":"f","args":[-0]}]}"#,
+        3,
+        1,
+    ),
+    (
+        "a fraction for an argument",
+        r#"{"version":1,"modules":[{"name":"a","language":"cajita","source":""}],"events":[{"tick":"a"},{"call":"a","key":"f","args":[0.5]}]}"#,
+        3,
+        1,
+    ),
+    (
+        "the greatest and the least argument",
+        r#"{"version":1,"modules":[{"name":"a","language":"cajita","source":""}],"events":[{"tick":"a"},{"call":"a","key":"f","args":[9007199254740991,-9007199254740991]}]}"#,
+        0,
+        0,
+    ),
+    (
+        "arguments of 2^53 and its opposite",
+        r#"{"version":1,"modules":[{"name":"a","language":"cajita","source":""}],"events":[{"tick":"a"},{"call":"a","key":"f","args":[-9007199254740992,9007199254740992]}]}"#,
+        3,
+        1,
+    ),
+    (
+        "an argument past the floats",
+        r#"{"version":1,"modules":[{"name":"a","language":"cajita","source":""}],"events":[{"tick":"a"},{"call":"a","key":"f","args":[1e400]}]}"#,
+        1,
+        0,
+    ),
+    (
+        "a great number with an exponent",
+        r#"{"version":1,"cells":["k"],"modules":[{"name":"a","language":"cajita","source":""},{"name":"b","language":"cajita","source":"","grants":[{"name":"g","value":1e15}]}]}"#,
+        3,
+        1,
+    ),
+    (
+        "a great number with a point",
+        r#"{"version":1,"cells":["k"],"modules":[{"name":"a","language":"cajita","source":""},{"name":"b","language":"cajita","source":"","grants":[{"name":"g","value":9007199254740991.0}]}]}"#,
+        3,
+        1,
+    ),
+];
