@@ -21,16 +21,17 @@ use Rattle.page_cajole.specs.Source.{Source, Spells, source_of, source_limits}
 use Rattle.page_cajole.specs.Cajoled.{cajoled, judged, outcome_of, outcome}
 use Rattle.page_cajole.proofs.Spelled.{spelled_where_read}
 
--- what was judged to be a program: there is a module, for which it stands
-record StandsFor (m : Option (c.Tree c.program)) (p : t.Tree t.program) : Type 0 where
-  its_module : c.Tree c.program
-  found : m ≡ Some its_module
-  program : p ≡ program_of its_module
+-- what was judged to be a program: no rule is broken, and there is a module, for which it stands
+pub record StandsFor (fault : Option Fault) (m : Option (c.Tree c.program)) (p : t.Tree t.program) : Type 0 where
+  pub unbroken : fault ≡ None
+  pub its_module : c.Tree c.program
+  pub found : m ≡ Some its_module
+  pub program : p ≡ program_of its_module
 
-stands_for : (fault : Option Fault) (m : Option (c.Tree c.program)) (p : t.Tree t.program) → judged fault m ≡ cajoled p → StandsFor m p
+pub stands_for : (fault : Option Fault) (m : Option (c.Tree c.program)) (p : t.Tree t.program) → judged fault m ≡ cajoled p → StandsFor fault m p
 stands_for (Some f) m p e = absurd cc
 stands_for None None p e = absurd cc
-stands_for None (Some x) p e = record { its_module = x; found = refl; program = cc }
+stands_for None (Some x) p e = record { unbroken = refl; its_module = x; found = refl; program = cc }
 
 read_is_back : (granted : List (List ℕ)) (source : List ℕ) (read : Source) (p : t.Tree t.program) → source_of source_limits source ≡ read → outcome_of granted read ≡ cajoled p → IsReadBack p
 read_is_back granted source (s.uncut number at) p is e = absurd cc

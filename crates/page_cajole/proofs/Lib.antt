@@ -4,3 +4,5 @@ pub mod Formats
 pub mod Each
 pub mod Outcomes
 pub mod Back
+pub mod Jumps
+pub mod Runs

@@ -1,8 +1,9 @@
 -- A page is what its modules are.
-use Rattle.std.proofs.Common.{◌≡◌, ◌<◌, ℕ, ◌+◌, zero, suc, List, [], ◌∷◌, map, Result, Ok, Err, Option, Some, None, refl, sym, ap, subst, ◌∙◌, arith}
+use Rattle.std.proofs.Common.{◌≡◌, ◌<◌, ℕ, ◌+◌, zero, suc, List, [], ◌∷◌, map, Result, Ok, Err, Some, None, refl, sym, ap, subst, ◌∙◌, arith}
 use Rattle.std.specs.Prelude.{IsOk, slice_get}
-use Rattle.page_manifest.specs.Page.{Language, Module, Page}
-use Rattle.page_cajole.specs.Pages.{Refusal, Runnable, source_outcome, granted_names, module_outcome, chain, numbered, each, page_outcome, IsFirstRefused, IsCajoledPage}
+use Rattle.page_manifest.specs.Page.{Module, Page}
+use Rattle.page_cajole.specs.Pages.{Refusal, Runnable, source_outcome, granted_names, module_outcome, chain, numbered, each, IsFirstRefused, IsCajoledPage}
+use Rattle.page_cajole.proofs.Jumps.{page_has_targets}
 
 abbrev Runnables : Type 0
 Runnables = Result (List Runnable) (ℕ × Refusal)
@@ -113,4 +114,5 @@ is_cajoled_page p = record {
   where_accepted = λ rs. (accepted_so 0 p.modules rs, accepted_where 0 p.modules rs);
   where_refused = λ i r. (λ e. at_its_place p.modules i r (refused_so 0 p.modules i r e), from_the_first p.modules i r);
   alone = alone;
+  jumps = λ rs e. page_has_targets p.modules rs (accepted_so 0 p.modules rs e);
 }

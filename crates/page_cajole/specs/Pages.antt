@@ -1,6 +1,10 @@
 -- What becomes of the modules of a page: what runs for each, or the first of them, in listed order, that a stage refuses.
-use Rattle.std.specs.Prelude.{◌≡◌, ◌↔◌, ◌<◌, ℕ, ◌+◌, List, [], ◌∷◌, map, Result, Ok, Err, Some, IsOk, slice_get, codes}
+use Rattle.std.specs.Prelude.{◌≡◌, ◌↔◌, ◌<◌, ℕ, ◌+◌, List, [], ◌∷◌, map, Result, Ok, Err, Some, None, IsOk, slice_get, codes}
+use Rattle.std.specs.List.{All}
 use Rattle.es3_tree.specs.Tree as t
+use Rattle.es3_tree.specs.Placed.{Placed}
+use Rattle.es3_grammar.specs.Plain.{plain}
+use Rattle.es3_labels.specs.Misplaced.{first_of}
 use Rattle.es3_printed.specs.Tokens.{printed}
 use Rattle.page_manifest.specs.Page.{Language, cajita, es3, Module, Page}
 use Rattle.page_cajole.specs.Cajoled as c
@@ -72,9 +76,14 @@ pub record IsFirstRefused (ms : List Module) (i : ℕ) (r : Refusal) : Type 0 wh
   pub refused : module_outcome its_module ≡ Err r
   pub before : (k : ℕ) (m : Module) → k < i → slice_get ms k ≡ Some m → IsOk (module_outcome m)
 
+-- wherever its parts stand in a text, each jump of the program has its target, and no label stands within a statement of the same label (ES3 12.7 to 12.9, 12.12)
+abbrev pub JumpsHaveTargets : t.Tree t.program → Type 0
+JumpsHaveTargets p = (q : Placed t.program) → plain t.program q ≡ p → first_of q ≡ None
+
 -- what runs for a page is what runs for each of its modules, and that goes by the module's own language, source and granted names alone; and a page is refused
--- just where a module is, with the number of the first such module and what refuses it
+-- just where a module is, with the number of the first such module and what refuses it; and each jump of what runs has its target
 pub record IsCajoledPage (p : Page) : Type 0 where
   pub where_accepted : (rs : List Runnable) → (page_outcome p ≡ Ok rs) ↔ (map module_outcome p.modules ≡ map Ok rs)
   pub where_refused : (i : ℕ) (r : Refusal) → (page_outcome p ≡ Err (i, r)) ↔ IsFirstRefused p.modules i r
   pub alone : (m n : Module) → m.language ≡ n.language → m.source ≡ n.source → granted_names m ≡ granted_names n → module_outcome m ≡ module_outcome n
+  pub jumps : (rs : List Runnable) → page_outcome p ≡ Ok rs → All (λ r. JumpsHaveTargets r.program) rs

@@ -2,7 +2,7 @@
 //! to the stage that refuses it. From a page to what runs for its modules.
 #![tactic(auto)]
 
-ghost use Rattle.std.specs.Prelude.{◌≡◌, ℕ, List, IfOk};
+ghost use Rattle.std.specs.Prelude.{◌≡◌, ◌≤◌, ℕ, List, Ok, IfOk, length};
 ghost use Rattle.es3_tree.specs.Tree as t;
 ghost use Rattle.es3_tree.specs.View.{program as program_view};
 ghost use Rattle.es3_tree.specs.PlacedView.{of_stmts};
@@ -10,10 +10,15 @@ ghost use Rattle.cajita_tree.specs.View.{module_view};
 ghost use Rattle.cajita_rewrite.specs.Rewrite.{program_of};
 ghost use Rattle.es3_printed.specs.Back.{IsReadBack};
 ghost use Rattle.es3_printed.specs.Tokens.{printed};
+ghost use Rattle.page_manifest.specs.Page.{cajita, es3};
 ghost use Rattle.page_cajole.specs.Cajoled as source_becomes;
 ghost use Rattle.page_cajole.specs.Cajoled.{outcome, outcome_of_body};
 ghost use Rattle.page_cajole.specs.Answers.{Answers};
 ghost use Rattle.page_cajole.specs.Formatted.{IsFormatted};
+ghost use Rattle.page_cajole.specs.Source.{text_limits};
+ghost use Rattle.page_cajole.specs.Pages.{Runnable, source_outcome};
+ghost use Rattle.page_cajole.specs.Text as text_becomes;
+ghost use Rattle.page_cajole.specs.Text.{text_outcome};
 
 mod formatting;
 mod pages;
@@ -26,7 +31,10 @@ use cajita_tree::Module;
 use es3_printer::print_program;
 use es3_tree::Program;
 pub use formatting::{FormatAnswer, format};
-pub use pages::{CajoleError, Stage, a_page_is_what_its_modules_are, cajole_all};
+pub use pages::{
+    CajoleError, Stage, a_page_is_what_its_modules_are, cajole_all,
+    no_jump_of_what_runs_is_misplaced,
+};
 use scope_rules::{RuleError, check};
 use source::{SOURCE_LIMITS, SourceRead, read_source};
 use std::alloc::Global;
@@ -99,4 +107,14 @@ pub fn formatting_keeps_the_program()
 #[tactic(auto, using(crate::proofs::Back::cajoled_back))]
 pub fn a_cajoled_text_is_read_back()
     ensures { (granted : List (List ℕ)) (source : List ℕ) (p : t.Tree t.program) → outcome granted source ≡ source_becomes.cajoled p → IsReadBack p }
+{}
+
+/// The text of a cajoled source runs as it stands, whatever names were granted, where it isn't longer than such a text may be: as the very program that it
+/// is of; and as a module of a page of texts, with that text and that program.
+#[tactic(auto, using(crate::proofs::Runs::cajoled_runs, crate::proofs::Runs::cajoled_runs_again))]
+pub fn a_cajoled_text_runs()
+    ensures program { (granted : List (List ℕ)) (source : List ℕ) (p : t.Tree t.program) → outcome granted source ≡ source_becomes.cajoled p
+        → length (printed p) ≤ text_limits.longest → text_outcome (printed p) ≡ text_becomes.runs p }
+    ensures module { (granted names : List (List ℕ)) (source : List ℕ) (r : Runnable) → source_outcome cajita granted source ≡ Ok r
+        → length r.text ≤ text_limits.longest → source_outcome es3 names r.text ≡ Ok r }
 {}

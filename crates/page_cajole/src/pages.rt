@@ -1,10 +1,13 @@
 //! What becomes of the modules of a page.
 
-ghost use Rattle.std.specs.Prelude.{◌<◌, ◌≡◌, ◌^◌, IfOk, length, map};
+ghost use Rattle.std.specs.Prelude.{◌<◌, ◌≡◌, ◌^◌, All, List, None, Ok, IfOk, length, map};
+ghost use Rattle.es3_tree.specs.PlacedView.{program as placed_program};
+ghost use Rattle.es3_labels.specs.Misplaced.{first_of};
 ghost use Rattle.page_manifest.specs.Page.{cajita, es3, Page as Manifested};
 ghost use Rattle.page_manifest.specs.View.{grants as grants_told, page as page_of, module_spec as module_of};
 ghost use Rattle.page_cajole.specs.Pages.{granted_names, module_outcome, numbered, page_outcome, source_outcome, IsCajoledPage};
 ghost use Rattle.page_cajole.specs.PageAnswers.{Tells, runnable};
+ghost use Rattle.page_cajole.specs.declared.CajoledModule.{CajoledModule};
 
 use crate::text::{TextAnswer, read_text};
 use crate::{Answer, CajoledModule, cajole};
@@ -139,7 +142,14 @@ pub fn cajole_all(alloc: Global, page: &Page) -> Result<Vec<CajoledModule>, Cajo
 }
 
 /// What `cajole_all` promises of each page: what runs for it is what runs for each of its modules, by that module's own language, source and granted names alone; and
-/// it is refused just where a module is, with the first one that is.
+/// it is refused just where a module is, with the first one that is; and each jump of what runs has its target.
 pub fn a_page_is_what_its_modules_are()
     ensures { (p : Manifested) → IsCajoledPage p }
+{}
+
+/// So `labels` of es3_labels answers `None` on the program of each module that `cajole_all` gives for a page.
+#[tactic(auto, using(crate::proofs::Runs::none_found))]
+pub fn no_jump_of_what_runs_is_misplaced()
+    ensures { (p : Manifested) (list : List CajoledModule) → page_outcome p ≡ Ok (map runnable list)
+        → All (λ m. first_of (placed_program m.program) ≡ None) list }
 {}
