@@ -237,6 +237,8 @@ impl Runner {
         requires holds { Holds self.old }
         requires fit { All (DeedFits self.old.modules) deeds.items }
         ensures came { From self.old (λ r x z n. Came result (page (evaluator self.old.modules) (deeds_of deeds.items) n r x z) self.new) }
+        ensures modules { self.new.modules ≡ self.old.modules }
+        ensures holds { Holds self.new }
     {
         for deed in deeds {
             self.run_deed(deed)?;

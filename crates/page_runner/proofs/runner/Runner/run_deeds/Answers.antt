@@ -42,7 +42,11 @@ returns-in_err-run_deed c =
     let reached = subst (λ (l : List Deed). ReachedFrom p q ds (deeds_of l)) steps c.loop-deed.invariant.came in
     let goes = subst (λ m. From q (λ r x z n. IsCut e (kept_of q1.natives) (deed_of_page (evaluator m) (deed_of d) n r x z))) c.loop-deed.invariant.modules c.in_err-run_deed.ensures.came in
     let failed : c.from_residual.result ≡ Err e = search rules in
-    record { came = cut_there p q q1 ds (deed_of d) (deeds_of rest) e c.from_residual.result failed reached goes }
+    record {
+      came = cut_there p q q1 ds (deed_of d) (deeds_of rest) e c.from_residual.result failed reached goes;
+      modules = c.in_err-run_deed.ensures.modules ∙ c.loop-deed.invariant.modules;
+      holds = c.in_err-run_deed.ensures.holds;
+    }
 
 pub returns : goal.returns
 returns c =
@@ -50,4 +54,8 @@ returns c =
     let q = c.loop-deed.self in
     let ds = deeds_of c.args.deeds.items in
     let none : into_iter_items c.loop-deed.deed-iterator ≡ [] = nil_from_length (into_iter_items c.loop-deed.deed-iterator) (sym c.loop-deed.deed-iterator.rest.ok.0 ∙ c.in-None.ensures.steps.0) in
-    record { came = at_last p q ds (subst (λ (l : List Deed). ReachedFrom p q ds (deeds_of l)) none c.loop-deed.invariant.came) }
+    record {
+      came = at_last p q ds (subst (λ (l : List Deed). ReachedFrom p q ds (deeds_of l)) none c.loop-deed.invariant.came);
+      modules = c.loop-deed.invariant.modules;
+      holds = c.loop-deed.invariant.holds;
+    }
