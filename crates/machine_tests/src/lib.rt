@@ -3,7 +3,7 @@
 #![tactic(auto)]
 
 #[cfg(test)]
-mod comparison_rows;
+mod answers;
 #[cfg(test)]
 mod control_rows;
 #[cfg(test)]
@@ -11,18 +11,14 @@ mod convert_rows;
 #[cfg(test)]
 mod guard_rows;
 #[cfg(test)]
-mod lists;
-#[cfg(test)]
 mod loader_rows;
 #[cfg(test)]
 mod machine_rows;
 #[cfg(test)]
 mod object_rows;
 #[cfg(test)]
-mod read_rows;
-#[cfg(test)]
 mod runner_rows;
 #[cfg(test)]
 mod samples;
 #[cfg(test)]
-mod write_rows;
+mod sources;

@@ -1,42 +1,191 @@
-//! A store and what its objects have.
+//! Stores and what their objects have. Objects are named by their numbers: those that are made in a new store begin at 10.
 
+use crate::answers::write_keys;
 use caja_num::Whole;
 use caja_units::{Memory, Units};
 use es3_heap::{Attrs, Class, FuncKind, Heap, ObjId, Proto, Tag, Value};
+use module_loader::open_page;
 use std::alloc::Global;
 use std::test::Fail;
 
-/// Two objects of a store, of which the second has the first as its prototype, or an array twice.
-type Pair = (ObjId, ObjId);
+/// The number of an object, the name of a property, and what is done with it; where no property is meant, none is named.
+type Row = (u32, &'static str, Act);
 
-/// Whether a row is about the second object of its pair, the name of a property, and what is done with it.
-type Row = (bool, &'static str, Act);
+/// The first object that is made, and the second, which has the first as its prototype.
+const ABOVE: u32 = 10;
 
-const ABOVE: bool = false;
+const BELOW: u32 = 11;
 
-const BELOW: bool = true;
-
-/// What is done with a property of an object, and what has to come of it.
+/// What is done with an object or a property of it, and what has to come of it.
 enum Act {
+    /// It is made, with this prototype.
+    Make(Class, Option<u32>),
+    /// It is made, an array of two numbers.
+    MakeArray(i64, i64),
+    /// It is made, a function of a module.
+    MakeFunction(FuncKind, u32),
+    /// It is made, an error without a place.
+    MakeError,
     /// A number is written, and it is taken or not.
     Put(i64, bool),
     /// It is defined.
     Define(i64, Attrs),
+    /// It is deleted, if it may be.
+    Delete(bool),
+    /// It is named.
+    SetTag(Tag),
+    /// It is given the next name of a module.
+    NameNext(u32),
     /// It is read, from the object or those above it.
     Get(Option<i64>),
+    /// It is the text.
+    GetText(&'static str),
     /// It is read from the object itself.
     Own(Option<i64>),
     /// Its attributes are read from the object itself.
     Is(Attrs),
-    /// It is looked for.
+    /// It is looked for, in the object or those above it.
     Has(bool),
-    /// It is deleted, if it may be.
-    Delete(bool),
-    /// The keys of the object and of those above it are visited; a space stands behind each. No property is named.
+    /// It is looked for in the object itself.
+    HasOwn(bool),
+    /// The keys of the object and of those above it are visited.
     Keys(&'static str),
     /// Its own keys are.
     OwnKeys(&'static str),
+    HasClass(Class),
+    HasTag(Tag),
+    HasKind(Option<FuncKind>),
+    HasMaker(Option<u32>),
+    HasPrototype(Option<u32>),
+    /// So many objects are in the store.
+    Count(usize),
 }
+
+const HIDDEN: &[Row] = &[
+    (ABOVE, "", Act::Make(Class::Object, Some(0))),
+    (BELOW, "", Act::Make(Class::Object, Some(ABOVE))),
+    (ABOVE, "x", Act::Put(1, true)),
+    (BELOW, "x", Act::Get(Some(1))),
+    (BELOW, "x", Act::Own(None)),
+    (BELOW, "x", Act::Has(true)),
+    (BELOW, "x", Act::Put(2, true)),
+    (BELOW, "x", Act::Own(Some(2))),
+    (ABOVE, "x", Act::Get(Some(1))),
+];
+
+const READ_ONLY: &[Row] = &[
+    (ABOVE, "", Act::Make(Class::Object, None)),
+    (BELOW, "", Act::Make(Class::Object, Some(ABOVE))),
+    (ABOVE, "x", Act::Define(1, Attrs::FIXED)),
+    (BELOW, "x", Act::Put(2, false)),
+    (BELOW, "x", Act::Own(None)),
+];
+
+/// The objects of a module are numbered, and one that has a name takes no other.
+const NAMED: &[Row] = &[
+    (10, "", Act::Make(Class::Object, None)),
+    (11, "", Act::Make(Class::Object, None)),
+    (10, "", Act::NameNext(3)),
+    (11, "", Act::NameNext(3)),
+    (10, "", Act::HasTag(Tag::Made(3, 0))),
+    (11, "", Act::HasTag(Tag::Made(3, 1))),
+    (12, "", Act::Make(Class::Object, None)),
+    (12, "", Act::SetTag(Tag::Built(7))),
+    (12, "", Act::HasTag(Tag::Built(7))),
+    (12, "", Act::SetTag(Tag::Built(8))),
+    (12, "", Act::HasTag(Tag::Built(7))),
+    (12, "", Act::NameNext(3)),
+    (12, "", Act::HasTag(Tag::Built(7))),
+    (13, "", Act::Make(Class::Object, None)),
+    (13, "", Act::NameNext(3)),
+    (13, "", Act::HasTag(Tag::Made(3, 2))),
+];
+
+/// An array is longer than its indices.
+const LONGER: &[Row] = &[
+    (10, "", Act::MakeArray(10, 20)),
+    (10, "length", Act::Get(Some(2))),
+    (10, "5", Act::Put(30, true)),
+    (10, "length", Act::Get(Some(6))),
+];
+
+/// A function and an error are told from objects.
+const TOLD_APART: &[Row] = &[
+    (10, "", Act::MakeFunction(FuncKind::Code(4), 3)),
+    (10, "", Act::HasKind(Some(FuncKind::Code(4)))),
+    (10, "", Act::HasMaker(Some(3))),
+    (11, "", Act::MakeError),
+    (11, "", Act::HasPrototype(Some(8))),
+    (11, "", Act::HasClass(Class::Error)),
+    (11, "name", Act::GetText("RangeError")),
+    (11, "", Act::Count(12)),
+];
+
+/// A deleted property lets that of the prototype be seen.
+const DELETED: &[Row] = &[
+    (ABOVE, "", Act::Make(Class::Object, None)),
+    (BELOW, "", Act::Make(Class::Object, Some(ABOVE))),
+    (BELOW, "", Act::HasPrototype(Some(ABOVE))),
+    (BELOW, "", Act::HasMaker(None)),
+    (ABOVE, "", Act::HasPrototype(None)),
+    (ABOVE, "x", Act::Put(1, true)),
+    (BELOW, "x", Act::Put(2, true)),
+    (BELOW, "x", Act::Delete(true)),
+    (BELOW, "x", Act::Get(Some(1))),
+    (BELOW, "x", Act::Delete(true)),
+    (BELOW, "", Act::Keys("{x}")),
+    (BELOW, "", Act::OwnKeys("{}")),
+    (ABOVE, "", Act::OwnKeys("{x}")),
+];
+
+const KEPT: &[Row] = &[
+    (10, "", Act::Make(Class::Object, None)),
+    (10, "x", Act::Define(1, Attrs::KEPT)),
+    (10, "x", Act::Delete(false)),
+    (10, "x", Act::Get(Some(1))),
+];
+
+/// Keys are visited once, from the object upwards.
+const VISITED: &[Row] = &[
+    (ABOVE, "", Act::Make(Class::Object, None)),
+    (BELOW, "", Act::Make(Class::Object, Some(ABOVE))),
+    (ABOVE, "a", Act::Put(1, true)),
+    (ABOVE, "b", Act::Put(1, true)),
+    (ABOVE, "c", Act::Put(1, true)),
+    (ABOVE, "1", Act::Put(1, true)),
+    (BELOW, "c", Act::Define(2, Attrs::HIDDEN)),
+    (BELOW, "z", Act::Put(2, true)),
+    (BELOW, "b", Act::Put(2, true)),
+    (BELOW, "", Act::Keys("{z b a 1}")),
+    (BELOW, "", Act::OwnKeys("{c z b}")),
+];
+
+/// The length of an array is fixed.
+const LENGTHS: &[Row] = &[
+    (10, "", Act::Make(Class::Array, Some(2))),
+    (10, "length", Act::Get(Some(0))),
+    (10, "length", Act::Put(5, false)),
+    (10, "length", Act::Delete(false)),
+    (10, "2", Act::Put(5, true)),
+    (10, "length", Act::Is(Attrs::FIXED)),
+    (10, "length", Act::Get(Some(3))),
+    (10, "2", Act::Delete(true)),
+    (10, "length", Act::Get(Some(3))),
+    (10, "", Act::Keys("{}")),
+];
+
+/// Of a page of one module: `charAt` is the function of number 23, and the record `cajita` is frozen.
+const OPENED: &[Row] = &[
+    (53, "", Act::HasClass(Class::Function)),
+    (53, "", Act::HasTag(Tag::Built(23))),
+    (30, "", Act::HasTag(Tag::Built(0))),
+    (30, "FROZEN___", Act::HasOwn(true)),
+];
+
+/// What is done in new stores, each table in its own.
+static TABLES: [&[Row]; 9] = [
+    HIDDEN, READ_ONLY, NAMED, LONGER, TOLD_APART, DELETED, KEPT, VISITED, LENGTHS,
+];
 
 fn number(v: i64) -> Value {
     Whole::new(v).map_or(Value::Null, Value::Num)
@@ -49,281 +198,106 @@ fn in_number(v: &Value) -> Option<i64> {
     }
 }
 
-fn is_text(v: &Value, text: &Units) -> bool {
-    match v {
-        Value::Text(units) => units.same(text),
-        _ => false,
-    }
+/// The number of the object that is made, where one is.
+fn made(alloc: Global, heap: &mut Heap, act: &Act) -> Result<Option<ObjId>, Memory> {
+    Ok(Some(match act {
+        Act::Make(class, above) => heap.make(*class, above.map(ObjId::new))?,
+        Act::MakeArray(one, other) => {
+            heap.make_array(Vec::from_array(alloc, [number(*one), number(*other)])?)?
+        }
+        Act::MakeFunction(kind, module) => heap.make_func(*kind, *module)?,
+        Act::MakeError => {
+            let name = Units::from_ascii(alloc, b"RangeError")?;
+            heap.make_error(Proto::RangeError, name, Units::from_ascii(alloc, b"far")?)?
+        }
+        _ => return Ok(None),
+    }))
 }
 
-fn own_number(heap: &Heap, on: ObjId, key: &Units) -> Option<i64> {
-    match heap.own(on, key) {
-        Some((v, _)) => in_number(v),
-        None => None,
-    }
-}
-
-fn own_attrs(heap: &Heap, on: ObjId, key: &Units) -> Option<Attrs> {
-    match heap.own(on, key) {
-        Some((_, attrs)) => Some(attrs),
-        None => None,
-    }
-}
-
-/// Whether the keys are those of a text, in its order.
-fn are_keys(alloc: Global, keys: &[Units], expected: &str) -> Result<bool, Memory> {
-    let mut text = Vec::new(alloc);
-    for key in keys {
-        key.push_utf8(&mut text)?;
-        text.push(b' ')?;
-    }
-    Ok(text.as_slice() == expected.as_bytes())
-}
-
-/// Whether what is done with a property has its outcome.
-fn acts(heap: &mut Heap, on: ObjId, key: &Units, act: &Act) -> Result<bool, Memory> {
-    Ok(match act {
+/// Whether what is done has its outcome, where something is.
+fn changes(heap: &mut Heap, on: ObjId, key: &Units, act: &Act) -> Result<Option<bool>, Memory> {
+    Ok(Some(match act {
         Act::Put(v, taken) => heap.put(on, key, number(*v))? == *taken,
         Act::Define(v, attrs) => {
             heap.define(on, key, number(*v), *attrs)?;
             true
         }
         Act::Delete(gone) => heap.delete(on, key) == *gone,
-        _ => false,
+        Act::SetTag(tag) => {
+            heap.set_tag(on, *tag);
+            true
+        }
+        Act::NameNext(module) => {
+            heap.name_next(on, *module);
+            true
+        }
+        _ => return Ok(None),
+    }))
+}
+
+/// Whether the keys are those of a text, in its order.
+fn are_keys(alloc: Global, keys: &[Units], wanted: &str) -> Result<bool, Fail> {
+    let mut found = String::new(alloc);
+    write_keys(&mut found, keys)?;
+    Ok(found.as_str() == wanted)
+}
+
+/// Whether a property is what is wanted.
+fn reads(alloc: Global, heap: &Heap, on: ObjId, key: &Units, act: &Act) -> Result<bool, Fail> {
+    Ok(match (act, heap.own(on, key)) {
+        (Act::Get(v), _) => in_number(heap.get(on, key)) == *v,
+        (Act::GetText(text), _) => match heap.get(on, key) {
+            Value::Text(units) => units.same(&Units::from_ascii(alloc, text.as_bytes())?),
+            _ => false,
+        },
+        (Act::Own(v), Some((found, _))) => in_number(found) == *v,
+        (Act::Own(v), None) => v.is_none(),
+        (Act::Is(attrs), Some((_, found))) => found == *attrs,
+        (Act::Has(has), _) => heap.has(on, key) == *has,
+        (Act::HasOwn(has), own) => own.is_some() == *has,
+        _ => is(alloc, heap, on, act)?,
     })
 }
 
-/// Whether what is read of an object is what is wanted.
-fn reads(alloc: Global, heap: &Heap, on: ObjId, key: &Units, act: &Act) -> Result<bool, Memory> {
+/// Whether the object is what is wanted.
+fn is(alloc: Global, heap: &Heap, on: ObjId, act: &Act) -> Result<bool, Fail> {
     Ok(match act {
-        Act::Get(v) => in_number(heap.get(on, key)) == *v,
-        Act::Own(v) => own_number(heap, on, key) == *v,
-        Act::Is(attrs) => own_attrs(heap, on, key) == Some(*attrs),
-        Act::Has(has) => heap.has(on, key) == *has,
         Act::Keys(keys) => are_keys(alloc, &heap.keys(on)?, keys)?,
         Act::OwnKeys(keys) => are_keys(alloc, &heap.own_keys(on)?, keys)?,
+        Act::HasClass(class) => heap.class(on) == *class,
+        Act::HasTag(tag) => heap.tag(on) == *tag,
+        Act::HasKind(kind) => heap.kind(on) == *kind,
+        Act::HasMaker(module) => heap.maker(on) == *module,
+        Act::HasPrototype(above) => heap.proto_of(on) == above.map(ObjId::new),
+        Act::Count(count) => heap.len() == *count,
         _ => false,
     })
 }
 
-fn holds(alloc: Global, heap: &mut Heap, pair: Pair, row: &Row) -> Result<bool, Memory> {
-    let (below, key, act) = row;
-    let on = if *below { pair.1 } else { pair.0 };
+fn holds(alloc: Global, heap: &mut Heap, row: &Row) -> Result<bool, Fail> {
+    let (number, key, act) = row;
+    let on = ObjId::new(*number);
     let key = Units::from_ascii(alloc, key.as_bytes())?;
-    match act {
-        Act::Put(_, _) | Act::Define(_, _) | Act::Delete(_) => acts(heap, on, &key, act),
-        _ => reads(alloc, heap, on, &key, act),
+    if let Some(object) = made(alloc, heap, act)? {
+        return Ok(object == on);
+    }
+    match changes(heap, on, &key, act)? {
+        Some(holds) => Ok(holds),
+        None => reads(alloc, heap, on, &key, act),
     }
 }
 
-/// The first row whose outcome is another one is the failure, told by its property.
-fn check_rows(alloc: Global, mut heap: Heap, pair: Pair, rows: &[Row]) -> Result<(), Fail> {
-    for row in rows {
-        if !holds(alloc, &mut heap, pair, row)? {
-            return Err(row.1.into());
+#[test]
+fn objects_have_what_was_put_there(rt: HostRuntime) -> Result<(), Fail> {
+    for (table, rows) in TABLES.iter().enumerate() {
+        let mut heap = Heap::new(rt.alloc())?;
+        for (place, row) in rows.iter().enumerate() {
+            assert!(rt; holds(rt.alloc(), &mut heap, row)?, "{table} {place}");
         }
     }
+    let mut heap = open_page(rt.alloc(), 1, 0)?.heap;
+    for row in OPENED.iter() {
+        assert!(rt; holds(rt.alloc(), &mut heap, row)?, "{} {}", row.0, row.1);
+    }
     Ok(())
-}
-
-/// An object with this prototype, and one that has the object as its own.
-fn pair(heap: &mut Heap, root: Option<ObjId>) -> Result<Pair, Memory> {
-    let above = heap.make(Class::Object, root)?;
-    let below = heap.make(Class::Object, Some(above))?;
-    Ok((above, below))
-}
-
-/// Checks the rows on a pair whose first object has no prototype.
-fn check_pair(alloc: Global, rows: &[Row]) -> Result<(), Fail> {
-    let mut heap = Heap::new(alloc)?;
-    let pair = pair(&mut heap, None)?;
-    check_rows(alloc, heap, pair, rows)
-}
-
-static HIDDEN: [Row; 7] = [
-    (ABOVE, "x", Act::Put(1, true)),
-    (BELOW, "x", Act::Get(Some(1))),
-    (BELOW, "x", Act::Own(None)),
-    (BELOW, "x", Act::Has(true)),
-    (BELOW, "x", Act::Put(2, true)),
-    (BELOW, "x", Act::Own(Some(2))),
-    (ABOVE, "x", Act::Get(Some(1))),
-];
-
-#[test]
-fn a_write_hides_the_property_of_the_prototype(rt: HostRuntime) -> Result<(), Fail> {
-    let mut heap = Heap::new(rt.alloc())?;
-    let root = heap.proto(Proto::Object);
-    let pair = pair(&mut heap, Some(root))?;
-    check_rows(rt.alloc(), heap, pair, &HIDDEN)
-}
-
-static READ_ONLY: [Row; 3] = [
-    (ABOVE, "x", Act::Define(1, Attrs::FIXED)),
-    (BELOW, "x", Act::Put(2, false)),
-    (BELOW, "x", Act::Own(None)),
-];
-
-#[test]
-fn a_property_above_that_is_read_only_is_not_hidden(rt: HostRuntime) -> Result<(), Fail> {
-    check_pair(rt.alloc(), &READ_ONLY)
-}
-
-/// Two objects are made, and then named.
-fn are_numbered(heap: &mut Heap) -> Result<bool, Memory> {
-    let first = heap.make(Class::Object, None)?;
-    let second = heap.make(Class::Object, None)?;
-    heap.name_next(first, 3);
-    heap.name_next(second, 3);
-    Ok(heap.tag(first) == Tag::Made(3, 0) && heap.tag(second) == Tag::Made(3, 1))
-}
-
-/// An object that has a name takes no other.
-fn keeps_its_name(heap: &mut Heap) -> Result<bool, Memory> {
-    let object = heap.make(Class::Object, None)?;
-    heap.set_tag(object, Tag::Built(7));
-    let named = heap.tag(object) == Tag::Built(7);
-    heap.set_tag(object, Tag::Built(8));
-    heap.name_next(object, 3);
-    Ok(named && heap.tag(object) == Tag::Built(7))
-}
-
-fn is_numbered_next(heap: &mut Heap) -> Result<bool, Memory> {
-    let object = heap.make(Class::Object, None)?;
-    heap.name_next(object, 3);
-    Ok(heap.tag(object) == Tag::Made(3, 2))
-}
-
-#[test]
-fn objects_of_a_module_are_numbered(rt: HostRuntime) -> Result<(), Fail> {
-    let mut heap = Heap::new(rt.alloc())?;
-    assert!(rt; are_numbered(&mut heap)?);
-    assert!(rt; keeps_its_name(&mut heap)?);
-    assert!(rt; is_numbered_next(&mut heap)?);
-    Ok(())
-}
-
-#[test]
-fn a_text_is_copied(rt: HostRuntime) -> Result<(), Fail> {
-    let a = Units::from_ascii(rt.alloc(), b"a")?;
-    let text = Value::Text(Units::from_ascii(rt.alloc(), b"a")?);
-    assert!(rt; is_text(&text.copy(rt.alloc())?, &a));
-    Ok(())
-}
-
-static LONGER: [Row; 3] = [
-    (ABOVE, "length", Act::Get(Some(2))),
-    (ABOVE, "5", Act::Put(30, true)),
-    (ABOVE, "length", Act::Get(Some(6))),
-];
-
-#[test]
-fn an_array_is_longer_than_its_indices(rt: HostRuntime) -> Result<(), Fail> {
-    let mut items = Vec::new(rt.alloc());
-    items.push(number(10))?;
-    items.push(number(20))?;
-    let mut heap = Heap::new(rt.alloc())?;
-    let array = heap.make_array(items)?;
-    check_rows(rt.alloc(), heap, (array, array), &LONGER)
-}
-
-fn is_function(heap: &mut Heap) -> Result<bool, Memory> {
-    let function = heap.make_func(FuncKind::Code(4), 3)?;
-    Ok(heap.kind(function) == Some(FuncKind::Code(4)) && heap.maker(function) == Some(3))
-}
-
-fn is_error(alloc: Global, heap: &mut Heap) -> Result<bool, Memory> {
-    let message = Units::from_ascii(alloc, b"no such name")?;
-    let name = Units::from_ascii(alloc, b"RangeError")?;
-    let error = heap.make_error(Proto::RangeError, name, message)?;
-    let above = heap.proto_of(error) == Some(heap.proto(Proto::RangeError));
-    Ok(above && heap.class(error) == Class::Error && has_name(alloc, heap, error)?)
-}
-
-fn has_name(alloc: Global, heap: &Heap, error: ObjId) -> Result<bool, Memory> {
-    let key = Units::from_ascii(alloc, b"name")?;
-    let name = Units::from_ascii(alloc, b"RangeError")?;
-    Ok(is_text(heap.get(error, &key), &name))
-}
-
-#[test]
-fn a_function_and_an_error_are_told_from_objects(rt: HostRuntime) -> Result<(), Fail> {
-    let mut heap = Heap::new(rt.alloc())?;
-    assert!(rt; is_function(&mut heap)?);
-    assert!(rt; is_error(rt.alloc(), &mut heap)?);
-    assert_eq!(rt; heap.len(), 12);
-    Ok(())
-}
-
-static DELETED: [Row; 8] = [
-    (ABOVE, "x", Act::Put(1, true)),
-    (BELOW, "x", Act::Put(2, true)),
-    (BELOW, "x", Act::Delete(true)),
-    (BELOW, "x", Act::Get(Some(1))),
-    (BELOW, "x", Act::Delete(true)),
-    (BELOW, "", Act::Keys("x ")),
-    (BELOW, "", Act::OwnKeys("")),
-    (ABOVE, "", Act::OwnKeys("x ")),
-];
-
-/// Whether the second object of a pair, which is no function, has the first as its prototype, and that has none.
-fn is_pair(alloc: Global) -> Result<bool, Memory> {
-    let mut heap = Heap::new(alloc)?;
-    let (above, below) = pair(&mut heap, None)?;
-    let is_below = heap.proto_of(below) == Some(above) && heap.maker(below).is_none();
-    Ok(is_below && heap.proto_of(above).is_none())
-}
-
-#[test]
-fn a_deleted_property_lets_the_prototype_be_seen(rt: HostRuntime) -> Result<(), Fail> {
-    assert!(rt; is_pair(rt.alloc())?);
-    check_pair(rt.alloc(), &DELETED)
-}
-
-static KEPT: [Row; 3] = [
-    (ABOVE, "x", Act::Define(1, Attrs::KEPT)),
-    (ABOVE, "x", Act::Delete(false)),
-    (ABOVE, "x", Act::Get(Some(1))),
-];
-
-#[test]
-fn a_property_that_is_kept_is_not_deleted(rt: HostRuntime) -> Result<(), Fail> {
-    check_pair(rt.alloc(), &KEPT)
-}
-
-static VISITED: [Row; 9] = [
-    (ABOVE, "a", Act::Put(1, true)),
-    (ABOVE, "b", Act::Put(1, true)),
-    (ABOVE, "c", Act::Put(1, true)),
-    (ABOVE, "1", Act::Put(1, true)),
-    (BELOW, "c", Act::Define(2, Attrs::HIDDEN)),
-    (BELOW, "z", Act::Put(2, true)),
-    (BELOW, "b", Act::Put(2, true)),
-    (BELOW, "", Act::Keys("z b a 1 ")),
-    (BELOW, "", Act::OwnKeys("c z b ")),
-];
-
-#[test]
-fn keys_are_visited_once_from_the_object_upwards(rt: HostRuntime) -> Result<(), Fail> {
-    check_pair(rt.alloc(), &VISITED)
-}
-
-static LENGTHS: [Row; 9] = [
-    (ABOVE, "length", Act::Get(Some(0))),
-    (ABOVE, "length", Act::Put(5, false)),
-    (ABOVE, "length", Act::Delete(false)),
-    (ABOVE, "2", Act::Put(5, true)),
-    (ABOVE, "length", Act::Is(Attrs::FIXED)),
-    (ABOVE, "length", Act::Get(Some(3))),
-    (ABOVE, "2", Act::Delete(true)),
-    (ABOVE, "length", Act::Get(Some(3))),
-    (ABOVE, "", Act::Keys("")),
-];
-
-#[test]
-fn the_length_of_an_array_is_fixed(rt: HostRuntime) -> Result<(), Fail> {
-    let mut heap = Heap::new(rt.alloc())?;
-    let above = heap.proto(Proto::Array);
-    let array = heap.make(Class::Array, Some(above))?;
-    check_rows(rt.alloc(), heap, (array, array), &LENGTHS)
 }

@@ -1,113 +1,106 @@
-//! Values as the tables write them: `undefined`, `null`, `true`, `false`, a number, a text between apostrophes, items between
-//! brackets with a comma between two, `{}` for an empty object, and `function`. Each object is a new one.
+//! Values as the tables write them: `undefined`, `null`, `true`, `false`, a number, a text between apostrophes, values between
+//! brackets with a comma between two, names between braces for an object that has these properties, `function`, `simple`,
+//! `constructor` and `exophoric` for a function by its kind, `error`, `converting` for an object with a conversion of its own,
+//! `deep 33` for arrays in one another, and `it` for the value that the rows of a table share. Each object but that is a new one.
 
-use crate::lists::alone;
 use caja_num::Whole;
 use caja_units::{Memory, Units};
-use es3_convert::out_of_memory;
-use es3_heap::{Class, FuncKind, Heap, ObjId, Proto, Stop, Value};
+use es3_heap::{Class, FuncKind, Heap, ObjId, Proto, Receiver, Value};
 use std::alloc::Global;
+use std::test::Fail;
 
 /// The text between a first and a last character, if those are there.
-pub fn between(sample: &str, first: char, last: char) -> Option<&str> {
+fn between(sample: &str, first: char, last: char) -> Option<&str> {
     sample.strip_prefix(first)?.strip_suffix(last)
 }
 
-/// The value of a text, which is short.
-pub fn text_value(alloc: Global, text: &str) -> Result<Value, Stop> {
-    let bytes = text.as_bytes();
-    if bytes.len() > 100 {
-        return Err(Stop::Memory);
-    }
-    match Units::from_utf8(alloc, bytes) {
-        Ok(units) => Ok(Value::Text(units)),
-        Err(_fault) => Err(Stop::Memory),
-    }
+/// The text of a sample or of a part of one.
+fn text(alloc: Global, part: &str) -> Result<Units, Fail> {
+    u32::try_from(part.len())?;
+    Ok(Units::from_utf8(alloc, part.as_bytes())?)
 }
 
-/// A number, or a text between apostrophes.
-fn written(alloc: Global, sample: &str) -> Result<Value, Stop> {
-    if let Some(text) = between(sample, '\'', '\'') {
-        return text_value(alloc, text);
+/// A value that makes no object.
+fn plain(alloc: Global, it: &Value, sample: &str) -> Result<Value, Fail> {
+    if let Some(part) = between(sample, '\'', '\'') {
+        return Ok(Value::Text(text(alloc, part)?));
     }
-    match sample.parse::<i64>() {
-        Ok(n) => Ok(Whole::new(n).map_or(Value::Undefined, Value::Num)),
-        Err(_fault) => Err(Stop::Convert),
-    }
+    Ok(match sample {
+        "undefined" => Value::Undefined,
+        "null" => Value::Null,
+        "true" => Value::Bool(true),
+        "false" => Value::Bool(false),
+        "it" => it.copy(alloc)?,
+        _ => Value::Num(Whole::new(sample.parse::<i64>()?).ok_or("out of range")?),
+    })
 }
 
-fn primitive(alloc: Global, sample: &str) -> Result<Value, Stop> {
-    match sample {
-        "undefined" => Ok(Value::Undefined),
-        "null" => Ok(Value::Null),
-        "true" => Ok(Value::Bool(true)),
-        "false" => Ok(Value::Bool(false)),
-        _ => written(alloc, sample),
-    }
-}
-
-fn array(alloc: Global, heap: &mut Heap, items: &str) -> Result<Value, Stop> {
+/// An array of values that make no object.
+fn array(alloc: Global, heap: &mut Heap, it: &Value, items: &str) -> Result<ObjId, Fail> {
     let mut values = Vec::new(alloc);
     if !items.is_empty() {
         for item in items.split(',') {
-            let value = primitive(alloc, item)?;
-            values.push(value).map_err(|_| Stop::Memory)?;
+            values.push(plain(alloc, it, item)?)?;
         }
     }
-    let array = heap.make_array(values).map_err(out_of_memory)?;
-    Ok(Value::Obj(array))
-}
-
-/// The value that a sample stands for; where it stands for none, the run stops for want of a conversion.
-pub fn made(alloc: Global, heap: &mut Heap, sample: &str) -> Result<Value, Stop> {
-    if sample == "{}" {
-        let above = heap.proto(Proto::Object);
-        let object = heap.make(Class::Object, Some(above));
-        return object.map(Value::Obj).map_err(out_of_memory);
-    }
-    if sample == "function" {
-        let function = heap.make_func(FuncKind::Code(0), 0);
-        return function.map(Value::Obj).map_err(out_of_memory);
-    }
-    match between(sample, '[', ']') {
-        Some(items) => array(alloc, heap, items),
-        None => primitive(alloc, sample),
-    }
-}
-
-/// An array whose items are null, the value and undefined.
-fn around(alloc: Global, heap: &mut Heap, value: Value) -> Result<Value, Memory> {
-    let mut items = alone(alloc, Value::Null)?;
-    items.push(value)?;
-    items.push(Value::Undefined)?;
-    Ok(Value::Obj(heap.make_array(items)?))
+    Ok(heap.make_array(values)?)
 }
 
 /// Arrays in one another, each between null and undefined, so many that the innermost, which is empty, is `deep` arrays deep.
-pub fn nested(alloc: Global, heap: &mut Heap, deep: usize) -> Result<Value, Stop> {
-    let mut value = made(alloc, heap, "[]")?;
+fn nested(alloc: Global, heap: &mut Heap, deep: usize) -> Result<ObjId, Fail> {
+    let mut inner = heap.make_array(Vec::new(alloc))?;
     for _around in 1..deep {
-        value = around(alloc, heap, value).map_err(out_of_memory)?;
+        let items = [Value::Null, Value::Obj(inner), Value::Undefined];
+        inner = heap.make_array(Vec::from_array(alloc, items)?)?;
     }
-    Ok(value)
+    Ok(inner)
 }
 
-/// Gives the object a conversion of its own.
-pub fn put_conversion(alloc: Global, heap: &mut Heap, object: &Value) -> Result<bool, Stop> {
-    let key = Units::from_ascii(alloc, b"toString").map_err(out_of_memory)?;
-    match object {
-        Value::Obj(o) => heap.put(*o, &key, Value::Undefined).map_err(out_of_memory),
-        _ => Ok(false),
+/// An object with these properties, each of them true.
+fn record(alloc: Global, heap: &mut Heap, names: &str) -> Result<ObjId, Fail> {
+    let above = heap.proto(Proto::Object);
+    let record = heap.make(Class::Object, Some(above))?;
+    if !names.is_empty() {
+        for name in names.split(',') {
+            heap.put(record, &text(alloc, name)?, Value::Bool(true))?;
+        }
     }
+    Ok(record)
 }
 
-/// The own keys of an object, each with a space behind it.
-pub fn own_keys(alloc: Global, heap: &Heap, o: ObjId) -> Result<Units, Stop> {
-    let mut all = Units::from_ascii(alloc, b"").map_err(out_of_memory)?;
-    let space = Units::from_ascii(alloc, b" ").map_err(out_of_memory)?;
-    for key in heap.own_keys(o).map_err(out_of_memory)? {
-        let longer = all.join(alloc, &key).map_err(out_of_memory)?;
-        all = longer.join(alloc, &space).map_err(out_of_memory)?;
+/// A function, or an error.
+fn named(alloc: Global, heap: &mut Heap, sample: &str) -> Result<Option<ObjId>, Memory> {
+    let kind = match sample {
+        "function" => FuncKind::Code(0),
+        "simple" => FuncKind::Simple(9),
+        "constructor" => FuncKind::Constructor(18),
+        "exophoric" => FuncKind::Exophoric(34, Receiver::OpenArray),
+        "error" => {
+            let name = Units::from_ascii(alloc, b"RangeError")?;
+            let message = Units::from_ascii(alloc, b"far")?;
+            return Ok(Some(heap.make_error(Proto::RangeError, name, message)?));
+        }
+        _ => return Ok(None),
+    };
+    Ok(Some(heap.make_func(kind, 0)?))
+}
+
+/// The value that a sample stands for.
+pub fn made(alloc: Global, heap: &mut Heap, it: &Value, sample: &str) -> Result<Value, Fail> {
+    if let Some(items) = between(sample, '[', ']') {
+        return Ok(Value::Obj(array(alloc, heap, it, items)?));
     }
-    Ok(all)
+    if let Some(names) = between(sample, '{', '}') {
+        return Ok(Value::Obj(record(alloc, heap, names)?));
+    }
+    if sample == "converting" {
+        return Ok(Value::Obj(record(alloc, heap, "toString")?));
+    }
+    if let Some(deep) = sample.strip_prefix("deep ") {
+        return Ok(Value::Obj(nested(alloc, heap, deep.parse::<usize>()?)?));
+    }
+    match named(alloc, heap, sample)? {
+        Some(object) => Ok(Value::Obj(object)),
+        None => plain(alloc, it, sample),
+    }
 }
