@@ -1,0 +1,5 @@
+mod Oks
+mod KeptSoFar
+mod Rows
+mod Nodes
+mod Attrs

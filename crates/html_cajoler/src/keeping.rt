@@ -1,0 +1,199 @@
+//! What is kept of a document.
+
+ghost use Rattle.std.specs.Prelude.{◌≡◌, ◌++◌, [], ◌∷◌, drop, IfOk, OnOk};
+ghost use Rattle.html_grammar.specs.Tags as tags;
+ghost use Rattle.html_grammar.specs.Trees.{Tree, many, one, none, more, element};
+ghost use Rattle.html_tree.specs.Views.{tree, trees, attr_of, attrs_of};
+ghost use Rattle.html_kept.specs.Table.{no_urls};
+ghost use Rattle.html_kept.specs.Kept.{kept as kept_tree, kept_attrs, with_value, joined, cleaned};
+ghost use Rattle.html_cajoler.specs.Views.{whole};
+
+use crate::table::attr_value;
+use caja_units::{Memory, Units};
+use html_tokens::{stands_in, unit};
+use html_tree::{Attr, Html, make_element, push, text};
+use std::alloc::Global;
+use std::mem;
+
+/// The elements that are dropped with their content.
+static DROPPED: [&str; 8] = [
+    "script", "style", "object", "applet", "iframe", "frameset", "noscript", "title",
+];
+
+/// The elements that are kept. Of all others the content alone is.
+static LISTED: [&str; 33] = [
+    "a",
+    "b",
+    "blockquote",
+    "br",
+    "button",
+    "code",
+    "div",
+    "em",
+    "h1",
+    "h2",
+    "h3",
+    "h4",
+    "h5",
+    "h6",
+    "hr",
+    "i",
+    "img",
+    "input",
+    "label",
+    "li",
+    "ol",
+    "p",
+    "pre",
+    "span",
+    "strong",
+    "table",
+    "tbody",
+    "td",
+    "th",
+    "thead",
+    "tr",
+    "u",
+    "ul",
+];
+
+/// What is kept of a document.
+#[derive(Debug, Drop)]
+pub struct Clean {
+    pub list: Vec<Html>,
+}
+
+/// What is kept so far: nodes, and behind them a text that may go on.
+#[derive(Debug, Drop)]
+pub struct Kept {
+    pub nodes: Vec<Html>,
+    pub text: Vec<u16>,
+}
+
+/// Appends the units of a text to the text that may go on.
+fn push_units(units: &mut Vec<u16>, text: &Units) -> Result<(), Memory>
+    ensures { OnOk result (units.new.items ≡ units.old.items ++ text.now) }
+{
+    for i in 0..text.len() {
+        units.push(unit(text, i))?;
+    }
+    Ok(())
+}
+
+/// Appends a text.
+fn keep_text(kept: &mut Kept, text: &Units) -> Result<(), Memory>
+    ensures { OnOk result ((r : Tree many) → whole kept.new r ≡ whole kept.old (joined text.now r)) }
+{
+    push_units(&mut kept.text, text)
+}
+
+/// Ends the text that may go on.
+fn end_text(alloc: Global, kept: &mut Kept) -> Result<(), Memory>
+    ensures same { OnOk result (trees kept.new.nodes.items ≡ whole kept.old none) }
+    ensures ended { OnOk result (kept.new.text.items ≡ []) }
+{
+    if kept.text.len() == 0 {
+        return Ok(());
+    }
+    let units = mem::replace(&mut kept.text, Vec::new(alloc));
+    push(&mut kept.nodes, text(Units::from_units(alloc, &units)?))
+}
+
+/// Appends an attribute with the value that is kept, if one is.
+fn keep_attr(
+    alloc: Global,
+    attrs: &mut Vec<Attr>,
+    attr: &Attr,
+    value: Option<Units>,
+) -> Result<(), Memory>
+    ensures { OnOk result (attrs_of attrs.new.items ≡ attrs_of attrs.old.items ++ with_value attr.now.name value []) }
+{
+    if let Some(value) = value {
+        let name = attr.name.copy(alloc)?;
+        attrs.push(Attr { name, value })?;
+    }
+    Ok(())
+}
+
+/// The attributes that are kept on an element.
+fn keep_attrs(alloc: Global, tag: &Units, attrs: &[Attr]) -> Result<Vec<Attr>, Memory>
+    ensures { IfOk result (λ v. attrs_of v.items ≡ kept_attrs no_urls tag.now (attrs_of attrs.now)) }
+{
+    let mut kept = Vec::new(alloc);
+    for attr in attrs {
+        let value = attr_value(alloc, tag, &attr.name, &attr.value)?;
+        keep_attr(alloc, &mut kept, attr, value)?;
+    }
+    Ok(kept)
+}
+
+/// Appends an element with what is kept in it.
+fn push_element(
+    alloc: Global,
+    kept: &mut Kept,
+    name: &Units,
+    attrs: &[Attr],
+    content: Vec<Html>,
+) -> Result<(), Memory>
+    ensures { OnOk result ((r : Tree many) → whole kept.new r ≡ whole kept.old (more (element name.now (kept_attrs no_urls name.now (attrs_of attrs.now)) (trees content.items)) r)) }
+{
+    let attrs = keep_attrs(alloc, name, attrs)?;
+    end_text(alloc, kept)?;
+    let name = name.copy(alloc)?;
+    push(&mut kept.nodes, make_element(name, attrs, content))
+}
+
+/// What is kept of the content of an element.
+#[cycle(keeps)]
+fn keep_content(alloc: Global, nodes: &[Html]) -> Result<Vec<Html>, Memory>
+    ensures { IfOk result (λ v. trees v.items ≡ cleaned no_urls (trees nodes.now)) }
+{
+    let mut kept = Kept {
+        nodes: Vec::new(alloc),
+        text: Vec::new(alloc),
+    };
+    keep_all(alloc, &mut kept, nodes)?;
+    end_text(alloc, &mut kept)?;
+    let Kept { nodes, text: _ } = kept;
+    Ok(nodes)
+}
+
+/// Appends what is kept of a node.
+#[cycle(keeps)]
+fn keep_node(alloc: Global, kept: &mut Kept, node: &Html) -> Result<(), Memory>
+    ensures { OnOk result ((r : Tree many) → whole kept.new r ≡ whole kept.old (kept_tree no_urls one (tree node.now) r)) }
+{
+    match node {
+        Html::Text(text) => keep_text(kept, text),
+        Html::Element(name, attrs, content) => {
+            if stands_in(&DROPPED, name) {
+                return Ok(());
+            }
+            if !stands_in(&LISTED, name) {
+                return keep_all(alloc, kept, content);
+            }
+            let content = keep_content(alloc, content)?;
+            push_element(alloc, kept, name, attrs, content)
+        }
+    }
+}
+
+/// Appends what is kept of nodes.
+#[cycle(keeps)]
+fn keep_all(alloc: Global, kept: &mut Kept, nodes: &[Html]) -> Result<(), Memory>
+    ensures { OnOk result ((r : Tree many) → whole kept.new r ≡ whole kept.old (kept_tree no_urls many (trees nodes.now) r)) }
+{
+    for node in nodes {
+        keep_node(alloc, kept, node)?;
+    }
+    Ok(())
+}
+
+/// What is kept of a document: the elements and attributes of the table, and texts, which are joined where they come to stand side by side. Each URL is dropped
+/// for now.
+pub fn clean_html(alloc: Global, document: &[Html]) -> Result<Clean, Memory>
+    ensures { IfOk result (λ clean. trees clean.list.items ≡ cleaned no_urls (trees document.now)) }
+{
+    let list = keep_content(alloc, document)?;
+    Ok(Clean { list })
+}

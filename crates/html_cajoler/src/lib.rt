@@ -1,0 +1,14 @@
+//! HTML that may stand in a page: what is kept of a document that was read, and how it is written.
+//!
+//! Elements and attributes are kept by a table (the definition is html_kept's). What may run code or fetch something is dropped: `script` and its like with their
+//! content, each attribute that isn't listed, and for now each URL.
+#![tactic(auto)]
+
+mod keeping;
+mod printing;
+mod table;
+mod values;
+
+pub use keeping::{Clean, clean_html};
+pub use printing::print_html;
+pub use table::attr_value;

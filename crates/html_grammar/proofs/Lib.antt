@@ -1,0 +1,9 @@
+pub mod References
+pub mod Bounds
+pub mod PieceBounds
+pub mod Runs
+pub mod Insides
+pub mod Pieces
+pub mod Sound
+pub mod Complete
+pub mod Exact

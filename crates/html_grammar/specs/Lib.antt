@@ -1,0 +1,12 @@
+pub mod Characters
+pub mod Tables
+pub mod References
+pub mod Runs
+pub mod ReadSoFar
+pub mod Tags
+pub mod Point
+pub mod Trees
+pub mod Document
+pub mod Refusals
+pub mod Reading
+pub mod Fits

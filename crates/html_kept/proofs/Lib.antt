@@ -1,0 +1,11 @@
+pub mod Chars
+pub mod ReadTags
+pub mod ReadTrees
+pub mod BackRuns
+pub mod Cleaned
+pub mod Names
+pub mod Written
+pub mod BackTags
+pub mod BackTrees
+pub mod Back
+pub mod Quiet

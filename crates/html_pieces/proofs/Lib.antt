@@ -1,0 +1,3 @@
+mod Oks
+mod Points
+mod SeenNames

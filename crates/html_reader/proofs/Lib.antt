@@ -1,0 +1,4 @@
+mod StackLemmas
+mod LoopLemmas
+mod Answered
+mod Widths

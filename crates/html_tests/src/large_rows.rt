@@ -1,0 +1,105 @@
+//! Texts of four mebibytes, in shapes that are hard on a reader: each is read or refused in little time and with a small stack.
+
+use html_cajoler::{clean_html, print_html};
+use html_reader::read_html;
+use std::alloc::Global;
+use std::test::Fail;
+
+/// How many bytes a text has at most.
+const LARGE: usize = 4_194_304;
+
+/// A front, a part again and again as often as it fits, and an end.
+fn repeated(alloc: Global, front: &str, part: &str, end: &str) -> Result<String, Fail> {
+    let mut text = String::with_capacity(alloc, LARGE)?;
+    text.push_str(front)?;
+    for _ in 0..LARGE {
+        if text.len() + part.len() + end.len() > LARGE {
+            break;
+        }
+        text.push_str(part)?;
+    }
+    text.push_str(end)?;
+    Ok(text)
+}
+
+/// How many bytes are written of what is kept, or the refusal.
+fn shown(alloc: Global, text: &str) -> Result<String, Fail> {
+    u32::try_from(text.len())?;
+    match read_html(alloc, text.as_bytes()) {
+        Ok(document) => {
+            let clean = clean_html(alloc, &document)?;
+            let written = print_html(alloc, &clean)?;
+            Ok(format!(in alloc; "{}", written.len())?)
+        }
+        Err(refusal) => Ok(format!(in alloc; "{refusal:?}")?),
+    }
+}
+
+type Shape = (&'static str, &'static str, &'static str, &'static str);
+
+fn check(alloc: Global, shapes: &[Shape]) -> Result<(), Fail> {
+    for (front, part, end, wanted) in shapes {
+        let text = repeated(alloc, front, part, end)?;
+        if shown(alloc, text.as_str())?.as_str() != *wanted {
+            return Err((*part).into());
+        }
+    }
+    Ok(())
+}
+
+/// Fronts, parts and ends, and how many bytes are written, or the refusal: texts.
+static TEXTS: [Shape; 5] = [
+    ("", "a", "", "4194304"),
+    ("", "<", "", "16777216"),
+    ("", "&", "", "20971520"),
+    ("", "&amp;", "", "4194300"),
+    ("", "\u{E9}", "", "4194304"),
+];
+
+#[test]
+fn large_texts_are_read(rt: HostRuntime) -> Result<(), Fail> {
+    check(rt.alloc(), &TEXTS)
+}
+
+/// Elements and comments.
+static ELEMENTS: [Shape; 6] = [
+    ("", "a<!---->", "", "524288"),
+    ("", "a<font>b</font>", "", "559240"),
+    ("", "<p>a</p>", "", "4194304"),
+    ("", "<br>", "", "4194304"),
+    ("<script>", "<", "</script>", "0"),
+    ("<!--", "-", "-->", "0"),
+];
+
+#[test]
+fn many_elements_are_read(rt: HostRuntime) -> Result<(), Fail> {
+    check(rt.alloc(), &ELEMENTS)
+}
+
+/// Tags.
+static TAGS: [Shape; 4] = [
+    ("", "<a ", "", "OpenTag(0)"),
+    ("<p ", "a ", "></p>", "BadAttr(5)"),
+    ("<p title='", "a", "'></p>", "4194304"),
+    ("<p title='", "\"", "'></p>", "25165744"),
+];
+
+#[test]
+fn large_tags_are_read_or_refused(rt: HostRuntime) -> Result<(), Fail> {
+    check(rt.alloc(), &TAGS)
+}
+
+#[test]
+fn elements_that_nest_to_the_limit_are_read(rt: HostRuntime) -> Result<(), Fail> {
+    let mut part = String::new(rt.alloc());
+    for _ in 0..128 {
+        part.push_str("<b>")?;
+    }
+    for _ in 0..128 {
+        part.push_str("</b>")?;
+    }
+    let text = repeated(rt.alloc(), "", part.as_str(), "")?;
+    let shown = shown(rt.alloc(), text.as_str())?;
+    assert!(rt; shown.as_str() == "4194176", "{shown}");
+    Ok(())
+}

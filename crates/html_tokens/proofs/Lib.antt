@@ -1,0 +1,4 @@
+mod Values
+mod Spellings
+pub mod Fronts
+mod Oks
