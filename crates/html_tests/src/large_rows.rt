@@ -12,10 +12,8 @@ const LARGE: usize = 4_194_304;
 fn repeated(alloc: Global, front: &str, part: &str, end: &str) -> Result<String, Fail> {
     let mut text = String::with_capacity(alloc, LARGE)?;
     text.push_str(front)?;
-    for _ in 0..LARGE {
-        if text.len() + part.len() + end.len() > LARGE {
-            break;
-        }
+    let room = LARGE.saturating_sub(front.len()).saturating_sub(end.len());
+    for _ in 0..room / part.len().max(1) {
         text.push_str(part)?;
     }
     text.push_str(end)?;
