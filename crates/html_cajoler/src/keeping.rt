@@ -1,10 +1,11 @@
 //! What is kept of a document.
 
-ghost use Rattle.std.specs.Prelude.{◌≡◌, ◌++◌, [], ◌∷◌, drop, IfOk, OnOk};
-ghost use Rattle.html_grammar.specs.Tags as tags;
+ghost use Rattle.std.specs.Prelude.{◌≡◌, ◌++◌, [], IfOk, OnOk};
+ghost use Rattle.html_grammar.specs.Tables.{is_in};
 ghost use Rattle.html_grammar.specs.Trees.{Tree, many, one, none, more, element};
-ghost use Rattle.html_tree.specs.Views.{tree, trees, attr_of, attrs_of};
-ghost use Rattle.html_kept.specs.Table.{no_urls};
+ghost use Rattle.html_tree.specs.Views.{tree, trees, attrs_of};
+ghost use Rattle.html_kept.specs.Table.{listed, no_urls};
+ghost use Rattle.html_kept.specs.OfTable.{OfTable};
 ghost use Rattle.html_kept.specs.Kept.{kept as kept_tree, kept_attrs, with_value, joined, cleaned};
 ghost use Rattle.html_cajoler.specs.Views.{whole};
 
@@ -13,6 +14,7 @@ use caja_units::{Memory, Units};
 use html_tokens::{stands_in, unit};
 use html_tree::{Attr, Html, make_element, push, text};
 use std::alloc::Global;
+use std::marker::Model;
 use std::mem;
 
 /// The elements that are dropped with their content.
@@ -57,10 +59,40 @@ static LISTED: [&str; 33] = [
     "ul",
 ];
 
-/// What is kept of a document.
+/// What is kept of a document: each element is listed, each attribute is one of the table with a value that is kept there, no text is empty, and no two stand side
+/// by side. `clean_html` makes it, and nothing else does.
 #[derive(Debug, Drop)]
 pub struct Clean {
-    pub list: Vec<Html>,
+    list: Vec<Html>,
+}
+
+impl Model for Clean {
+    ghost use Rattle.std.specs.Prelude.{List};
+    ghost use Rattle.std.specs.Coded.{codes};
+    ghost use Rattle.html_grammar.specs.Trees.{many};
+    ghost use Rattle.html_tree.specs.declared.Html.{Html};
+    ghost use Rattle.html_tree.specs.contracts.Html as html;
+    ghost use Rattle.html_tree.specs.Views.{trees};
+    ghost use Rattle.html_kept.specs.Table.{no_urls};
+    ghost use Rattle.html_kept.specs.OfTable.{OfTable};
+
+    ghost Value = { List Html };
+
+    ghost coded = { Prim.hlevel (codes, html.the_row.coded) };
+
+    ghost view = { λ clean. clean.list.items };
+
+    ghost invariant = { λ clean. OfTable no_urls many (trees clean.list.items) };
+}
+
+impl Clean {
+    /// The nodes, in order: elements with their attributes and their content, and texts.
+    pub fn nodes(&self) -> &[Html]
+        ensures same { result.now ≡ self.now }
+        ensures of_table { OfTable no_urls many (trees self.now) }
+    {
+        &self.list
+    }
 }
 
 /// What is kept so far: nodes, and behind them a text that may go on.
@@ -68,6 +100,13 @@ pub struct Clean {
 pub struct Kept {
     pub nodes: Vec<Html>,
     pub text: Vec<u16>,
+}
+
+/// Whether an element of this name, in lower case, is kept with its tag.
+pub fn is_listed(name: &Units) -> bool
+    ensures { result ≡ is_in listed name.now }
+{
+    stands_in(&LISTED, name)
 }
 
 /// Appends the units of a text to the text that may go on.
@@ -169,7 +208,7 @@ fn keep_node(alloc: Global, kept: &mut Kept, node: &Html) -> Result<(), Memory>
             if stands_in(&DROPPED, name) {
                 return Ok(());
             }
-            if !stands_in(&LISTED, name) {
+            if !is_listed(name) {
                 return keep_all(alloc, kept, content);
             }
             let content = keep_content(alloc, content)?;
@@ -192,7 +231,7 @@ fn keep_all(alloc: Global, kept: &mut Kept, nodes: &[Html]) -> Result<(), Memory
 /// What is kept of a document: the elements and attributes of the table, and texts, which are joined where they come to stand side by side. Each URL is dropped
 /// for now.
 pub fn clean_html(alloc: Global, document: &[Html]) -> Result<Clean, Memory>
-    ensures { IfOk result (λ clean. trees clean.list.items ≡ cleaned no_urls (trees document.now)) }
+    ensures { IfOk result (λ clean. trees clean ≡ cleaned no_urls (trees document.now)) }
 {
     let list = keep_content(alloc, document)?;
     Ok(Clean { list })

@@ -9,6 +9,6 @@ mod printing;
 mod table;
 mod values;
 
-pub use keeping::{Clean, clean_html};
-pub use printing::print_html;
+pub use keeping::{Clean, clean_html, is_listed};
+pub use printing::{print_html, put_end, put_start, put_text};
 pub use table::attr_value;

@@ -72,8 +72,8 @@ fn put_all_shown_value(out: &mut Vec<u8>, bytes: &[u8]) -> Result<(), AllocError
     Ok(())
 }
 
-/// Writes a text.
-fn put_text(alloc: Global, out: &mut Vec<u8>, text: &Units) -> Result<(), Memory>
+/// Writes a text, as `print_html` does.
+pub fn put_text(alloc: Global, out: &mut Vec<u8>, text: &Units) -> Result<(), Memory>
     ensures { OnOk result (out.new.items ≡ out.old.items ++ p.printed_text text.now) }
 {
     let bytes = utf8(alloc, text)?;
@@ -111,8 +111,13 @@ fn put_attrs(alloc: Global, out: &mut Vec<u8>, attrs: &[Attr]) -> Result<(), Mem
     Ok(())
 }
 
-/// Writes the tag with which an element begins.
-fn put_start(alloc: Global, out: &mut Vec<u8>, name: &Units, attrs: &[Attr]) -> Result<(), Memory>
+/// Writes the tag with which an element begins, as `print_html` does.
+pub fn put_start(
+    alloc: Global,
+    out: &mut Vec<u8>,
+    name: &Units,
+    attrs: &[Attr],
+) -> Result<(), Memory>
     ensures { OnOk result (out.new.items ≡ out.old.items ++ p.start_tag name.now (attrs_of attrs.now)) }
 {
     put(out, b"<")?;
@@ -121,8 +126,8 @@ fn put_start(alloc: Global, out: &mut Vec<u8>, name: &Units, attrs: &[Attr]) -> 
     put(out, b">")
 }
 
-/// Writes the tag with which an element ends.
-fn put_end(out: &mut Vec<u8>, name: &Units) -> Result<(), Memory>
+/// Writes the tag with which an element ends, as `print_html` does of those that have one.
+pub fn put_end(out: &mut Vec<u8>, name: &Units) -> Result<(), Memory>
     ensures { OnOk result (out.new.items ≡ out.old.items ++ p.end_tag name.now) }
 {
     put(out, b"</")?;
@@ -161,9 +166,9 @@ fn put_all(alloc: Global, out: &mut Vec<u8>, nodes: &[Html]) -> Result<(), Memor
 
 /// The text of a document in UTF-8. Where the document is what is kept of one that was read, the text is read as it again.
 pub fn print_html(alloc: Global, document: &Clean) -> Result<Vec<u8>, Memory>
-    ensures { IfOk result (λ v. v.items ≡ p.printed many (trees document.now.list.items)) }
+    ensures { IfOk result (λ v. v.items ≡ p.printed many (trees document.now)) }
 {
     let mut out = Vec::new(alloc);
-    put_all(alloc, &mut out, &document.list)?;
+    put_all(alloc, &mut out, document.nodes())?;
     Ok(out)
 }

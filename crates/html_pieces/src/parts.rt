@@ -1,6 +1,6 @@
 //! The parts of a tag.
 
-ghost use Rattle.std.specs.Prelude.{◌≡◌, ◌<◌, ◌≤◌, ◌+◌, ◌^◌, ◌&&◌, nat_eq, true, [], length, map, drop, take, None, IfOk};
+ghost use Rattle.std.specs.Prelude.{◌≡◌, ◌<◌, ◌≤◌, ◌+◌, ◌^◌, ◌&&◌, nat_eq, true, [], length, map, None, IfOk};
 ghost use Rattle.std.specs.List.{All, prefix_len};
 ghost use Rattle.html_grammar.specs.Characters as class;
 ghost use Rattle.html_grammar.specs.Runs.{run as run_spec, run_length as run_length_spec};

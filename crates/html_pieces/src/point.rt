@@ -1,6 +1,6 @@
 //! What stands at a point of a text.
 
-ghost use Rattle.std.specs.Prelude.{◌≡◌, ◌<◌, ◌≤◌, ◌^◌, ◌+◌, length, map, take, drop, position, codes, nat_eq, IfOk, IfSome};
+ghost use Rattle.std.specs.Prelude.{◌≡◌, ◌<◌, ◌≤◌, ◌^◌, ◌+◌, length, map, take, position, codes, nat_eq, IfOk, IfSome};
 ghost use Rattle.std.specs.List.{starts_with};
 ghost use Rattle.caja_units.specs.Units.{same_units};
 ghost use Rattle.html_grammar.specs.Characters as class;

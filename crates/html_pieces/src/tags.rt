@@ -1,9 +1,9 @@
 //! Tags: what stands between the name of a tag and its end.
 
-ghost use Rattle.std.specs.Prelude.{ℕ, List, ◌||◌, ◌≡◌, ◌<◌, ◌≤◌, ◌+◌, ◌^◌, ◌++◌, ◌∷◌, [], length, map, Some, IfOk, OnOk};
+ghost use Rattle.std.specs.Prelude.{ℕ, List, ◌||◌, ◌≡◌, ◌<◌, ◌+◌, ◌^◌, ◌++◌, ◌∷◌, [], length, map, Some, IfOk, OnOk};
 ghost use Rattle.html_grammar.specs.Tables.{is_in};
 ghost use Rattle.html_grammar.specs.Tags as t;
-ghost use Rattle.html_tree.specs.Views.{attr_of, attrs_of};
+ghost use Rattle.html_tree.specs.Views.{attr_of};
 ghost use Rattle.html_pieces.specs.Views.{kind_of, names_of, IsPlace, inside_of, fault_of};
 
 use crate::names::is_again;

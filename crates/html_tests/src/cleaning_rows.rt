@@ -4,8 +4,9 @@ use crate::attack_tables::{BROKEN, CONDITIONS, EVENTS, SCRIPTS, STYLES, URLS};
 use crate::cleaning_tables::{KEPT_ATTRIBUTES, KEPT_ELEMENTS, WRITTEN};
 use crate::page_tables::PAGES;
 use caja_units::Units;
-use html_cajoler::{attr_value, clean_html, print_html};
+use html_cajoler::{attr_value, clean_html, is_listed, print_html, put_end, put_start, put_text};
 use html_reader::read_html;
+use html_tree::Html;
 use std::alloc::Global;
 use std::test::Fail;
 
@@ -98,5 +99,49 @@ fn values_are_kept_or_dropped(rt: HostRuntime) -> Result<(), Fail> {
             "{value}"
         );
     }
+    Ok(())
+}
+
+/// The tags and the text of a document that is one element with a text.
+fn put_parts(alloc: Global, out: &mut Vec<u8>, nodes: &[Html]) -> Result<(), Fail> {
+    match nodes {
+        [Html::Element(name, attrs, content)] => {
+            put_start(alloc, out, name, attrs)?;
+            put_parts_within(alloc, out, content)?;
+            Ok(put_end(out, name)?)
+        }
+        _ => Err("no element".into()),
+    }
+}
+
+fn put_parts_within(alloc: Global, out: &mut Vec<u8>, nodes: &[Html]) -> Result<(), Fail> {
+    match nodes {
+        [Html::Text(text)] => Ok(put_text(alloc, out, text)?),
+        _ => Err("no text".into()),
+    }
+}
+
+#[test]
+fn an_element_is_written_part_by_part_as_it_is_whole(rt: HostRuntime) -> Result<(), Fail> {
+    let text = b"<font><p title='a&quot;b'>c &lt; d</p></font>";
+    match read_html(rt.alloc(), text) {
+        Ok(document) => {
+            let clean = clean_html(rt.alloc(), &document)?;
+            let mut parts = Vec::new(rt.alloc());
+            put_parts(rt.alloc(), &mut parts, clean.nodes())?;
+            let whole = print_html(rt.alloc(), &clean)?;
+            assert!(rt; parts.as_slice() == whole.as_slice());
+            assert!(rt; parts.as_slice() == b"<p title=\"a&quot;b\">c &lt; d</p>".as_slice());
+            Ok(())
+        }
+        Err(_) => Err("refused".into()),
+    }
+}
+
+#[test]
+fn listed_elements_are_told(rt: HostRuntime) -> Result<(), Fail> {
+    let table = Units::from_ascii(rt.alloc(), b"table")?;
+    let font = Units::from_ascii(rt.alloc(), b"font")?;
+    assert!(rt; is_listed(&table) && !is_listed(&font));
     Ok(())
 }

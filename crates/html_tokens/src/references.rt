@@ -1,11 +1,11 @@
 //! References to characters.
 
-ghost use Rattle.std.specs.Prelude.{◌≡◌, ◌≤◌, ◌<◌, ◌+◌, ◌*◌, ◌^◌, length, Bool, true, min, IsTrue};
+ghost use Rattle.std.specs.Prelude.{◌≡◌, ◌≤◌, ◌<◌, ◌+◌, ◌*◌, length, true, min, IsTrue};
 ghost use Rattle.std.specs.List.{All};
 ghost use Rattle.std.specs.Char.{digit_value};
 ghost use Rattle.std.specs.Str.Parse.{digits_value};
 ghost use Rattle.html_grammar.specs.Characters as class;
-ghost use Rattle.html_grammar.specs.References.{is_closed, character, numbered, known, named as named_spec, reference};
+ghost use Rattle.html_grammar.specs.References.{is_closed, character, numbered, named as named_spec, reference};
 ghost use Rattle.html_tokens.specs.Views.{reference_of, Within};
 
 use crate::characters::{begins_with, digit_len, hex_len, word_len};

@@ -1,12 +1,11 @@
 //! Runs of characters that stand for units.
 
-ghost use Rattle.std.specs.Prelude.{◌≡◌, ◌++◌, ◌≤◌, length, IfOk, OnOk};
+ghost use Rattle.std.specs.Prelude.{◌≡◌, ◌++◌, IfOk, OnOk};
 ghost use Rattle.std.specs.Char.Escape.{encode_utf16};
 ghost use Rattle.caja_units.specs.Utf8.{units_of_chars};
-ghost use Rattle.html_grammar.specs.References.{reference as reference_spec};
 ghost use Rattle.html_grammar.specs.Runs.{run as run_spec};
 ghost use Rattle.html_grammar.specs.ReadSoFar.{first_of, told};
-ghost use Rattle.html_tokens.specs.Views.{reference_of, Within, until_of, run_of};
+ghost use Rattle.html_tokens.specs.Views.{until_of, run_of};
 
 use crate::characters::{begins_markup, begins_with, ends_bare};
 use crate::references::{Reference, reference_at};

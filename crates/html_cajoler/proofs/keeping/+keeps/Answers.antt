@@ -25,11 +25,11 @@ keep_node-returns-then-stands_in t c = λ r.
     let d : is_in dropped c.in-Element.name ≡ true = sym c.stands_in.ensures ∙ c.if-stands_in.true in
     sym (ap (whole c.args.kept.now) (ap (λ t. kept no_urls one t r) is ∙ element_dropped c.in-Element.name (attrs_of c.in-Element.attrs.items) (trees c.in-Element.content.items) r d))
 
-pub keep_node-returns-then-not-stands_in : goal.keep_node-returns-then-not-stands_in
-keep_node-returns-then-not-stands_in t c =
+pub keep_node-returns-then-not-is_listed : goal.keep_node-returns-then-not-is_listed
+keep_node-returns-then-not-is_listed t c =
     let is = ap tree c.in-Element.is ∙ view_element c.in-Element.name c.in-Element.attrs c.in-Element.content in
     let d : is_in dropped c.in-Element.name ≡ false = sym c.stands_in.ensures ∙ c.if-stands_in.false in
-    let l : is_in listed c.in-Element.name ≡ false = sym c.stands_in-in-Element.ensures ∙ c.if-not-stands_in.true in
+    let l : is_in listed c.in-Element.name ≡ false = sym c.is_listed.ensures ∙ c.if-not-is_listed.true in
     ok_then c.keep_all.result c.keep_all.ensures (λ e r.
     e r ∙ ap (λ (s : List _). whole c.args.kept.now (kept no_urls many (trees s) r)) c.deref.ensures.value
     ∙ sym (ap (whole c.args.kept.now) (ap (λ t. kept no_urls one t r) is ∙ element_unlisted c.in-Element.name (attrs_of c.in-Element.attrs.items) (trees c.in-Element.content.items) r d l)))
@@ -38,7 +38,7 @@ pub keep_node-returns-in_ok-content-in-Element : goal.keep_node-returns-in_ok-co
 keep_node-returns-in_ok-content-in-Element t c =
     let is = ap tree c.in-Element.is ∙ view_element c.in-Element.name c.in-Element.attrs c.in-Element.content in
     let d : is_in dropped c.in-Element.name ≡ false = sym c.stands_in.ensures ∙ c.if-stands_in.false in
-    let l : is_in listed c.in-Element.name ≡ true = sym c.stands_in-in-Element.ensures ∙ c.if-not-stands_in.false in
+    let l : is_in listed c.in-Element.name ≡ true = sym c.is_listed.ensures ∙ c.if-not-is_listed.false in
     let n = c.in-Element.name in
     ok_then c.push_element.result c.push_element.ensures (λ e r.
     e r ∙ ap (λ (s : List _). whole c.args.kept.now (more (element n (kept_attrs no_urls n (attrs_of s)) (trees c.in_ok-content-in-Element.content.items)) r)) c.deref-in-Element-2.ensures.value

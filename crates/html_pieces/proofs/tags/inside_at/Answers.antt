@@ -1,7 +1,7 @@
 use Rattle.std.proofs.Common.{ℕ, ◌≡◌, ◌+◌, ◌≤◌, ◌<◌, ◌++◌, ◌∷◌, [], List, length, drop, map, sym, ap, subst, ◌∙◌, arith}
 use Rattle.std.proofs.lemmas.List.{length-drop}
 use Rattle.html_grammar.specs.Fits.{PartFits}
-use Rattle.html_grammar.specs.Tags.{Attr, Part, Kind, before, inside, or_later, attr_fault, part}
+use Rattle.html_grammar.specs.Tags.{Attr, Part, Kind, before, inside, or_later, part}
 use Rattle.html_grammar.proofs.Insides.{loop_start, loop_close, loop_gap, loop_attr, loop_wrong, loop_unclosed, loop_end}
 use Rattle.html_pieces.specs.Views.{names_of, fault_of, kind_of, part_of}
 use Rattle.html_tree.specs.Views.{attr_of}
