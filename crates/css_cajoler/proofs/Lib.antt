@@ -1,0 +1,3 @@
+mod Slices
+mod Images
+mod Filled

@@ -1,0 +1,7 @@
+pub mod Characters
+pub mod Sheets
+pub mod Tokens
+pub mod Grammar
+pub mod Refusals
+pub mod Machine
+pub mod Ends

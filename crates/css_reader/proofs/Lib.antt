@@ -1,0 +1,4 @@
+mod Endings
+mod Says
+mod Widths
+mod Answered

@@ -1,0 +1,3 @@
+pub mod Quotes
+pub mod QuoteViews
+pub mod Letters
