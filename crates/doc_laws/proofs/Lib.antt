@@ -1,0 +1,10 @@
+pub mod Lists
+pub mod Edits
+pub mod Climbs
+pub mod Forests
+pub mod Ownership
+pub mod Changed
+pub mod Joined
+pub mod Within
+pub mod Shown
+pub mod Spots

@@ -1,0 +1,5 @@
+pub mod Forest
+pub mod Owned
+pub mod Reached
+pub mod Within
+pub mod Places

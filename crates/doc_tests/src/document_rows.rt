@@ -1,0 +1,43 @@
+//! Documents, and what is asked of them and done with them.
+
+use crate::change_tables::{ATTRIBUTES, MOVES, NEW_NODES, REFUSALS, REMOVALS, TEXTS};
+use crate::reading_tables::{OWNERS, PAGES, ROWS, SHOWN};
+use crate::steps::{check, document};
+use html_cajoler::{clean_html, print_html};
+use html_reader::read_html;
+use std::test::Fail;
+
+#[test]
+fn rows_and_owners_are_read(rt: HostRuntime) -> Result<(), Fail> {
+    check(rt.alloc(), &ROWS)?;
+    check(rt.alloc(), &OWNERS)?;
+    check(rt.alloc(), &SHOWN)
+}
+
+#[test]
+fn changes_are_refused_in_their_order(rt: HostRuntime) -> Result<(), Fail> {
+    check(rt.alloc(), &REFUSALS)
+}
+
+#[test]
+fn changes_are_done(rt: HostRuntime) -> Result<(), Fail> {
+    check(rt.alloc(), &MOVES)?;
+    check(rt.alloc(), &REMOVALS)?;
+    check(rt.alloc(), &ATTRIBUTES)?;
+    check(rt.alloc(), &TEXTS)?;
+    check(rt.alloc(), &NEW_NODES)
+}
+
+#[test]
+fn a_document_is_written_as_its_html(rt: HostRuntime) -> Result<(), Fail> {
+    for html in PAGES.iter() {
+        u32::try_from(html.len())?;
+        let read = read_html(rt.alloc(), html.as_bytes())?;
+        let wanted = print_html(rt.alloc(), &clean_html(rt.alloc(), &read)?)?;
+        let written = document(rt.alloc(), html, &["a", "b"])?.print()?;
+        if written.as_slice() != wanted.as_slice() {
+            return Err((*html).into());
+        }
+    }
+    Ok(())
+}

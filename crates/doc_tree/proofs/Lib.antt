@@ -1,0 +1,3 @@
+mod Climbing
+mod Left
+mod Added

@@ -1,0 +1,4 @@
+pub mod Answers
+pub mod Cleaned
+pub mod Printing
+pub mod Levels
