@@ -4,6 +4,10 @@
 #[cfg(test)]
 mod change_tables;
 #[cfg(test)]
+mod deed_rows;
+#[cfg(test)]
+mod deed_tables;
+#[cfg(test)]
 mod document_rows;
 #[cfg(test)]
 mod large_documents;

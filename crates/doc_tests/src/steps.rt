@@ -40,7 +40,7 @@ pub struct Case {
     pub steps: &'static [(Step, &'static str)],
 }
 
-fn units(alloc: Global, text: &str) -> Result<Units, Memory> {
+pub fn units(alloc: Global, text: &str) -> Result<Units, Memory> {
     Units::from_ascii(alloc, text.as_bytes())
 }
 

@@ -142,6 +142,13 @@ impl Document {
         self.node(n)?.children.get(place).copied()
     }
 
+    /// How many nodes there are: those of the numbers below this.
+    pub fn count(&self) -> usize
+        ensures { result ≡ length self.now.rows }
+    {
+        self.nodes.len()
+    }
+
     /// Whether a node is of this document.
     pub fn has(&self, n: NodeId) -> bool
         ensures { result ≡ has self.now n }
