@@ -1,3 +1,4 @@
 mod Slices
 mod Images
 mod Filled
+mod Ascii

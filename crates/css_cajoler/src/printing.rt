@@ -6,6 +6,7 @@ ghost use Rattle.caja_units.specs.Utf8.{utf8_of};
 ghost use Rattle.css_tree.specs.Views.{declaration_of, declarations_of, rule_of, sheet_of};
 ghost use Rattle.css_kept.specs.Printed as p;
 
+use crate::texts::unit;
 use caja_units::{Memory, Units};
 use css_tree::{Css, CssRule};
 use std::alloc::Global;
@@ -18,13 +19,29 @@ fn put(out: &mut Vec<u8>, bytes: &[u8]) -> Result<(), Memory>
     Ok(())
 }
 
+/// Writes a text, a unit of ASCII as its byte.
+fn put_text(out: &mut Vec<u8>, text: &Units) -> Result<(), Memory>
+    ensures { OnOk result (out.new.items ≡ out.old.items ++ utf8_of text.now) }
+{
+    let start = out.len();
+    for i in 0..text.len() {
+        let unit = unit(text, i);
+        if unit >= 128 {
+            out.truncate(start);
+            return text.push_utf8(out);
+        }
+        out.push(unit as u8)?;
+    }
+    Ok(())
+}
+
 /// Writes texts, each behind this byte.
 fn put_behind(out: &mut Vec<u8>, separator: u8, texts: &[Units]) -> Result<(), Memory>
     ensures { OnOk result (out.new.items ≡ out.old.items ++ flat_map (λ text. separator ∷ utf8_of text) texts.now) }
 {
     for text in texts {
         out.push(separator)?;
-        text.push_utf8(out)?;
+        put_text(out, text)?;
     }
     Ok(())
 }
@@ -35,7 +52,7 @@ fn put_texts(out: &mut Vec<u8>, separator: u8, texts: &[Units]) -> Result<(), Me
 {
     match texts {
         [first, rest @ ..] => {
-            first.push_utf8(out)?;
+            put_text(out, first)?;
             put_behind(out, separator, rest)
         }
         [] => Ok(()),
@@ -46,7 +63,7 @@ fn put_texts(out: &mut Vec<u8>, separator: u8, texts: &[Units]) -> Result<(), Me
 fn put_declaration(out: &mut Vec<u8>, declaration: &(Units, Vec<Units>)) -> Result<(), Memory>
     ensures { OnOk result (out.new.items ≡ out.old.items ++ p.printed_declaration (declaration_of declaration.now)) }
 {
-    declaration.0.push_utf8(out)?;
+    put_text(out, &declaration.0)?;
     put(out, b":")?;
     put_texts(out, b' ', &declaration.1)
 }

@@ -5,10 +5,9 @@ ghost use Rattle.std.specs.List.{list_all};
 ghost use Rattle.css_kept.specs.Table as t;
 ghost use Rattle.css_cajoler.specs.Views.{row_of, values_of};
 
-use crate::texts::{spells, stands_in, units_of};
+use crate::texts::{fill, spells, stands_in};
 use crate::values::{is_colour, is_length};
 use caja_units::{Memory, Units};
-use std::alloc::Global;
 
 /// What the values of a property may be.
 #[derive(Debug, Clone, Copy)]
@@ -133,51 +132,51 @@ static ROWS: [Row; 24] = [
 ];
 
 /// Whether there is one value, which is one of these words.
-fn is_one_of(alloc: Global, words: &[&str], list: &[Units]) -> Result<bool, Memory>
+fn is_one_of(units: &mut Vec<u16>, words: &[&str], list: &[Units]) -> Result<bool, Memory>
     ensures { IfOk result (λ b. b ≡ t.one (t.is_in (map (λ entry. entry.now) words.now)) list.now) }
 {
     match list {
         [value] => {
-            let value = units_of(alloc, value)?;
-            Ok(stands_in(words, &value))
+            fill(units, value)?;
+            Ok(stands_in(words, units))
         }
         _ => Ok(false),
     }
 }
 
 /// Whether there is one value, which is a colour.
-fn is_one_colour(alloc: Global, list: &[Units]) -> Result<bool, Memory>
+fn is_one_colour(units: &mut Vec<u16>, list: &[Units]) -> Result<bool, Memory>
     ensures { IfOk result (λ b. b ≡ t.one t.is_colour list.now) }
 {
     match list {
         [value] => {
-            let value = units_of(alloc, value)?;
-            Ok(is_colour(&value))
+            fill(units, value)?;
+            Ok(is_colour(units))
         }
         _ => Ok(false),
     }
 }
 
 /// Whether there is one value, which is a length.
-fn is_one_length(alloc: Global, list: &[Units]) -> Result<bool, Memory>
+fn is_one_length(units: &mut Vec<u16>, list: &[Units]) -> Result<bool, Memory>
     ensures { IfOk result (λ b. b ≡ t.one t.is_length list.now) }
 {
     match list {
         [value] => {
-            let value = units_of(alloc, value)?;
-            Ok(is_length(&value))
+            fill(units, value)?;
+            Ok(is_length(units))
         }
         _ => Ok(false),
     }
 }
 
 /// Whether all values are lengths.
-fn all_lengths(alloc: Global, list: &[Units]) -> Result<bool, Memory>
+fn all_lengths(units: &mut Vec<u16>, list: &[Units]) -> Result<bool, Memory>
     ensures { IfOk result (λ b. b ≡ list_all t.is_length list.now) }
 {
     for value in list {
-        let value = units_of(alloc, value)?;
-        if !is_length(&value) {
+        fill(units, value)?;
+        if !is_length(units) {
             return Ok(false);
         }
     }
@@ -186,49 +185,59 @@ fn all_lengths(alloc: Global, list: &[Units]) -> Result<bool, Memory>
 
 /// Whether values are kept as they are.
 #[tactic(auto, using(crate::proofs::Images::image_without_urls))]
-fn is_kept(alloc: Global, values: Values, list: &[Units]) -> Result<bool, Memory>
+fn is_kept(units: &mut Vec<u16>, values: Values, list: &[Units]) -> Result<bool, Memory>
     ensures { IfOk result (λ b. t.if_so b list.now ≡ t.kept_values t.no_urls (values_of values) list.now) }
 {
     match values {
         Values::Colour => {
-            let kept = is_one_colour(alloc, list)?;
+            let kept = is_one_colour(units, list)?;
             Ok(kept)
         }
         Values::Image => {
-            let kept = is_one_of(alloc, &["none"], list)?;
+            let kept = is_one_of(units, &["none"], list)?;
             Ok(kept)
         }
         Values::Length => {
-            let kept = is_one_length(alloc, list)?;
+            let kept = is_one_length(units, list)?;
             Ok(kept)
         }
         Values::Lengths => {
-            let kept = all_lengths(alloc, list)?;
+            let kept = all_lengths(units, list)?;
             Ok(list.len() > 0 && list.len() <= 4 && kept)
         }
         Values::OneOf(words) => {
-            let kept = is_one_of(alloc, words, list)?;
+            let kept = is_one_of(units, words, list)?;
             Ok(kept)
         }
     }
 }
 
 /// Whether the values of a property are kept, by the row with its name.
-fn keeps_by(alloc: Global, rows: &[Row], name: &[u16], list: &[Units]) -> Result<bool, Memory>
+fn keeps_by(
+    units: &mut Vec<u16>,
+    rows: &[Row],
+    name: &[u16],
+    list: &[Units],
+) -> Result<bool, Memory>
     ensures { IfOk result (λ b. t.if_so b list.now ≡ t.values_in (map row_of rows.now) t.no_urls name.now list.now) }
 {
     for row in rows {
         if spells(name, row.property.as_bytes()) {
-            return is_kept(alloc, row.values, list);
+            return is_kept(units, row.values, list);
         }
     }
     Ok(false)
 }
 
-/// Whether the values of a property are kept. Each URL is dropped for now.
-pub fn keeps_values(alloc: Global, name: &Units, list: &[Units]) -> Result<bool, Memory>
+/// Whether the values of a property are kept. Each URL is dropped for now. In the two lists stand a name and a value while they are looked at.
+pub fn keeps_values(
+    names: &mut Vec<u16>,
+    units: &mut Vec<u16>,
+    name: &Units,
+    list: &[Units],
+) -> Result<bool, Memory>
     ensures { IfOk result (λ b. t.if_so b list.now ≡ t.values_in t.rows t.no_urls name.now list.now) }
 {
-    let name = units_of(alloc, name)?;
-    keeps_by(alloc, &ROWS, &name, list)
+    fill(names, name)?;
+    keeps_by(units, &ROWS, names, list)
 }

@@ -1,29 +1,36 @@
 //! Texts as slices of units.
 
-ghost use Rattle.std.specs.Prelude.{◌≡◌, ◌≤◌, ◌<◌, length, drop, map, slice_index, IfOk};
+ghost use Rattle.std.specs.Prelude.{◌≡◌, ◌≤◌, ◌<◌, ◌++◌, length, drop, map, slice_index, OnOk};
 ghost use Rattle.caja_units.specs.Units.{same_units};
 ghost use Rattle.css_kept.specs.Table.{is_in};
 
 use caja_units::{Memory, Units};
-use std::alloc::Global;
 
 /// The unit at a place of a text.
-fn unit(text: &Units, at: usize) -> u16
+pub fn unit(text: &Units, at: usize) -> u16
     requires { at < length text.now }
     ensures { result ≡ slice_index text.now at }
 {
     text.at(at).unwrap_or(0)
 }
 
-/// The units of a text.
-pub fn units_of(alloc: Global, text: &Units) -> Result<Vec<u16>, Memory>
-    ensures { IfOk result (λ v. v.items ≡ text.now) }
+/// Appends the units of a text.
+pub fn append_units(units: &mut Vec<u16>, text: &Units) -> Result<(), Memory>
+    ensures { OnOk result (units.new.items ≡ units.old.items ++ text.now) }
 {
-    let mut units = Vec::new(alloc);
+    units.reserve(text.len())?;
     for i in 0..text.len() {
         units.push(unit(text, i))?;
     }
-    Ok(units)
+    Ok(())
+}
+
+/// The units of a text, in the place of what was in the list.
+pub fn fill(units: &mut Vec<u16>, text: &Units) -> Result<(), Memory>
+    ensures { OnOk result (units.new.items ≡ text.now) }
+{
+    units.clear();
+    append_units(units, text)
 }
 
 /// What stands behind so many units.

@@ -25,7 +25,7 @@ fn open_block(alloc: Global, work: &mut Work) -> Result<(), Memory>
     let selector = Units::from_units(alloc, &work.text)?;
     work.selectors.push(selector)?;
     work.text.clear();
-    work.declarations = Vec::new(alloc);
+    work.declarations.clear();
     Ok(())
 }
 
@@ -139,14 +139,14 @@ fn at_block(
 }
 
 /// A step behind the name of a property.
-fn at_named(alloc: Global, work: &mut Work, class: Class, unit: u16) -> Result<Option<Mode>, Memory>
+fn at_named(work: &mut Work, class: Class, unit: u16) -> Result<Option<Mode>, Memory>
     ensures { IfOk result (λ o. next_of o work.new ≡ m.place (place_of Spot.Named work.old) (class_of class) unit) }
 {
     match class {
         Class::Space(_) => Ok(Some(Mode::At(Spot::Named))),
         Class::Slash => Ok(Some(Mode::Slashed(unit, Spot::Named))),
         Class::Colon => {
-            work.values = Vec::new(alloc);
+            work.values.clear();
             work.tail = Tail::None;
             Ok(Some(Mode::At(Spot::Values)))
         }
@@ -235,7 +235,7 @@ pub fn place(
     match spot {
         Spot::Selecting(here) => at_selector(alloc, work, here, class, unit),
         Spot::Block(h) => at_block(alloc, work, h, class, unit),
-        Spot::Named => at_named(alloc, work, class, unit),
+        Spot::Named => at_named(work, class, unit),
         Spot::Values => at_values(alloc, work, class, unit),
     }
 }

@@ -17,6 +17,23 @@ use std::mem;
 /// A space.
 const SPACE: u16 = 32;
 
+/// The most items of a list that are moved to a list of their own.
+const FEW: usize = 64;
+
+/// The items of a list, which is empty then. Few are moved to a list that has no room for more, and the room that they leave is used again: most lists of a sheet have
+/// one item, and room for four.
+fn take_items<T: Drop>(alloc: Global, list: &mut Vec<T>) -> Result<Vec<T>, Memory>
+    ensures taken { IfOk result (λ v. v.items ≡ list.old.items) }
+    ensures rest { OnOk result (list.new.items ≡ []) }
+{
+    if list.len() > FEW {
+        return Ok(mem::replace(list, Vec::new(alloc)));
+    }
+    let mut items = Vec::with_capacity(alloc, list.len())?;
+    items.append(list)?;
+    Ok(items)
+}
+
 /// White space between compounds is one space.
 pub fn join(text: &mut Vec<u16>, place: Where) -> Result<(), Memory>
     ensures { OnOk result (text.new.items ≡ g.joined (where_of place) text.old.items) }
@@ -70,7 +87,7 @@ pub fn push_declaration(alloc: Global, work: &mut Work) -> Result<(), Memory>
     ensures { OnOk result (body_of work.new ≡ s.with_declaration (body_of work.old) work.old.name.items work.old.values.items) }
 {
     let name = Units::from_units(alloc, &work.name)?;
-    let values = mem::replace(&mut work.values, Vec::new(alloc));
+    let values = take_items(alloc, &mut work.values)?;
     work.declarations.push((name, values))?;
     Ok(())
 }
@@ -79,8 +96,8 @@ pub fn push_declaration(alloc: Global, work: &mut Work) -> Result<(), Memory>
 pub fn push_rule(alloc: Global, work: &mut Work) -> Result<(), Memory>
     ensures { OnOk result (place_of (Spot.Selecting Where.Wanted) work.new ≡ g.selecting g.wanted (s.ruled (body_of work.old)) [] []) }
 {
-    let selectors = mem::replace(&mut work.selectors, Vec::new(alloc));
-    let decls = mem::replace(&mut work.declarations, Vec::new(alloc));
+    let selectors = take_items(alloc, &mut work.selectors)?;
+    let decls = take_items(alloc, &mut work.declarations)?;
     work.rules.push(CssRule { selectors, decls })?;
     work.text.clear();
     Ok(())
