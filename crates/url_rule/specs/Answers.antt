@@ -1,5 +1,5 @@
 -- What is so of every answer.
-use Rattle.std.specs.Prelude.{◌≡◌, ◌⊎◌, ℕ, List, ◌++◌, true, Option, option_map, Ok, codes}
+use Rattle.std.specs.Prelude.{◌≡◌, ◌⊎◌, ℕ, List, ◌++◌, true, Option, option_map, Ok, codes, ◌<◌, length}
 use Rattle.std.specs.Str.{all_scalars}
 use Rattle.url.specs.Ascii.{number_sign, question_mark}
 use Rattle.url.specs.Input.{trim_c0_control_and_space, strip_tabs_and_new_lines, split_once, lowercase}
@@ -14,9 +14,9 @@ use Rattle.url_rule.specs.Reading.{may_be_named}
 abbrev pub IsNamed : List Row → UriKind → Option Parts → List ℕ → List ℕ → Type 0
 IsNamed rows k base us vs = (u : Parts) × (parse_url base (utf8_of us) ≡ Ok u) × (may_be_named rows k u ≡ true) × (vs ≡ serialize u)
 
--- `http://` or `https://`, and what follows
+-- `http://` or `https://`, and more
 abbrev pub IsOfWeb : List ℕ → Type 0
-IsOfWeb vs = (rest : List ℕ) × ((vs ≡ codes "http://" ++ rest) ⊎ (vs ≡ codes "https://" ++ rest))
+IsOfWeb vs = (rest : List ℕ) × (0 < length rest) × ((vs ≡ codes "http://" ++ rest) ⊎ (vs ≡ codes "https://" ++ rest))
 
 -- the units are those of characters: no surrogate stands alone
 abbrev pub OfChars : List ℕ → Type 0

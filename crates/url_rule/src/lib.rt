@@ -23,7 +23,7 @@ pub use asks::Asks;
 pub use rule::UriRule;
 
 /// What is answered is a link to a place in the same document, as it stands, or the text of a URL that the text names and the table allows, with a host, which begins
-/// with `http://` or `https://`.
+/// with `http://` or `https://` and goes on.
 pub fn what_is_answered_is_of_the_web()
     ensures { (rows : List Row) (k : UriKind) (base : Option Parts) (us vs : List ℕ) → read rows k base us ≡ Some vs
         → ((stays k us ≡ true) × (vs ≡ us)) ⊎ (IsNamed rows k base us vs × IsOfWeb vs) }
