@@ -1,20 +1,23 @@
 //! Texts of ES3: lists of 16-bit units (ECMA-262 third edition, 4.3.16 and 8.4).
 #![tactic(auto)]
 
-ghost use Rattle.std.specs.Prelude.{◌≡◌, ℕ, ◌+◌, ◌<◌, ◌≤◌, ◌^◌, ◌↔◌, ◌++◌, [], List, length, slice_get, vec_len, IsTrue, IfOk, IfSome, OnOk, OnErr, All};
+ghost use Rattle.std.specs.Prelude.{◌≡◌, ℕ, ◌+◌, ◌<◌, ◌≤◌, ◌^◌, ◌↔◌, ◌++◌, [], List, length, slice_get, IsTrue, IfOk, IfSome, OnOk, OnErr, All};
 ghost use Rattle.std.specs.List.{slice_range};
-ghost use Rattle.caja_units.specs.Units.{same_units, comes_before, first_place, is_hidden};
+ghost use Rattle.caja_units.specs.Units.{IsText, same_units, comes_before, first_place, is_hidden};
 ghost use Rattle.caja_units.specs.Utf8.{decoded, Decodes, utf8_of};
 ghost use Rattle.caja_units.specs.Literal.{literal};
 ghost use Rattle.caja_units.specs.Index.{array_index};
 
+mod compare;
 mod decode;
+mod hashing;
 mod print;
 mod search;
 
 use std::alloc::{AllocError, AllocFailed, Global};
 use std::marker::Model;
 use std::str;
+use text_storage::Text;
 
 /// The most units that a text has: 2^32 - 2.
 const MOST_UNITS: usize = 4_294_967_294;
@@ -70,10 +73,10 @@ impl From<Memory> for Utf8Fault {
 }
 
 /// A text: a list of 16-bit units (ES3 8.4). Places are counted in units, from 0. A text has at most 2^32 - 2 units:
-/// what would give a longer one answers want of memory.
+/// what would give a longer one answers want of memory. Copies share their units, and a long text that is joined shares them too.
 #[derive(Debug, Drop)]
 pub struct Units {
-    units: Vec<u16>,
+    text: Text,
 }
 
 impl Model for Units {
@@ -82,9 +85,9 @@ impl Model for Units {
 
     ghost Value = { List ℕ };
 
-    ghost view = { λ text. text.units.items };
+    ghost view = { λ units. units.text };
 
-    ghost invariant = { λ text. IsText text.units.items };
+    ghost invariant = { λ units. IsText units.text };
 }
 
 impl Units {
@@ -100,7 +103,7 @@ impl Units {
                 if units.len() > MOST_UNITS {
                     return Err(Utf8Fault::Memory);
                 }
-                Ok(Units::new(units))
+                Ok(Units::new(Text::of_list(alloc, units)?))
             }
             Err(fault) => Err(Utf8Fault::NotUtf8(fault.valid_up_to() as u32)),
         }
@@ -113,8 +116,7 @@ impl Units {
         if bytes.len() > MOST_UNITS {
             return Err(Memory);
         }
-        let units = bytes.iter().map(|byte| u16::from(*byte)).collect(alloc)?;
-        Ok(Units::new(units))
+        Ok(Units::new(Text::of_ascii(alloc, bytes)?))
     }
 
     /// The text of a list of units.
@@ -124,15 +126,15 @@ impl Units {
         if units.len() > MOST_UNITS {
             return Err(Memory);
         }
-        Ok(Units::new(Vec::from_slice(alloc, units)?))
+        Ok(Units::new(Text::of(alloc, units)?))
     }
 
     /// The text of these units.
-    fn new(units: Vec<u16>) -> Units
-        requires { vec_len units ≤ 4294967294 }
-        ensures { result ≡ units.items }
+    fn new(text: Text) -> Units
+        requires { IsText text }
+        ensures { result ≡ text }
     {
-        Units { units }
+        Units { text }
     }
 
     /// Appends the text in UTF-8: a high surrogate and the low one behind it are one character, and any other
@@ -141,8 +143,10 @@ impl Units {
         ensures ok { OnOk result (out.new.items ≡ out.old.items ++ utf8_of self.now) }
         ensures err { OnErr result (out.new.items ≡ out.old.items) }
     {
-        let text = String::from_utf16_lossy(*self.units.allocator(), &self.units)?;
-        out.extend_from_slice(text.as_bytes())?;
+        match self.text.flat() {
+            Some(units) => decode::push_utf8(units, out)?,
+            None => decode::push_utf8(&self.text.all(*out.allocator())?, out)?,
+        }
         Ok(())
     }
 
@@ -150,7 +154,10 @@ impl Units {
     pub fn to_ascii_literal(&self, alloc: Global) -> Result<Vec<u8>, Memory>
         ensures { IfOk result (λ bytes. bytes.items ≡ literal self.now) }
     {
-        Ok(print::literal(alloc, &self.units)?)
+        match self.text.flat() {
+            Some(units) => Ok(print::literal(alloc, units)?),
+            None => Ok(print::literal(alloc, &self.text.all(alloc)?)?),
+        }
     }
 
     /// How many units there are.
@@ -159,14 +166,14 @@ impl Units {
         ensures bound { result ≤ 4294967294 }
         ensures small { All (λ u. u < 65536) self.now }
     {
-        self.units.len()
+        self.text.len()
     }
 
     /// Whether there is no unit.
     pub fn is_empty(&self) -> bool
         ensures { IsTrue result ↔ (self.now ≡ []) }
     {
-        self.units.is_empty()
+        self.text.len() == 0
     }
 
     /// The unit at a place, and None exactly past the end.
@@ -174,7 +181,7 @@ impl Units {
         ensures is { result ≡ slice_get self.now i }
         ensures small { IfSome result (λ u. u < 65536) }
     {
-        self.units.get(i).copied()
+        self.text.at(i)
     }
 
     /// Whether the two texts have the same units (ES3 11.9.6).
@@ -182,7 +189,10 @@ impl Units {
         ensures is { result ≡ same_units self.now o.now }
         ensures equal { IsTrue result ↔ (self.now ≡ o.now) }
     {
-        self.units == o.units
+        match (self.text.flat(), o.text.flat()) {
+            (Some(units), Some(others)) => units == others,
+            _ => compare::are_same(&self.text, &o.text),
+        }
     }
 
     /// Whether this text comes before the other (ES3 11.8.5): the first unit that differs decides, and a proper
@@ -190,14 +200,20 @@ impl Units {
     pub fn before(&self, o: &Units) -> bool
         ensures { result ≡ comes_before self.now o.now }
     {
-        self.units.as_slice() < o.units.as_slice()
+        match (self.text.flat(), o.text.flat()) {
+            (Some(units), Some(others)) => units < others,
+            _ => compare::is_before(&self.text, &o.text),
+        }
     }
 
     /// The first place not before `from` at which the part stands (ES3 15.5.4.7), and None exactly where there is none.
     pub fn index_of(&self, part: &Units, from: usize) -> Option<usize>
         ensures { result ≡ first_place self.now part.now from }
     {
-        search::first_place(&self.units, &part.units, from)
+        match (self.text.flat(), part.text.flat()) {
+            (Some(units), Some(part)) => search::first_place(units, part, from),
+            _ => compare::first_place(&self.text, &part.text, from),
+        }
     }
 
     /// The units from the place `from` up to the place `to`, without the latter.
@@ -206,48 +222,48 @@ impl Units {
         requires within { to ≤ length self.now }
         ensures { IfOk result (λ text. text ≡ slice_range self.now from to) }
     {
-        Units::from_units(alloc, &self.units[from..to])
+        Ok(Units::new(self.text.part(alloc, from, to)?))
     }
 
     /// This text with the other behind it.
     pub fn join(&self, alloc: Global, o: &Units) -> Result<Units, Memory>
         ensures { IfOk result (λ text. text ≡ self.now ++ o.now) }
     {
-        if self.units.len() + o.units.len() > MOST_UNITS {
+        if o.is_empty() {
+            return self.copy(alloc);
+        }
+        if self.is_empty() {
+            return o.copy(alloc);
+        }
+        if self.len() + o.len() > MOST_UNITS {
             return Err(Memory);
         }
-        Ok(Units::new(joined(alloc, &self.units, &o.units)?))
+        Ok(Units::new(self.text.join(alloc, &o.text)?))
     }
 
     /// A copy.
-    pub fn copy(&self, alloc: Global) -> Result<Units, Memory>
+    pub fn copy(&self, _alloc: Global) -> Result<Units, Memory>
         ensures { IfOk result (λ text. text ≡ self.now) }
     {
-        Units::from_units(alloc, &self.units)
+        Ok(Units {
+            text: self.text.share()?,
+        })
     }
 
     /// The array index that the text is, if it is one (ES3 15.4): decimal digits with no leading zero, below 2^32 - 1.
     pub fn canonical_index(&self) -> Option<u32>
         ensures { result ≡ array_index self.now }
     {
-        search::array_index(&self.units)
+        search::array_index(self.text.flat()?)
     }
 
     /// Whether the text ends in two underscores, as the names do that no script may name.
     pub fn ends_hidden(&self) -> bool
         ensures { result ≡ is_hidden self.now }
     {
-        self.units.ends_with(&HIDDEN_END)
+        match self.text.flat() {
+            Some(units) => units.ends_with(&HIDDEN_END),
+            None => compare::ends_hidden(&self.text),
+        }
     }
-}
-
-/// The units of the first list, and behind them those of the second.
-fn joined(alloc: Global, first: &[u16], second: &[u16]) -> Result<Vec<u16>, AllocError>
-    requires { length first.now + length second.now < 2 ^ 32 }
-    ensures { IfOk result (λ units. units.items ≡ first.now ++ second.now) }
-{
-    let mut units = Vec::with_capacity(alloc, first.len() + second.len())?;
-    units.extend_from_slice(first)?;
-    units.extend_from_slice(second)?;
-    Ok(units)
 }

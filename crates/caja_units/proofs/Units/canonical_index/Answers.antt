@@ -1,0 +1,7 @@
+use Rattle.std.proofs.Common.{length, ap, sym, ◌∙◌, arith}
+use Rattle.caja_units.proofs.Indices.{array_index-none, not_number-long}
+use Rattle.caja_units.proofs.Units.canonical_index.Goals as goal
+
+pub returns-in_err-flat : goal.returns-in_err-flat
+returns-in_err-flat c =
+    c.from_residual.ensures ∙ sym (array_index-none c.args.self.now (λ n lt e. not_number-long c.args.self.now (omega (arith, c.in_err-flat.ensures.long, ap length c.self.view_is)) n (omega arith) e))
