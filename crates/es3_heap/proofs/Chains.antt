@@ -1,18 +1,22 @@
 -- A step up a chain of prototypes.
-use Rattle.std.proofs.Common.{◌≡◌, ℕ, suc, false, List, [], ◌∷◌, ◌++◌, append_assoc, Option, Some, None, Bor, refl, sym, ◌∙◌}
+use Rattle.std.proofs.Common.{◌≡◌, ℕ, suc, false, List, [], ◌∷◌, ◌++◌, append_assoc, Option, Some, None, Bor, refl, ◌∙◌}
 use Rattle.std.specs.Option.{option_copied, is_some}
-use Rattle.es3_heap.specs.Objects.{Property, Objects, object_at, props_of, proto_of}
-use Rattle.es3_heap.specs.Properties.{find, own, lookup_from}
+use Rattle.property_tables.specs.declared.field.Field.{Field}
+use Rattle.es3_objects.specs.declared.value.Value.{Value}
+use Rattle.es3_objects.specs.declared.value.Attrs.{Attrs}
+use Rattle.es3_heap.specs.Objects.{Objects, object_at, proto_of}
+use Rattle.es3_objects.proofs.Listed.{seen}
+use Rattle.es3_heap.specs.Properties.{own, lookup_from}
 use Rattle.es3_heap.specs.Enumerating.{added_keys, keys_from}
 
-nothing_copied : (r : Option (Bor Property)) → is_some r ≡ false → option_copied r ≡ None
-nothing_copied None h = refl
-nothing_copied (Some p) h = cc
+nothing_seen : (k : List ℕ) (r : Option (Bor (Field Value Attrs))) → is_some r ≡ false → seen k (option_copied r) ≡ None
+nothing_seen k None h = refl
+nothing_seen k (Some p) h = cc
 
 -- where an object has no property of the key, its prototype is next
-pub lookup_from-above : (n m : ℕ) (h : Objects) (o : ℕ) (k : List ℕ) (ps : List Property) (r : Option (Bor Property)) → n ≡ suc m → ps ≡ props_of (object_at h o) → option_copied r ≡ find k ps → is_some r ≡ false → lookup_from n h (Some o) k ≡ lookup_from m h (proto_of (object_at h o)) k
-lookup_from-above n m h o k ps r more these here none =
-    let missing : own h o k ≡ None = rw (← these) (sym here ∙ nothing_copied r none) in
+pub lookup_from-above : (n m : ℕ) (h : Objects) (o : ℕ) (k : List ℕ) (r : Option (Bor (Field Value Attrs))) → n ≡ suc m → own h o k ≡ seen k (option_copied r) → is_some r ≡ false → lookup_from n h (Some o) k ≡ lookup_from m h (proto_of (object_at h o)) k
+lookup_from-above n m h o k r more here none =
+    let missing : own h o k ≡ None = here ∙ nothing_seen k r none in
     rw (more, missing) refl
 
 -- the keys that an object adds, and then those of the prototypes above it

@@ -1,3 +1,4 @@
-pub mod Keys
 pub mod Chains
+pub mod Items
 pub mod Laws
+pub mod Names

@@ -1,28 +1,33 @@
--- An array gets items in the place of those that it had (ES3 15.4.5.1).
-use Rattle.std.specs.Prelude.{ℕ, ◌+◌, Bool, false, not, List, [], ◌∷◌, Option, Some, None, length, nat_lt, pos}
-use Rattle.std.specs.List.{filter}
-use Rattle.caja_units.specs.Index.{array_index, number_units}
-use Rattle.es3_heap.specs.declared.value.Value.{Value}
-use Rattle.es3_heap.specs.declared.value.Value.TheVariants.{Num}
-use Rattle.es3_heap.specs.Objects.{Property, Objects, plain_attrs, fixed_attrs, object_at, props_of}
-use Rattle.es3_heap.specs.Properties.{length_key, defined, with_props}
-
--- whether a property is an item at or past an index
-abbrev pub is_from : ℕ → Option ℕ → Bool
-is_from n None = false
-is_from n (Some i) = not (nat_lt i n)
-
-abbrev pub is_past : ℕ → Property → Bool
-is_past n p = is_from n (array_index p.key)
-
--- items from an index on: one that is there keeps its place among the properties, and a new one goes last
-abbrev pub with_items : ℕ → List Value → List Property → List Property
-with_items i [] ps = ps
-with_items i (v ∷ vs) ps = with_items (i + 1) vs (defined (number_units i) v plain_attrs ps)
-
--- the properties of an array that gets these items: those past the new length go
-abbrev pub items_set : List Value → List Property → List Property
-items_set vs ps = with_items 0 vs (defined length_key (Num (pos (length vs))) fixed_attrs (filter (λ p. not (is_past (length vs) p)) ps))
+-- The items of an array of a store, and how it gets others in their place (ES3 15.4.5.1).
+pub use Rattle.es3_objects.specs.Items.{is_from, is_past, with_items, items_set}
+use Rattle.std.specs.Prelude.{ℕ, zero, suc, ◌+◌, ◌-◌, List, [], ◌∷◌, ◌++◌, Option, Some, None, length, slice_get, take}
+use Rattle.caja_units.specs.Index.{number_units}
+use Rattle.es3_objects.specs.declared.value.Value.{Value}
+use Rattle.es3_heap.specs.Objects.{Objects, object_at, props_of}
+use Rattle.es3_heap.specs.Properties.{value_of, length_key, length_of, own, with_props}
 
 abbrev pub set_items : Objects → ℕ → List Value → Objects
 set_items h o vs = with_props h o (object_at h o) (items_set vs (props_of (object_at h o)))
+
+-- n items of an array from an index on; a hole is undefined
+abbrev pub items_from : ℕ → ℕ → Objects → ℕ → List Value
+items_from zero i h o = []
+items_from (suc n) i h o = value_of (own h o (number_units i)) ∷ items_from n (i + 1) h o
+
+abbrev pub array_items : Objects → ℕ → List Value
+array_items h o = items_from (length_of (value_of (own h o length_key))) 0 h o
+
+-- 15.4.4.7: an array gets items behind those that it has
+abbrev pub append_items : Objects → ℕ → List Value → Objects
+append_items h o vs = set_items h o (array_items h o ++ vs)
+
+-- 15.4.4.6: the last item of an array, and the array without it
+abbrev pub last_item : Objects → ℕ → Option Value
+last_item h o = let xs = array_items h o in slice_get xs (length xs - 1)
+
+abbrev pub left_without : Option Value → List Value → ℕ → Objects → Objects
+left_without None xs o h = h
+left_without (Some x) xs o h = set_items h o xs
+
+abbrev pub without_last : Objects → ℕ → Objects
+without_last h o = let xs = array_items h o in left_without (last_item h o) (take (length xs - 1) xs) o h

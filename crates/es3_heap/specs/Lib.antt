@@ -3,5 +3,4 @@ pub mod Properties
 pub mod Enumerating
 pub mod Making
 pub mod Items
-pub mod Reading
 pub mod Store

@@ -1,7 +1,7 @@
 -- What a store keeps beside its objects.
 use Rattle.std.specs.Prelude.{◌≡◌, ◌≤◌, ℕ, List, length}
-use Rattle.es3_heap.specs.declared.value.Value.{Value}
-use Rattle.es3_heap.specs.declared.value.Value.TheVariants.{Undefined}
+use Rattle.es3_objects.specs.declared.value.Value.{Value}
+use Rattle.es3_objects.specs.declared.value.Value.TheVariants.{Undefined}
 use Rattle.es3_heap.specs.Objects.{Object}
 use Rattle.es3_heap.specs.Properties.{length_key}
 

@@ -1,19 +1,19 @@
 //! The store: all objects of a run, each named by its number (ES3 8.6).
 
-ghost use Rattle.std.specs.Prelude.{◌≡◌, ◌≤◌, IfOk, OnOk, OnErr, ◌++◌, option_map, is_some, length, slice_get, slice_set};
+ghost use Rattle.std.specs.Prelude.{◌≡◌, ◌<◌, ◌≤◌, IfOk, OnOk, OnErr, ◌++◌, option_map, is_some, length, slice_get, slice_set};
 ghost use Rattle.std.specs.Option.{option_copied};
 ghost use Rattle.es3_heap.specs.Objects.{object_at, props_of, proto_of, callable_of, tag_of, class_of, with_object};
 ghost use Rattle.es3_heap.specs.Properties.{own, lookup, get, can_put, put, define, can_delete, delete, with_props, lengthened, written};
-ghost use Rattle.es3_heap.specs.Items.{set_items};
+ghost use Rattle.es3_heap.specs.Items.{set_items, array_items, append_items, last_item, without_last};
 ghost use Rattle.es3_heap.specs.Enumerating.{own_keys, shadowed, added_keys, keys};
 ghost use Rattle.es3_heap.specs.Making.{proto_id, first_objects, new_objects, made, made_function, array_object, error_object, count_at, raised, with_tag, awaits_name, tagged, named};
-ghost use Rattle.es3_heap.specs.Reading.{property, kind_of, maker_of};
+ghost use Rattle.es3_objects.specs.Reading.{property, kind_of, maker_of};
+ghost use Rattle.es3_objects.specs.Held.{names_of};
+ghost use Rattle.caja_units.specs.Index.{number_units};
 
-use crate::object::{Callable, Object};
-use crate::slots::Slot;
-use crate::value::{Attrs, Class, FuncKind, ObjId, Proto, Tag, Value};
-use crate::{items, slots};
 use caja_units::{Memory, Units};
+use es3_objects::{Attrs, Callable, Class, FuncKind, Held, Name, ObjId, Object, Proto, Tag, Value};
+use property_tables::index_key;
 use std::alloc::Global;
 use std::marker::Model;
 
@@ -97,16 +97,6 @@ impl Heap {
         self.objects.get(o.number() as usize)
     }
 
-    /// The properties of an object.
-    fn slots(&self, o: ObjId) -> &[Slot]
-        ensures { result.now ≡ props_of (object_at self.now o) }
-    {
-        match self.object(o) {
-            Some(object) => &object.slots,
-            None => &[],
-        }
-    }
-
     /// An object's prototype (ES3 8.6.2, [[Prototype]]).
     pub fn proto_of(&self, o: ObjId) -> Option<ObjId>
         ensures { result ≡ proto_of (object_at self.now o) }
@@ -155,22 +145,29 @@ impl Heap {
         }
     }
 
+    /// What an object itself has at a key.
+    fn find(&self, o: ObjId, k: &Units) -> Option<&Held>
+        ensures { own self.now o k.now ≡ option_map (λ f. property k.now f.value f.attrs) (option_copied result) }
+    {
+        self.object(o)?.props.find(&self.length_key, k)
+    }
+
     /// An object's own property, and None exactly where it has none of that key.
     pub fn own(&self, o: ObjId, k: &Units) -> Option<(&Value, Attrs)>
         ensures { own self.now o k.now ≡ option_map (λ p. property k.now p.0.now p.1) result }
     {
-        let slot = slots::find(self.slots(o), k)?;
-        Some((&slot.value, slot.attrs))
+        let held = self.find(o, k)?;
+        Some((&held.value, held.attrs))
     }
 
     /// The property of a key of an object or of the first prototype above it that has one.
-    fn lookup(&self, o: ObjId, k: &Units) -> Option<&Slot>
-        ensures { option_copied result ≡ lookup self.now o k.now }
+    fn lookup(&self, o: ObjId, k: &Units) -> Option<&Held>
+        ensures { lookup self.now o k.now ≡ option_map (λ f. property k.now f.value f.attrs) (option_copied result) }
     {
         let mut next = Some(o);
         for _above in 0..self.objects.len() {
             let here = next?;
-            let found = slots::find(self.slots(here), k);
+            let found = self.find(here, k);
             if found.is_some() {
                 return found;
             }
@@ -184,7 +181,7 @@ impl Heap {
         ensures { result.now ≡ get self.now o k.now }
     {
         match self.lookup(o, k) {
-            Some(slot) => &slot.value,
+            Some(held) => &held.value,
             None => &self.undefined,
         }
     }
@@ -216,7 +213,7 @@ impl Heap {
         ensures { result ≡ can_put self.now o k.now }
     {
         match self.lookup(o, k) {
-            Some(slot) => !slot.attrs.read_only,
+            Some(held) => !held.attrs.read_only,
             None => true,
         }
     }
@@ -232,7 +229,7 @@ impl Heap {
             return Ok(());
         }
         let object = &mut self.objects[at];
-        object.put(self.alloc, &self.length_key, k, v)
+        object.put(&self.length_key, k, v)
     }
 
     /// Gives a property this value and these attributes, whatever was there.
@@ -246,7 +243,7 @@ impl Heap {
             return Ok(());
         }
         let object = &mut self.objects[at];
-        slots::define(&mut object.slots, self.alloc, k, v, a)
+        object.props.define(&self.length_key, k, v, a)
     }
 
     /// Takes an own property away (ES3 8.6.2.5). The answer is false exactly where it is DontDelete, and then it stays.
@@ -260,19 +257,142 @@ impl Heap {
             return true;
         }
         let object = &mut self.objects[at];
-        slots::delete(&mut object.slots, k)
+        object.props.delete(&self.length_key, k)
+    }
+
+    /// The keys of an object in order, each with the attributes of its property.
+    fn names(&self, o: ObjId) -> Result<Vec<Name>, Memory>
+        ensures { IfOk result (λ v. v.items ≡ names_of (props_of (object_at self.now o))) }
+    {
+        match self.object(o) {
+            Some(object) => object.props.names(self.alloc, &self.length_key),
+            None => Ok(Vec::new(self.alloc)),
+        }
+    }
+
+    /// What an object itself has at the text of a number.
+    fn find_at(&self, o: ObjId, i: u32) -> Result<Option<&Held>, Memory>
+        ensures { IfOk result (λ r. own self.now o (number_units i) ≡ option_map (λ f. property (number_units i) f.value f.attrs) (option_copied r)) }
+    {
+        if i == u32::MAX {
+            let key = index_key(self.alloc, i)?;
+            return Ok(self.find(o, &key));
+        }
+        match self.object(o) {
+            Some(object) => object.props.find_item(i),
+            None => Ok(None),
+        }
+    }
+
+    /// The property of the text of a number of an object or of the first prototype above it that has one.
+    fn lookup_at(&self, o: ObjId, i: u32) -> Result<Option<&Held>, Memory>
+        ensures { IfOk result (λ r. lookup self.now o (number_units i) ≡ option_map (λ f. property (number_units i) f.value f.attrs) (option_copied r)) }
+    {
+        let mut above = Some(o);
+        for _above in 0..self.objects.len() {
+            let Some(here) = above else {
+                return Ok(None);
+            };
+            let held = self.find_at(here, i)?;
+            if held.is_some() {
+                return Ok(held);
+            }
+            above = self.proto_of(here);
+        }
+        Ok(None)
+    }
+
+    /// As `own` by the text of a number; no text is made for an array whose items were made upwards.
+    pub fn own_index(&self, o: ObjId, i: u32) -> Result<Option<(&Value, Attrs)>, Memory>
+        ensures { IfOk result (λ r. own self.now o (number_units i) ≡ option_map (λ p. property (number_units i) p.0.now p.1) r) }
+    {
+        match self.find_at(o, i)? {
+            Some(held) => Ok(Some((&held.value, held.attrs))),
+            None => Ok(None),
+        }
+    }
+
+    /// As `get` by the text of a number.
+    pub fn get_index(&self, o: ObjId, i: u32) -> Result<&Value, Memory>
+        ensures { IfOk result (λ v. v.now ≡ get self.now o (number_units i)) }
+    {
+        match self.lookup_at(o, i)? {
+            Some(held) => Ok(&held.value),
+            None => Ok(&self.undefined),
+        }
+    }
+
+    /// As `put` by the text of a number.
+    pub fn put_index(&mut self, o: ObjId, i: u32, v: Value) -> Result<bool, Memory>
+        ensures answer { IfOk result (λ b. b ≡ can_put self.old o (number_units i)) }
+        ensures store { OnOk result (self.new ≡ put self.old o (number_units i) v) }
+        ensures kept { OnErr result (self.new ≡ self.old) }
+        ensures live { length self.new.list ≡ length self.old.list }
+    {
+        if i == u32::MAX {
+            let key = index_key(self.alloc, i)?;
+            return self.put(o, &key, v);
+        }
+        if !self.can_put_at(o, i)? {
+            return Ok(false);
+        }
+        self.write_at(o, i, v)?;
+        Ok(true)
+    }
+
+    /// Whether the property of the text of a number may be written (ES3 8.6.2.3).
+    fn can_put_at(&self, o: ObjId, i: u32) -> Result<bool, Memory>
+        ensures { IfOk result (λ b. b ≡ can_put self.now o (number_units i)) }
+    {
+        match self.lookup_at(o, i)? {
+            Some(held) => Ok(!held.attrs.read_only),
+            None => Ok(true),
+        }
+    }
+
+    /// Writes a value to an own property of an index that may be written.
+    fn write_at(&mut self, o: ObjId, i: u32, v: Value) -> Result<(), Memory>
+        requires { i < 4294967295 }
+        ensures ok { OnOk result (self.new ≡ with_props self.old o (object_at self.old o)
+            (lengthened (class_of (object_at self.old o)) (number_units i) (written (number_units i) v (props_of (object_at self.old o))))) }
+        ensures err { OnErr result (self.new ≡ self.old) }
+    {
+        let at = o.number() as usize;
+        if at >= self.objects.len() {
+            return Ok(());
+        }
+        let object = &mut self.objects[at];
+        object.put_item(&self.length_key, i, v)
+    }
+
+    /// As `delete` by the text of a number.
+    pub fn delete_index(&mut self, o: ObjId, i: u32) -> Result<bool, Memory>
+        ensures answer { IfOk result (λ b. b ≡ can_delete self.old o (number_units i)) }
+        ensures store { OnOk result (self.new ≡ delete self.old o (number_units i)) }
+        ensures kept { OnErr result (self.new ≡ self.old) }
+        ensures live { length self.new.list ≡ length self.old.list }
+    {
+        if i == u32::MAX {
+            let key = index_key(self.alloc, i)?;
+            return Ok(self.delete(o, &key));
+        }
+        let at = o.number() as usize;
+        if at >= self.objects.len() {
+            return Ok(true);
+        }
+        let object = &mut self.objects[at];
+        object.props.delete_item(i)
     }
 
     /// All own keys of an object, whatever their attributes, in the order in which the properties were made.
     pub fn own_keys(&self, o: ObjId) -> Result<Vec<Units>, Memory>
         ensures { IfOk result (λ v. v.items ≡ own_keys self.now o) }
     {
-        let mut keys = Vec::new(self.alloc);
-        for slot in self.slots(o) {
-            let key = slot.key.copy(self.alloc)?;
-            keys.push(key)?;
+        let mut all = Vec::new(self.alloc);
+        for name in self.names(o)? {
+            all.push(name.key)?;
         }
-        Ok(keys)
+        Ok(all)
     }
 
     /// Whether one of some objects has an own property of a key.
@@ -291,9 +411,9 @@ impl Heap {
     fn push_keys(&self, keys: &mut Vec<Units>, below: &[ObjId], o: ObjId) -> Result<(), Memory>
         ensures { OnOk result (keys.new.items ≡ keys.old.items ++ added_keys self.now below.now o) }
     {
-        for slot in self.slots(o) {
-            if !slot.attrs.dont_enum && !self.is_shadowed(below, &slot.key) {
-                keys.push(slot.key.copy(self.alloc)?)?;
+        for name in self.names(o)? {
+            if !name.attrs.dont_enum && !self.is_shadowed(below, &name.key) {
+                keys.push(name.key)?;
             }
         }
         Ok(())
@@ -382,7 +502,7 @@ impl Heap {
         ensures kept { OnErr result (self.new ≡ self.old) }
         ensures live { length self.old.list ≤ length self.new.list }
     {
-        let object = Object::plain(self.alloc, &self.length_key, class, proto)?;
+        let object = Object::plain(self.alloc, class, proto)?;
         self.push(object)
     }
 
@@ -410,7 +530,7 @@ impl Heap {
         ensures kept { OnErr result (self.new ≡ self.old) }
         ensures live { length self.old.list ≤ length self.new.list }
     {
-        let object = Object::array(self.alloc, &self.length_key, items)?;
+        let object = Object::array(self.alloc, items)?;
         self.push(object)
     }
 
@@ -425,7 +545,59 @@ impl Heap {
             return Ok(());
         }
         let object = &mut self.objects[at];
-        items::set_items(&mut object.slots, self.alloc, &self.length_key, items)
+        object.props.set_items(&self.length_key, items)
+    }
+
+    /// How many items an array has, 0 where its length is no number.
+    pub fn item_count(&self, o: ObjId) -> u64
+        ensures { result ≡ length (array_items self.now o) }
+    {
+        match self.object(o) {
+            Some(object) => object.props.length(&self.length_key),
+            None => 0,
+        }
+    }
+
+    /// Copies of the items of an array, in their order; a hole is undefined. There is no memory for 2^32 items or more.
+    pub fn items(&self, o: ObjId) -> Result<Vec<Value>, Memory>
+        ensures { IfOk result (λ v. v.items ≡ array_items self.now o) }
+    {
+        match self.object(o) {
+            Some(object) => object.props.items(self.alloc, &self.length_key),
+            None => Ok(Vec::new(self.alloc)),
+        }
+    }
+
+    /// Gives an array these items behind those that it has (ES3 15.4.4.7); a hole is filled by undefined. Where the array has nothing
+    /// but items in their order, only the new ones are gone through. After want of memory its items are not known.
+    pub fn append_items(&mut self, o: ObjId, items: Vec<Value>) -> Result<(), Memory>
+        ensures store { OnOk result (self.new ≡ append_items self.old o items.items) }
+        ensures live { length self.new.list ≡ length self.old.list }
+    {
+        let at = o.number() as usize;
+        if at >= self.objects.len() {
+            return Ok(());
+        }
+        let object = &mut self.objects[at];
+        object
+            .props
+            .append_items(self.alloc, &self.length_key, items)
+    }
+
+    /// Takes the last item of an array away (ES3 15.4.4.6), and answers it, or None where there is none; a hole before it is filled
+    /// by undefined. Where the array has nothing but items in their order, the others are not gone through. After want of memory the
+    /// items are not known.
+    pub fn take_last(&mut self, o: ObjId) -> Result<Option<Value>, Memory>
+        ensures answer { IfOk result (λ r. r ≡ last_item self.old o) }
+        ensures store { OnOk result (self.new ≡ without_last self.old o) }
+        ensures live { length self.new.list ≡ length self.old.list }
+    {
+        let at = o.number() as usize;
+        if at >= self.objects.len() {
+            return Ok(None);
+        }
+        let object = &mut self.objects[at];
+        object.props.take_last(self.alloc, &self.length_key)
     }
 
     /// A new error with its name and message (ES3 15.11).
@@ -435,7 +607,7 @@ impl Heap {
         ensures kept { OnErr result (self.new ≡ self.old) }
         ensures live { length self.old.list ≤ length self.new.list }
     {
-        let object = Object::error(self.alloc, proto, name, message)?;
+        let object = Object::error(self.alloc, &self.length_key, proto, name, message)?;
         self.push(object)
     }
 }

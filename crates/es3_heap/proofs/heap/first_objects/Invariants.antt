@@ -1,5 +1,5 @@
 use Rattle.std.proofs.Common.{◌≡◌, take, map, None}
-use Rattle.es3_heap.specs.declared.value.Class.TheVariants.{Object}
+use Rattle.es3_objects.specs.declared.value.Class.TheVariants.{Object}
 use Rattle.es3_heap.specs.Making.{bare}
 use Rattle.es3_heap.proofs.heap.first_objects.Given as goal
 

@@ -6,5 +6,5 @@ pub loop-above-preserved : goal.loop-above-preserved
 loop-above-preserved c =
     let more = c.len-above-end.result - c.loop-above._above in
     let left = c.len-above-end.result - (c.loop-above._above + 1) in
-    let step = lookup_from-above more left c.args.self.now c.in_ok-here.here c.args.k.now c.slots.result.now c.find-found.result (omega arith) c.slots.ensures c.find-found.ensures (cc) in
+    let step = lookup_from-above more left c.args.self.now c.in_ok-here.here c.args.k.now c.find-found.result (omega arith) c.find-found.ensures (cc) in
     cc (step, c.in_ok-here.was)

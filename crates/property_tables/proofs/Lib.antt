@@ -1,0 +1,4 @@
+pub mod Entries
+pub mod Present
+pub mod Slots
+pub mod Running
