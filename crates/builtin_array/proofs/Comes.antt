@@ -1,6 +1,6 @@
 -- What a method of arrays comes to at its receiver, and where it is none.
 use Rattle.std.proofs.Common.{◌≡◌, ℕ, Result, Ok, Err, sym, ap, ◌∙◌}
-use Rattle.es3_heap.specs.declared.value.Stop.{Stop}
+use Rattle.es3_objects.specs.declared.value.Stop.{Stop}
 use Rattle.es3_heap.specs.Objects.{Objects}
 use Rattle.heap_rows.specs.Doing.{Done}
 use Rattle.row_outcomes.specs.declared.Outcome.{Outcome}

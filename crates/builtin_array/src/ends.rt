@@ -6,12 +6,12 @@ ghost use Rattle.es3_convert.specs.Conversions.{array_items};
 ghost use Rattle.row_outcomes.specs.Comes.{Comes, row_done};
 ghost use Rattle.builtin_array.specs.Arrays.{counted, push, unshift, pop, shift, turn};
 
-use crate::items::count_of;
+use crate::items::{count_of, count_with};
 use crate::receivers::{open_array_of, refused};
 use caja_units::Memory;
 use es3_convert::{array_items, out_of_memory};
 use es3_heap::{Heap, ObjId, Stop, Value};
-use row_outcomes::{Outcome, change_array, copied};
+use row_outcomes::{MOST_ITEMS, Outcome, change_array, copied};
 use std::alloc::Global;
 
 /// Gives an array these items and answers how many they are; the run stops where they are 2^32 or more.
@@ -23,22 +23,15 @@ fn change_counted(h: &mut Heap, o: ObjId, items: Vec<Value>) -> Result<Outcome, 
     change_array(h, o, items, Value::Num(count))
 }
 
-/// The items of an array and then the arguments.
-fn before_args(alloc: Global, h: &Heap, o: ObjId, args: &[Value]) -> Result<Vec<Value>, Memory>
-    ensures { IfOk result (λ v. v.items ≡ array_items h.now o ++ args.now) }
-{
-    let mut items = array_items(alloc, h, o)?;
-    items.append(&mut copied(alloc, args)?)?;
-    Ok(items)
-}
-
 /// What `push` comes to at an array.
 fn push_to(alloc: Global, h: &mut Heap, o: ObjId, args: &[Value]) -> Result<Outcome, Stop>
     ensures outcome { Comes (push args.now o h.old) result h.new }
     ensures live { length h.old.list ≤ length h.new.list }
 {
-    let items = before_args(alloc, h, o, args).map_err(out_of_memory)?;
-    change_counted(h, o, items)
+    let count = count_with(h, o, args.len()).ok_or(Stop::Number)?;
+    let items = copied(alloc, args).map_err(out_of_memory)?;
+    h.append_items(o, items).map_err(out_of_memory)?;
+    Ok(Outcome::Value(Value::Num(count)))
 }
 
 /// The arguments and then the items of an array.
@@ -60,13 +53,15 @@ fn unshift_to(alloc: Global, h: &mut Heap, o: ObjId, args: &[Value]) -> Result<O
 }
 
 /// What `pop` comes to at an array.
-fn pop_of(alloc: Global, h: &mut Heap, o: ObjId) -> Result<Outcome, Stop>
+fn pop_of(h: &mut Heap, o: ObjId) -> Result<Outcome, Stop>
     ensures outcome { Comes (pop o h.old) result h.new }
     ensures live { length h.old.list ≤ length h.new.list }
 {
-    let mut items = array_items(alloc, h, o).map_err(out_of_memory)?;
-    match items.pop() {
-        Some(last) => change_array(h, o, items, last),
+    if h.item_count(o) > MOST_ITEMS as u64 {
+        return Err(Stop::Number);
+    }
+    match h.take_last(o).map_err(out_of_memory)? {
+        Some(last) => Ok(Outcome::Value(last)),
         None => Ok(Outcome::Value(Value::Undefined)),
     }
 }
@@ -148,7 +143,7 @@ pub fn pop(
 {
     let array = open_array_of(alloc, h, this).map_err(out_of_memory)?;
     match array {
-        Ok(o) => pop_of(alloc, h, o),
+        Ok(o) => pop_of(h, o),
         Err(why) => refused(alloc, h, by, why),
     }
 }

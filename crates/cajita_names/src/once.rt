@@ -73,3 +73,16 @@ pub fn vars_of(alloc: Global, declarations: &[Declaration<'_>]) -> Result<Vec<Un
     add_loop_variables(alloc, &mut names, declarations)?;
     Ok(names)
 }
+
+/// The names that heads with `in` alone declare, each once.
+///
+/// # Errors
+///
+/// `Memory` where memory is wanting.
+pub fn loop_names_of(alloc: Global, declarations: &[Declaration<'_>]) -> Result<Vec<Units>, Memory>
+    ensures { IfOk result (λ names. names.items ≡ once_after [] (names_of is_loop_variable (map declaration_of declarations.now))) }
+{
+    let mut names = Vec::new(alloc);
+    add_loop_variables(alloc, &mut names, declarations)?;
+    Ok(names)
+}

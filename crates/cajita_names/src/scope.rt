@@ -1,6 +1,6 @@
 //! What is declared around a part of a program, and what a name is there (ES3 10.1.4).
 
-ghost use Rattle.std.specs.Prelude.{◌≡◌, ◌++◌, map};
+ghost use Rattle.std.specs.Prelude.{◌≡◌, ◌++◌, map, not};
 ghost use Rattle.cajita_names.specs.Rules.{fixed_names, is_among as is_among_them};
 ghost use Rattle.cajita_names.specs.Scope as wanted;
 ghost use Rattle.cajita_names.specs.Views.{declaration_of, binding_of, scope_of};
@@ -115,8 +115,15 @@ impl Scope<'_> {
         }
     }
 
+    /// Whether something declares the name, or the module imports it.
+    pub fn knows(&self, name: &Units) -> bool
+        ensures { result ≡ not (wanted.is_unbound (wanted.bound (scope_of self.now) name.now)) }
+    {
+        !matches!(self.bound(name), Binding::Unbound)
+    }
+
     /// Whether a function stands around.
-    pub(crate) fn is_within(&self) -> bool
+    pub fn is_within(&self) -> bool
         ensures { result ≡ wanted.is_within (scope_of self.now) }
     {
         match self {

@@ -1,3 +1,4 @@
 pub mod Misplaced
 pub mod Order
 pub mod Parts
+mod Among

@@ -3,12 +3,10 @@
 ghost use Rattle.std.specs.Prelude.{◌≡◌, ◌++◌, []};
 ghost use Rattle.es3_tree.specs.Tree as tree;
 ghost use Rattle.es3_tree.specs.PlacedView as source;
-ghost use Rattle.cajita_names.specs.Rules.{is_among as is_among_them};
 ghost use Rattle.cajita_rules.specs.Faults as wanted;
 ghost use Rattle.cajita_rules.specs.Faults.{faults_in};
 ghost use Rattle.cajita_rules.specs.Found.{IsFirst};
 ghost use Rattle.cajita_names.specs.Views.{scope_of};
-ghost use Rattle.cajita_rules.specs.Keys.{keys_of};
 
 use crate::faults_of_statements::in_function_expression;
 use crate::faults_of_words::{member_key, property_key, used, written};
@@ -16,6 +14,7 @@ use crate::found::{Found, earlier, form_fault, picked, word_fault};
 use caja_units::{Memory, Units};
 use cajita_names::scope::Scope;
 use es3_tree::{Expr, Name, UnOp};
+use property_tables::TableProps;
 use std::alloc::Global;
 
 // What a target breaks besides: rule 0 is broken by what no tokens spell.
@@ -44,26 +43,17 @@ fn deleted(alloc: Global, operator: UnOp, at: u32, operand: &Expr) -> Result<Opt
     }
 }
 
-// Whether one of the properties has the key.
-fn has_key(fields: &[(Name, Expr)], key: &Units) -> bool
-    ensures { result ≡ is_among_them (keys_of fields.now) key.now }
-{
-    for (other, _) in fields {
-        if key.same(&other.text) {
-            return true;
-        }
-    }
-    false
-}
-
 // Rule 9: a key stands before in the same literal.
 fn repeated(alloc: Global, fields: &[(Name, Expr)]) -> Result<Option<Found>, Memory>
     ensures { IsFirst result (wanted.repeated [] (source.of_fields fields.now)) }
 {
+    let mut before = TableProps::new(alloc)?;
     let mut found = None;
-    for (i, (key, _)) in fields.iter().enumerate() {
-        let here = word_fault(alloc, 9, key, has_key(&fields[..i], &key.text))?;
+    for i in 0..fields.len() {
+        let (key, _) = &fields[i];
+        let here = word_fault(alloc, 9, key, before.get(&key.text).is_some())?;
         found = picked(found, here);
+        before.insert(&key.text, ())?;
     }
     Ok(found)
 }
