@@ -8,6 +8,8 @@ mod error_rows;
 #[cfg(test)]
 mod function_rows;
 #[cfg(test)]
+mod kept_rows;
+#[cfg(test)]
 mod number_rows;
 #[cfg(test)]
 mod object_rows;

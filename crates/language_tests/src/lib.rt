@@ -7,6 +7,8 @@ mod grouping_rows;
 #[cfg(test)]
 mod io_rows;
 #[cfg(test)]
+mod joined_rows;
+#[cfg(test)]
 mod lexer_rows;
 #[cfg(test)]
 mod lexer_tables;
