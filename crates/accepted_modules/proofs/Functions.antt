@@ -3,7 +3,7 @@ use Rattle.std.proofs.Common.{◌≡◌, ℕ, ◌+◌, Bool, true, false, List, 
 use Rattle.std.specs.Prelude.{◌||◌, IfSome}
 use Rattle.std.proofs.lemmas.List.Folds.{list_any-append}
 use Rattle.caja_units.specs.Units.{same_units}
-use Rattle.es3_heap.proofs.Keys.{same_key-refl}
+use Rattle.es3_objects.proofs.Keys.{same_key-refl}
 use Rattle.es3_tree.specs.Tree as t
 use Rattle.es3_tree.specs.Placed as p
 use Rattle.es3_tree.specs.Placed.{Placed, Word}

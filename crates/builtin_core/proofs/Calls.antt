@@ -2,11 +2,11 @@
 use Rattle.std.proofs.Common.{◌≡◌, ℕ, suc, ◌-◌, ◌≤◌, Bool, true, false, List, [], ◌∷◌, ◌++◌, length, map, take, drop, get_or, Result, Some, None, refl, ap, sym, ◌∙◌, subst, append_assoc, if◌then◌else◌, arith}
 use Rattle.std.specs.Prelude.{codes, is_some}
 use Rattle.std.proofs.Math.Seq.{take-length}
-use Rattle.es3_heap.specs.declared.value.Stop.{Stop}
-use Rattle.es3_heap.specs.declared.value.Value.{Value}
-use Rattle.es3_heap.specs.declared.value.Value.TheVariants as v
-use Rattle.es3_heap.specs.declared.value.Class.{Class}
-use Rattle.es3_heap.specs.declared.value.Class.TheVariants as class
+use Rattle.es3_objects.specs.declared.value.Stop.{Stop}
+use Rattle.es3_objects.specs.declared.value.Value.{Value}
+use Rattle.es3_objects.specs.declared.value.Value.TheVariants as v
+use Rattle.es3_objects.specs.declared.value.Class.{Class}
+use Rattle.es3_objects.specs.declared.value.Class.TheVariants as class
 use Rattle.es3_heap.specs.Objects.{Objects, object_at, class_of, callable_of}
 use Rattle.es3_heap.specs.Properties.{own}
 use Rattle.es3_convert.specs.Conversions.{array_items}

@@ -1,6 +1,6 @@
 -- What the rows of the constructors of errors come to.
 use Rattle.std.proofs.Common.{◌≡◌, ℕ, suc, List, [], ◌∷◌, length, refl}
-use Rattle.es3_heap.specs.declared.value.Value.{Value}
+use Rattle.es3_objects.specs.declared.value.Value.{Value}
 use Rattle.es3_heap.specs.Objects.{Objects}
 use Rattle.es3_heap.specs.Making.{error_object}
 use Rattle.es3_language.specs.Natives.{value_reply}

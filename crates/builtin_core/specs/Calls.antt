@@ -1,7 +1,7 @@
 -- What the methods of functions come to (ES3 15.3.4).
 use Rattle.std.specs.Prelude.{ℕ, Bool, true, List, [], Option, Some, None, codes, if◌then◌else◌}
-use Rattle.es3_heap.specs.declared.value.Value.{Value}
-use Rattle.es3_heap.specs.declared.value.Value.TheVariants as v
+use Rattle.es3_objects.specs.declared.value.Value.{Value}
+use Rattle.es3_objects.specs.declared.value.Value.TheVariants as v
 use Rattle.es3_heap.specs.Objects.{Objects, object_at, class_of}
 use Rattle.es3_convert.specs.Conversions.{array_items}
 use Rattle.es3_language.specs.Natives.{invoke_reply}

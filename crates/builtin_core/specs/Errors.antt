@@ -1,7 +1,7 @@
 -- The constructors of errors (ES3 15.11.1, 15.11.7), called as functions or by `new`.
 use Rattle.std.specs.Prelude.{ℕ, List, [], Result}
 use Rattle.plans.specs.Plans.{Fault}
-use Rattle.es3_heap.specs.declared.value.Proto.{Proto}
+use Rattle.es3_objects.specs.declared.value.Proto.{Proto}
 use Rattle.es3_heap.specs.Objects.{Objects}
 use Rattle.es3_heap.specs.Making.{error_object}
 use Rattle.es3_language.specs.Natives.{value_reply}

@@ -1,8 +1,8 @@
 -- What the functions of `Math` answer (ES3 15.8.2), and `Number` and `String` called as functions (15.7.1, 15.5.1), by the arguments and the objects.
 use Rattle.std.specs.Prelude.{ℤ, pos, Bool, List, [], ◌∷◌, Result, Ok, Err, int_lt, unsigned_abs}
 use Rattle.plans.specs.Plans.{Fault, number_fault}
-use Rattle.es3_heap.specs.declared.value.Value.{Value}
-use Rattle.es3_heap.specs.declared.value.Value.TheVariants as v
+use Rattle.es3_objects.specs.declared.value.Value.{Value}
+use Rattle.es3_objects.specs.declared.value.Value.TheVariants as v
 use Rattle.es3_heap.specs.Objects.{Objects}
 use Rattle.es3_convert.specs.Conversions.{and_then, text_of}
 use Rattle.es3_convert.specs.Numbers.{number_of}

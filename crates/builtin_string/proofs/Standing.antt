@@ -8,8 +8,8 @@ use Rattle.std.proofs.lemmas.Option.{slice_get_within, slice_get-get_or, get_or_
 use Rattle.caja_units.specs.Units as units
 use Rattle.caja_units.specs.Units.{stands_at}
 use Rattle.caja_units.proofs.Places.{first_place-found}
-use Rattle.es3_heap.specs.declared.value.Value.{Value}
-use Rattle.es3_heap.specs.declared.value.Value.TheVariants as v
+use Rattle.es3_objects.specs.declared.value.Value.{Value}
+use Rattle.es3_objects.specs.declared.value.Value.TheVariants as v
 use Rattle.rows.specs.Texts.{begins_with, first_place, last_place, pieces, split_by}
 
 -- the units behind the first one

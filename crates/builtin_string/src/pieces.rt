@@ -1,7 +1,7 @@
 //! The pieces of a text between the places at which another one stands.
 
 ghost use Rattle.std.specs.Prelude.{◌≡◌, ◌≢◌, ◌≤◌, [], ◌∷◌, IfOk, length, map};
-ghost use Rattle.es3_heap.specs.declared.value.Value.TheVariants as v;
+ghost use Rattle.es3_objects.specs.declared.value.Value.TheVariants as v;
 ghost use Rattle.rows.specs.Rows as r;
 ghost use Rattle.rows.specs.Texts.{split_by};
 ghost use Rattle.es3_convert.specs.Answers.{Answers};

@@ -2,7 +2,7 @@
 use Rattle.std.proofs.Common.{◌≡◌, ℕ, suc, ◌≤◌, ◌<◌, List, [], ◌∷◌, sym, subst, arith}
 use Rattle.plans.specs.Plans.{bind}
 use Rattle.acts.specs.Acts.{replied}
-use Rattle.es3_heap.specs.declared.value.Value.TheVariants as es
+use Rattle.es3_objects.specs.declared.value.Value.TheVariants as es
 use Rattle.es3_language.specs.Store.{Store, with_heap}
 use Rattle.es3_language.specs.References.{member}
 use Rattle.es3_language.specs.Meaning as Target

@@ -5,7 +5,7 @@ use Rattle.std.proofs.lemmas.List.{append-nil, append_assoc}
 use Rattle.plans.specs.Plans.{Fault, depth_fault, bind}
 use Rattle.acts.specs.Acts.{replied}
 use Rattle.matching.proofs.Rules.{both_stop, left_told}
-use Rattle.es3_heap.specs.declared.value.Value.TheVariants as es_value
+use Rattle.es3_objects.specs.declared.value.Value.TheVariants as es_value
 use Rattle.es3_heap.specs.Objects.{Objects}
 use Rattle.es3_convert.specs.Conversions.{text_of}
 use Rattle.es3_convert.specs.Numbers.{number_of}

@@ -10,7 +10,7 @@ use Rattle.matching.proofs.Rules.{right_enter}
 use Rattle.caja_units.specs.Units.{same_units, is_hidden}
 use Rattle.caja_units.specs.Index.{number_units}
 use Rattle.caja_units.proofs.Texts.{is_hidden-from_end}
-use Rattle.es3_heap.proofs.Keys.{same_key-refl}
+use Rattle.es3_objects.proofs.Keys.{same_key-refl}
 use Rattle.es3_language.specs.Store.{Store, name_value, with_slot}
 use Rattle.es3_language.specs.References.{slot, resolve}
 use Rattle.es3_language.specs.Expressions.{write_plan}
@@ -143,4 +143,4 @@ pub temp_evaluates : {H : Here} {T : Temps} (i : ℕ) (v : Value) → T H.act (t
 temp_evaluates i v is = record { on = λ go' next' r f. temp_read i v (λ e s1. bind (Target.on_value_of go' e s1) next') is r f }
 
 pub text_evaluates : {H : Here} {T : Temps} (us : List ℕ) → Evaluates H T (Rattle.es3_tree.specs.Tree.text us) (Rattle.cajita_meaning.specs.World.text us)
-text_evaluates us = record { on = λ go' next' r f. right_enter (f (Rattle.es3_heap.specs.declared.value.Value.TheVariants.Text us) refl (rel_pay r)) }
+text_evaluates us = record { on = λ go' next' r f. right_enter (f (Rattle.es3_objects.specs.declared.value.Value.TheVariants.Text us) refl (rel_pay r)) }

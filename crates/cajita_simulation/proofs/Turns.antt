@@ -7,7 +7,7 @@ use Rattle.acts.specs.Acts.{task, answer, replied}
 use Rattle.matching.specs.Sides.{Match}
 use Rattle.matching.proofs.Turn.{turn_simulated}
 use Rattle.matching.proofs.Rules.{both_end, both_stop}
-use Rattle.es3_heap.specs.declared.value.Value.TheVariants as es
+use Rattle.es3_objects.specs.declared.value.Value.TheVariants as es
 use Rattle.es3_heap.specs.Objects as heap
 use Rattle.es3_heap.specs.Objects.{Objects}
 use Rattle.es3_language.specs.Store.{Store, with_heap}

@@ -4,7 +4,7 @@ use Rattle.std.specs.Prelude.{slice_get, slice_set, is_some, nat_eq}
 use Rattle.std.specs.Cmp.Lexicographic.{same_text}
 use Rattle.std.proofs.lemmas.Bool.Decides.{nat_tests}
 use Rattle.caja_units.specs.Units.{same_units}
-use Rattle.es3_heap.proofs.Keys.{same_key-refl}
+use Rattle.es3_objects.proofs.Keys.{same_key-refl}
 use Rattle.es3_language.specs.Store as store
 use Rattle.es3_language.specs.Store.{Store, name_value, with_name, with_heap, with_slot}
 use Rattle.es3_language.specs.Arguments.{is_fixed, put_shared, write_slot}

@@ -1,7 +1,7 @@
 -- When the world of the direct meaning and the store of the interpreter are related, with the steps that both took.
 use Rattle.std.specs.Prelude.{◌≡◌, ℕ, ◌+◌, ◌*◌, ◌≤◌, ◌<◌, Bool, true, false, List, [], ◌∷◌, length, Some, slice_get, is_some}
 use Rattle.caja_units.specs.Units.{is_hidden}
-use Rattle.es3_heap.specs.declared.value.FuncKind.TheVariants as kind
+use Rattle.es3_objects.specs.declared.value.FuncKind.TheVariants as kind
 use Rattle.es3_heap.specs.Objects as heap
 use Rattle.es3_heap.specs.Objects.{Objects}
 use Rattle.es3_heap.specs.Properties.{own}

@@ -2,7 +2,7 @@
 -- tag, and what is known of a scope is known by its number in the interpreter's list.
 use Rattle.std.specs.Prelude.{◌≡◌, ℕ, ◌<◌, true, false, List, [], ◌∷◌, length, Option, Some, None, slice_get, if◌then◌else◌}
 use Rattle.caja_units.specs.Units.{is_hidden}
-use Rattle.es3_heap.specs.declared.value.Value.TheVariants as es
+use Rattle.es3_objects.specs.declared.value.Value.TheVariants as es
 use Rattle.es3_heap.specs.Objects.{Objects}
 use Rattle.es3_language.specs.Store as store
 use Rattle.es3_language.specs.Store.{Store, name_value}

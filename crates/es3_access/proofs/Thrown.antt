@@ -2,8 +2,8 @@
 use Rattle.std.proofs.Common.{◌≡◌, ℕ, List, length, ap, ◌∙◌}
 use Rattle.std.specs.Prelude.{codes}
 use Rattle.plans.specs.Plans.{ends}
-use Rattle.es3_heap.specs.declared.value.Value.TheVariants.{Obj}
-use Rattle.es3_heap.specs.declared.value.Proto.TheVariants as proto
+use Rattle.es3_objects.specs.declared.value.Value.TheVariants.{Obj}
+use Rattle.es3_objects.specs.declared.value.Proto.TheVariants as proto
 use Rattle.es3_heap.specs.Objects.{Objects, with_object}
 use Rattle.es3_heap.specs.Making.{error_object}
 use Rattle.es3_language.specs.Meaning.{Plan, threw, throw_error}

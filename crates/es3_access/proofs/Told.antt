@@ -1,10 +1,10 @@
 -- What is told of reads, writes and calls.
 use Rattle.std.proofs.Common.{◌≡◌, ℕ, true, false, List, Option, Some, None, refl, sym, ap, ◌∙◌, cond}
 use Rattle.caja_units.specs.Units.{is_hidden}
-use Rattle.es3_heap.specs.declared.value.Value.{Value}
-use Rattle.es3_heap.specs.declared.value.Value.TheVariants.{Obj}
-use Rattle.es3_heap.specs.declared.value.Tag.{Tag}
-use Rattle.es3_heap.specs.declared.value.Tag.TheVariants as tag
+use Rattle.es3_objects.specs.declared.value.Value.{Value}
+use Rattle.es3_objects.specs.declared.value.Value.TheVariants.{Obj}
+use Rattle.es3_objects.specs.declared.value.Tag.{Tag}
+use Rattle.es3_objects.specs.declared.value.Tag.TheVariants as tag
 use Rattle.es3_heap.specs.Objects.{Objects, object_at, tag_of}
 use Rattle.es3_language.specs.declared.Touch.{Touch}
 use Rattle.es3_language.specs.declared.Touch.TheVariants as touch

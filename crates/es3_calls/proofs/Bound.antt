@@ -2,8 +2,8 @@
 use Rattle.std.proofs.Common.{◌≡◌, ℕ, zero, suc, ◌+◌, ◌<◌, List, [], ◌∷◌, length, get_or, drop, sym, ap, ◌∙◌, arith, Global}
 use Rattle.std.specs.Prelude.{slice_get}
 use Rattle.std.specs.declared.rc.Rc.{Rc}
-use Rattle.es3_heap.specs.declared.value.Value.{Value}
-use Rattle.es3_heap.specs.declared.value.Value.TheVariants.{Undefined}
+use Rattle.es3_objects.specs.declared.value.Value.{Value}
+use Rattle.es3_objects.specs.declared.value.Value.TheVariants.{Undefined}
 use Rattle.es3_language.specs.Store.{Names, with_name, with_params, with_vars}
 use Rattle.es3_moves.specs.Code.{names_of}
 use Rattle.es3_calls.specs.Calls.{value_at}

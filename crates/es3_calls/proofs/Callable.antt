@@ -2,9 +2,9 @@
 use Rattle.std.proofs.Common.{◌≡◌, ℕ, ◌<◌, List, Option, Some, None, length, get_or, refl, ap, ◌∙◌}
 use Rattle.std.specs.Prelude.{slice_get, map, option_map}
 use Rattle.std.proofs.lemmas.Option.{slice_get-map, slice_get_read}
-use Rattle.es3_heap.specs.declared.value.FuncKind.{FuncKind}
+use Rattle.es3_objects.specs.declared.value.FuncKind.{FuncKind}
 use Rattle.es3_heap.specs.Objects.{Callable}
-use Rattle.es3_heap.specs.Reading.{kind_of, maker_of}
+use Rattle.es3_objects.specs.Reading.{kind_of, maker_of}
 use Rattle.es3_moves.specs.Texts.{plain_code}
 use Rattle.es3_moves.specs.declared.texts.Closure.{Closure}
 use Rattle.es3_calls.specs.Calls.{callable_parts}

@@ -2,8 +2,8 @@
 use Rattle.std.proofs.Common.{◌≡◌, ℕ, List, [], ◌∷◌, ◌++◌, Some, length, refl, ap, ◌∙◌, Vec, Global}
 use Rattle.std.specs.Prelude.{map, slice_get, slice_set}
 use Rattle.es3_tree.specs.Tree as t
-use Rattle.es3_heap.specs.declared.value.Value.{Value}
-use Rattle.es3_heap.specs.declared.value.Value.TheVariants.{Obj}
+use Rattle.es3_objects.specs.declared.value.Value.{Value}
+use Rattle.es3_objects.specs.declared.value.Value.TheVariants.{Obj}
 use Rattle.es3_heap.specs.Objects.{Objects}
 use Rattle.es3_language.specs.Store.{Owner, own_name, Scope, Code, Shared, Store, Names, with_name, scope_at, renamed, with_scope, with_slot, with_code}
 use Rattle.es3_language.specs.Hoisting.{code_of}

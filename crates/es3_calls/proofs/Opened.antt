@@ -3,7 +3,7 @@ use Rattle.std.proofs.Common.{◌≡◌, ℕ, ◌+◌, Bool, true, false, List, 
 use Rattle.std.specs.Prelude.{nat_lt}
 use Rattle.plans.specs.Plans.{stops, depth_fault}
 use Rattle.es3_tree.specs.Tree as t
-use Rattle.es3_heap.specs.declared.value.Value.{Value}
+use Rattle.es3_objects.specs.declared.value.Value.{Value}
 use Rattle.es3_language.specs.Store.{Code, Names, Owner, Scope, Store, with_scope}
 use Rattle.es3_language.specs.Tasks.{Completion, Env, Plan}
 use Rattle.es3_language.specs.Lists.{list}

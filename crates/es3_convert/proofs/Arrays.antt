@@ -5,13 +5,14 @@ use Rattle.std.proofs.lemmas.List.{take_more, append-nil}
 use Rattle.std.proofs.lemmas.Option.{slice_get_within, get_or_from_slice_get}
 use Rattle.plans.specs.Plans.{Fault}
 use Rattle.caja_units.specs.Index.{number_units}
-use Rattle.es3_heap.specs.declared.value.Value.{Value}
-use Rattle.es3_heap.specs.declared.value.Value.TheVariants as v
-use Rattle.es3_heap.specs.declared.value.Stop.{Stop}
+use Rattle.es3_objects.specs.declared.value.Value.{Value}
+use Rattle.es3_objects.specs.declared.value.Value.TheVariants as v
+use Rattle.es3_objects.specs.declared.value.Stop.{Stop}
 use Rattle.es3_heap.specs.Objects.{Objects}
 use Rattle.es3_heap.specs.Properties.{own, value_of, length_of, length_key}
 use Rattle.es3_convert.specs.Answers.{Answers}
 use Rattle.es3_convert.specs.Conversions.{and_then, primitive_text, items_from, array_items, item_text, tail_text, joined, text_within}
+use Rattle.es3_heap.proofs.Items.{items_from-item}
 use Rattle.es3_convert.proofs.Faults.{and_then-fault}
 use Rattle.es3_convert.specs.Texts.{before_item, rest_text, array_text, object_text}
 
@@ -29,21 +30,6 @@ rest_text-item (suc i) text sep x xs = refl
 behind : (before us mid : List ℕ) (tail : Result (List ℕ) Fault) → and_then (and_then tail (λ ws. Ok (mid ++ (us ++ ws)))) (λ ws. Ok (before ++ ws)) ≡ and_then tail (λ ws. Ok ((before ++ (mid ++ us)) ++ ws))
 behind before us mid (Ok ws) = ap (λ all. let r : Result (List ℕ) Fault = Ok all in r) (simp append_assoc)
 behind before us mid (Err f) = refl
-
--- where there is an item at the index, the items from there on are that item and the others
-pub items_from-item : (n i : ℕ) (h : Objects) (o : ℕ) → i < n → items_from (n - i) i h o ≡ value_of (own h o (number_units i)) ∷ items_from (n - (i + 1)) (i + 1) h o
-items_from-item n i h o less =
-    let more : n - i ≡ suc (n - (i + 1)) = omega arith in
-    rw more refl
-
--- an item more of a list of items
-pub items_from-more : (n i : ℕ) (h : Objects) (o : ℕ) (before after all : List Value) (x : Value) → i < n
-    → before ++ items_from (n - i) i h o ≡ all
-    → x ≡ value_of (own h o (number_units i))
-    → after ≡ before ++ x ∷ []
-    → after ++ items_from (n - (i + 1)) (i + 1) h o ≡ all
-items_from-more n i h o before after all x less is item pushed =
-    rw (pushed, append_assoc, item, ← items_from-item n i h o less) is
 
 -- a turn of the loop: the text of the item at an index is appended, behind what stands before it
 pub rest_text-more : (n i : ℕ) (text : Value → Result (List ℕ) Fault) (sep : List ℕ) (h : Objects) (o : ℕ) (before us : List ℕ) (all : Result (List ℕ) Fault) → i < n

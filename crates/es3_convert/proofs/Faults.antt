@@ -1,8 +1,8 @@
 -- Faults of conversions that follow one another.
 use Rattle.std.proofs.Common.{Result, Err, refl}
 use Rattle.plans.specs.Plans.{Fault}
-use Rattle.es3_heap.specs.declared.value.Stop.{Stop}
-use Rattle.es3_heap.specs.declared.value.Stop.TheVariants.{Number, Depth, Convert, Steps, Memory}
+use Rattle.es3_objects.specs.declared.value.Stop.{Stop}
+use Rattle.es3_objects.specs.declared.value.Stop.TheVariants.{Number, Depth, Convert, Steps, Memory}
 use Rattle.es3_convert.specs.Answers.{Answers}
 use Rattle.es3_convert.specs.Conversions.{and_then}
 

@@ -5,8 +5,8 @@ use Rattle.plans.specs.Plans.{Fault}
 use Rattle.caja_num.specs.Numbers.{is_zero}
 use Rattle.caja_units.specs.Units.{same_units, comes_before}
 use Rattle.es3_tokens.specs.Characters.{is_empty}
-use Rattle.es3_heap.specs.declared.value.Value.{Value}
-use Rattle.es3_heap.specs.declared.value.Value.TheVariants as v
+use Rattle.es3_objects.specs.declared.value.Value.{Value}
+use Rattle.es3_objects.specs.declared.value.Value.TheVariants as v
 use Rattle.es3_heap.specs.Objects.{Objects}
 use Rattle.es3_convert.specs.Conversions.{and_then, primitive_of}
 use Rattle.es3_convert.specs.Numbers.{text_number, found_number, primitive_number}

@@ -1,17 +1,17 @@
 -- Conversions of values (ES3 9) and the operator that rests on them alone, `+` (11.6.1). A conversion runs no code of a text.
+pub use Rattle.es3_heap.specs.Items.{items_from, array_items}
 use Rattle.std.specs.Prelude.{ℕ, zero, suc, ◌+◌, ℤ, pos, Bool, false, ◌&&◌, List, [], ◌∷◌, ◌++◌, Option, Some, None, option_map, nat_eq, Result, Ok, Err, codes, if◌then◌else◌}
 use Rattle.plans.specs.Plans.{Fault, number_fault, depth_fault, convert_fault}
 use Rattle.caja_num.specs.Numbers.{sum}
-use Rattle.caja_units.specs.Index.{number_units}
 use Rattle.caja_units.specs.Number.{number_text}
-use Rattle.es3_heap.specs.declared.value.Value.{Value}
-use Rattle.es3_heap.specs.declared.value.Value.TheVariants as v
-use Rattle.es3_heap.specs.declared.value.Class.{Class}
-use Rattle.es3_heap.specs.declared.value.Class.TheVariants as class
-use Rattle.es3_heap.specs.declared.value.FuncKind.{FuncKind}
-use Rattle.es3_heap.specs.declared.value.FuncKind.TheVariants as kind
+use Rattle.es3_objects.specs.declared.value.Value.{Value}
+use Rattle.es3_objects.specs.declared.value.Value.TheVariants as v
+use Rattle.es3_objects.specs.declared.value.Class.{Class}
+use Rattle.es3_objects.specs.declared.value.Class.TheVariants as class
+use Rattle.es3_objects.specs.declared.value.FuncKind.{FuncKind}
+use Rattle.es3_objects.specs.declared.value.FuncKind.TheVariants as kind
 use Rattle.es3_heap.specs.Objects.{Objects, object_at, class_of, callable_of}
-use Rattle.es3_heap.specs.Properties.{own, get, value_of, length_key, length_of}
+use Rattle.es3_heap.specs.Properties.{get}
 
 -- a conversion, and then another
 abbrev pub and_then : {A B : Type 0} → Result A Fault → (A → Result B Fault) → Result B Fault
@@ -46,14 +46,6 @@ is_built_in n h x = false
 -- 8.6.2.6: no text's code runs in a conversion where an object's `toString` and its `valueOf`, as [[Get]] gives them, are the built-in ones
 abbrev pub converts : Objects → ℕ → Bool
 converts h o = is_built_in to_string h (get h o (codes "toString")) && is_built_in value_of_object h (get h o (codes "valueOf"))
-
--- n items of an array from an index on; a hole is undefined
-abbrev pub items_from : ℕ → ℕ → Objects → ℕ → List Value
-items_from zero i h o = []
-items_from (suc n) i h o = value_of (own h o (number_units i)) ∷ items_from n (i + 1) h o
-
-abbrev pub array_items : Objects → ℕ → List Value
-array_items h o = items_from (length_of (value_of (own h o length_key))) 0 h o
 
 -- what an item gives to the text of its array: nothing for undefined and null
 abbrev pub item_text : (Value → Result (List ℕ) Fault) → Value → Result (List ℕ) Fault

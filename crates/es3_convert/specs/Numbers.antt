@@ -1,8 +1,8 @@
 -- Numbers of values (ES3 9.3).
 use Rattle.std.specs.Prelude.{ℤ, Option, Some, None, Result, Ok, Err}
 use Rattle.plans.specs.Plans.{Fault, number_fault}
-use Rattle.es3_heap.specs.declared.value.Value.{Value}
-use Rattle.es3_heap.specs.declared.value.Value.TheVariants as v
+use Rattle.es3_objects.specs.declared.value.Value.{Value}
+use Rattle.es3_objects.specs.declared.value.Value.TheVariants as v
 use Rattle.es3_heap.specs.Objects.{Objects}
 use Rattle.es3_convert.specs.Conversions.{and_then, text_of, plain_number}
 pub use Rattle.es3_tokens.specs.TextNumber.{is_blank, without_front, without_end, trimmed, numeral, decimal, hexadecimal, begins_hexadecimal, unsigned, literal, text_number}

@@ -1,7 +1,7 @@
 -- The text of an object, and what is left of the text of an array from an index on.
 use Rattle.std.specs.Prelude.{ℕ, zero, suc, List, [], Result, Err, codes, if◌then◌else◌}
 use Rattle.plans.specs.Plans.{Fault, depth_fault, convert_fault}
-use Rattle.es3_heap.specs.declared.value.Value.{Value}
+use Rattle.es3_objects.specs.declared.value.Value.{Value}
 use Rattle.es3_heap.specs.Objects.{Objects, object_at, class_of}
 use Rattle.es3_convert.specs.Conversions.{converts, array_items, tail_text, joined, class_text, text_within}
 

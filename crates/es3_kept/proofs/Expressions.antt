@@ -6,10 +6,10 @@ use Rattle.es3_tree.specs.Tree as t
 use Rattle.es3_tree.specs.declared.UnOp.{UnOp}
 use Rattle.es3_tree.specs.declared.UnOp.TheVariants as un
 use Rattle.es3_tree.specs.declared.BinOp.{BinOp}
-use Rattle.es3_heap.specs.declared.value.Value.{Value}
-use Rattle.es3_heap.specs.declared.value.Value.TheVariants.{Undefined, Null, Bool as Truth, Num, Text, Obj}
-use Rattle.es3_heap.specs.declared.value.Class.TheVariants as class
-use Rattle.es3_heap.specs.declared.value.Proto.TheVariants as proto
+use Rattle.es3_objects.specs.declared.value.Value.{Value}
+use Rattle.es3_objects.specs.declared.value.Value.TheVariants.{Undefined, Null, Bool as Truth, Num, Text, Obj}
+use Rattle.es3_objects.specs.declared.value.Class.TheVariants as class
+use Rattle.es3_objects.specs.declared.value.Proto.TheVariants as proto
 use Rattle.es3_heap.specs.Objects.{with_object}
 use Rattle.es3_heap.specs.Properties.{put}
 use Rattle.es3_heap.specs.Making.{array_object, made, plain_object, proto_id}

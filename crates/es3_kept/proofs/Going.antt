@@ -3,11 +3,11 @@ use Rattle.std.proofs.Common.{ℕ, List, Option, Some, None, IfSome, codes, leng
 use Rattle.plans.specs.Plans.{ends}
 use Rattle.caja_units.specs.Units.{is_hidden}
 use Rattle.es3_tree.specs.Tree as t
-use Rattle.es3_heap.specs.declared.value.Value.{Value}
-use Rattle.es3_heap.specs.declared.value.Value.TheVariants.{Obj}
-use Rattle.es3_heap.specs.declared.value.Proto.TheVariants as proto
-use Rattle.es3_heap.specs.declared.value.Tag.{Tag}
-use Rattle.es3_heap.specs.declared.value.Tag.TheVariants as tag
+use Rattle.es3_objects.specs.declared.value.Value.{Value}
+use Rattle.es3_objects.specs.declared.value.Value.TheVariants.{Obj}
+use Rattle.es3_objects.specs.declared.value.Proto.TheVariants as proto
+use Rattle.es3_objects.specs.declared.value.Tag.{Tag}
+use Rattle.es3_objects.specs.declared.value.Tag.TheVariants as tag
 use Rattle.es3_heap.specs.Objects.{Objects, object_at, tag_of, with_object}
 use Rattle.es3_heap.specs.Making.{error_object}
 use Rattle.es3_language.specs.declared.Touch.{Touch}

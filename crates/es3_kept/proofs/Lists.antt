@@ -1,7 +1,7 @@
 -- Statements one after another name live objects alone (ES3 12.1, 14).
 use Rattle.std.proofs.Common.{ℕ, Bool, Option, Some, None}
 use Rattle.es3_tree.specs.Tree as t
-use Rattle.es3_heap.specs.declared.value.Value.{Value}
+use Rattle.es3_objects.specs.declared.value.Value.{Value}
 use Rattle.es3_heap.specs.Objects.{Objects}
 use Rattle.es3_language.specs.Store.{Store}
 use Rattle.es3_language.specs.Tasks.{Completion, gave, found, normal, broke, continued, returned, threw, Env, Plan}

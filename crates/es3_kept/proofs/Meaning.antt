@@ -2,8 +2,8 @@
 use Rattle.std.proofs.Common.{ℕ, cond, false, List, [], ◌∷◌, None, All, is_some}
 use Rattle.plans.specs.Plans.{ends}
 use Rattle.es3_tree.specs.Tree as t
-use Rattle.es3_heap.specs.declared.value.Value.{Value}
-use Rattle.es3_heap.specs.declared.value.Value.TheVariants.{Undefined, Obj}
+use Rattle.es3_objects.specs.declared.value.Value.{Value}
+use Rattle.es3_objects.specs.declared.value.Value.TheVariants.{Undefined, Obj}
 use Rattle.es3_heap.specs.Objects.{Objects, kept_attrs}
 use Rattle.es3_heap.specs.Properties.{own, define}
 use Rattle.es3_language.specs.declared.Touch.TheVariants as touch

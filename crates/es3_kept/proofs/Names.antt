@@ -2,8 +2,8 @@
 use Rattle.std.proofs.Common.{ℕ, List, [], ◌∷◌, ◌++◌, Option, Some, None, All, IfSome, is_some}
 use Rattle.std.proofs.lemmas.List.Elements.{All-nil, All-cons, All-head, All-tail, All-push}
 use Rattle.caja_units.specs.Units.{same_units}
-use Rattle.es3_heap.specs.declared.value.Value.{Value}
-use Rattle.es3_heap.specs.declared.value.Value.TheVariants.{Undefined}
+use Rattle.es3_objects.specs.declared.value.Value.{Value}
+use Rattle.es3_objects.specs.declared.value.Value.TheVariants.{Undefined}
 use Rattle.es3_language.specs.Store.{Names, Scope, Code, name_value, scope_at, with_name, with_params, with_vars, first_names, renamed}
 use Rattle.es3_live.specs.Live.{IsLive}
 use Rattle.es3_live.specs.Runs.{IsLiveOrNone, LiveScope}

@@ -6,8 +6,8 @@ use Rattle.es3_tree.specs.declared.UnOp.{UnOp}
 use Rattle.es3_tree.specs.declared.UnOp.TheVariants as un
 use Rattle.es3_tree.specs.declared.BinOp.{BinOp}
 use Rattle.es3_tree.specs.declared.BinOp.TheVariants as bin
-use Rattle.es3_heap.specs.declared.value.Value.{Value}
-use Rattle.es3_heap.specs.declared.value.Value.TheVariants.{Num, Text, Obj}
+use Rattle.es3_objects.specs.declared.value.Value.{Value}
+use Rattle.es3_objects.specs.declared.value.Value.TheVariants.{Num, Text, Obj}
 use Rattle.es3_heap.specs.Objects.{Objects, object_at, callable_of}
 use Rattle.es3_heap.specs.Properties.{get}
 use Rattle.es3_convert.specs.Conversions.{and_then, text_of, primitive_of, plain_number, number_or_fault, sum_of_numbers, sum_of_primitives, sum_of}

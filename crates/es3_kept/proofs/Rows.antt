@@ -2,7 +2,7 @@
 use Rattle.std.proofs.Common.{ℕ, ◌<◌, [], None, length, arith, rules}
 use Rattle.std.proofs.lemmas.List.Elements.{All-nil}
 use Rattle.es3_tree.specs.Tree as t
-use Rattle.es3_heap.specs.declared.value.Class.TheVariants as class
+use Rattle.es3_objects.specs.declared.value.Class.TheVariants as class
 use Rattle.es3_heap.specs.Objects.{Objects}
 use Rattle.es3_language.specs.Store.{Shared}
 use Rattle.es3_heap.specs.Making.{new_objects}

@@ -1,11 +1,11 @@
 -- A store that names live objects alone stays so: with other objects, a new scope, a value for a name, a new function.
 use Rattle.std.proofs.Common.{ℕ, ◌<◌, ◌≤◌, List, Some, All, IfSome, codes, pos, length, slice_get, lt_of_lt_of_le, le_trans}
 use Rattle.std.proofs.lemmas.List.Elements.{All-push, All-set, All-weaker}
-use Rattle.es3_heap.specs.declared.value.Value.{Value}
-use Rattle.es3_heap.specs.declared.value.Value.TheVariants.{Num, Obj}
-use Rattle.es3_heap.specs.declared.value.Class.TheVariants as class
-use Rattle.es3_heap.specs.declared.value.FuncKind.TheVariants.{Code as CodeKind}
-use Rattle.es3_heap.specs.declared.value.Proto.TheVariants as proto
+use Rattle.es3_objects.specs.declared.value.Value.{Value}
+use Rattle.es3_objects.specs.declared.value.Value.TheVariants.{Num, Obj}
+use Rattle.es3_objects.specs.declared.value.Class.TheVariants as class
+use Rattle.es3_objects.specs.declared.value.FuncKind.TheVariants.{Code as CodeKind}
+use Rattle.es3_objects.specs.declared.value.Proto.TheVariants as proto
 use Rattle.es3_heap.specs.Objects.{Objects, fixed_attrs, hidden_attrs, kept_attrs}
 use Rattle.es3_heap.specs.Properties.{define, length_key}
 use Rattle.es3_heap.specs.Making.{proto_id, made, made_function}

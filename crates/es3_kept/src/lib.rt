@@ -5,7 +5,7 @@
 
 ghost use Rattle.std.specs.Prelude.{ℕ, ◌<◌, List, [], All, length, ⊤};
 ghost use Rattle.es3_tree.specs.Tree as t;
-ghost use Rattle.es3_heap.specs.declared.value.Value.{Value};
+ghost use Rattle.es3_objects.specs.declared.value.Value.{Value};
 ghost use Rattle.es3_heap.specs.Objects.{Objects};
 ghost use Rattle.es3_language.specs.Natives.{Table};
 ghost use Rattle.es3_language.specs.Store.{Store};

@@ -5,10 +5,10 @@ use Rattle.std.specs.Prelude.{ℕ, ◌+◌, Bool, true, false, List, [], ◌∷�
 use Rattle.std.specs.List.{list_any}
 use Rattle.caja_units.specs.Units.{same_units}
 use Rattle.caja_units.specs.Index.{number_units}
-use Rattle.es3_heap.specs.declared.value.Value.{Value}
-use Rattle.es3_heap.specs.declared.value.Value.TheVariants.{Num, Obj}
-use Rattle.es3_heap.specs.declared.value.Class.TheVariants as class
-use Rattle.es3_heap.specs.declared.value.Proto.TheVariants as proto
+use Rattle.es3_objects.specs.declared.value.Value.{Value}
+use Rattle.es3_objects.specs.declared.value.Value.TheVariants.{Num, Obj}
+use Rattle.es3_objects.specs.declared.value.Class.TheVariants as class
+use Rattle.es3_objects.specs.declared.value.Proto.TheVariants as proto
 use Rattle.es3_heap.specs.Objects.{Objects, hidden_attrs}
 use Rattle.es3_heap.specs.Properties.{own, put, define, delete, can_delete, length_key}
 use Rattle.es3_heap.specs.Making.{proto_id, made}

@@ -2,7 +2,7 @@
 use Rattle.std.specs.Prelude.{Bool, [], Option, Some, None, if◌then◌else◌}
 use Rattle.plans.specs.Plans.{enter}
 use Rattle.es3_tree.specs.Tree as t
-use Rattle.es3_heap.specs.declared.value.Value.{Value}
+use Rattle.es3_objects.specs.declared.value.Value.{Value}
 use Rattle.es3_language.specs.Store.{Store}
 use Rattle.es3_language.specs.Tasks.{Completion, normal, broke, continued, Env, effect_of, Plan}
 

@@ -3,8 +3,8 @@
 use Rattle.std.specs.Prelude.{ℕ, false, List, [], ◌∷◌, None, is_some, length, if◌then◌else◌}
 use Rattle.plans.specs.Plans.{ends, stops, Language, run}
 use Rattle.es3_tree.specs.Tree as t
-use Rattle.es3_heap.specs.declared.value.Value.{Value}
-use Rattle.es3_heap.specs.declared.value.Value.TheVariants.{Undefined, Obj}
+use Rattle.es3_objects.specs.declared.value.Value.{Value}
+use Rattle.es3_objects.specs.declared.value.Value.TheVariants.{Undefined, Obj}
 use Rattle.es3_heap.specs.Objects.{kept_attrs}
 use Rattle.es3_heap.specs.Properties.{own, define}
 use Rattle.es3_language.specs.Store.{Store, with_heap, with_code}

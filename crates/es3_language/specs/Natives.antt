@@ -1,8 +1,8 @@
 -- Functions that are no text, seen from a text: what each answers, and what is recorded of a text's doings.
 use Rattle.std.specs.Prelude.{ℕ, Bool, List, Option}
 use Rattle.plans.specs.Plans.{Fault}
-use Rattle.es3_heap.specs.declared.value.Value.{Value}
-use Rattle.es3_heap.specs.declared.value.Tag.{Tag}
+use Rattle.es3_objects.specs.declared.value.Value.{Value}
+use Rattle.es3_objects.specs.declared.value.Tag.{Tag}
 use Rattle.es3_heap.specs.Objects.{Objects}
 use Rattle.es3_language.specs.declared.Touch.{Touch}
 

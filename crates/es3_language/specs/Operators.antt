@@ -6,8 +6,8 @@ use Rattle.es3_tree.specs.declared.UnOp.{UnOp}
 use Rattle.es3_tree.specs.declared.UnOp.TheVariants as un
 use Rattle.es3_tree.specs.declared.BinOp.{BinOp}
 use Rattle.es3_tree.specs.declared.BinOp.TheVariants as bin
-use Rattle.es3_heap.specs.declared.value.Value.{Value}
-use Rattle.es3_heap.specs.declared.value.Value.TheVariants.{Undefined, Null, Bool as Truth, Num, Text, Obj}
+use Rattle.es3_objects.specs.declared.value.Value.{Value}
+use Rattle.es3_objects.specs.declared.value.Value.TheVariants.{Undefined, Null, Bool as Truth, Num, Text, Obj}
 use Rattle.es3_heap.specs.Objects.{Objects, object_at, callable_of, proto_of}
 use Rattle.es3_heap.specs.Properties.{get, lookup}
 use Rattle.es3_convert.specs.Conversions.{and_then, text_of, number_or_fault, sum_of}

@@ -2,9 +2,9 @@
 use Rattle.std.specs.Prelude.{List, [], ◌∷◌, Option, None, ⊤}
 use Rattle.plans.specs.Plans.{over, stopped, out}
 use Rattle.es3_tree.specs.Tree as t
-use Rattle.es3_heap.specs.declared.value.Value.{Value}
-use Rattle.es3_heap.specs.declared.value.Value.TheVariants.{Undefined}
-use Rattle.es3_heap.specs.declared.value.Class.TheVariants as class
+use Rattle.es3_objects.specs.declared.value.Value.{Value}
+use Rattle.es3_objects.specs.declared.value.Value.TheVariants.{Undefined}
+use Rattle.es3_objects.specs.declared.value.Class.TheVariants as class
 use Rattle.es3_heap.specs.Making.{new_objects, made}
 use Rattle.es3_language.specs.Natives.{Table, throw_reply}
 use Rattle.es3_language.specs.Store.{Store}

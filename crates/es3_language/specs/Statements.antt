@@ -3,11 +3,11 @@ use Rattle.std.specs.Prelude.{ℕ, Bool, true, false, List, [], ◌∷◌, Optio
 use Rattle.plans.specs.Plans.{ends, enter, bind}
 use Rattle.caja_units.specs.Units.{same_units}
 use Rattle.es3_tree.specs.Tree as t
-use Rattle.es3_heap.specs.declared.value.Value.{Value}
-use Rattle.es3_heap.specs.declared.value.Value.TheVariants.{Undefined, Bool as Truth, Num, Text, Obj}
-use Rattle.es3_heap.specs.declared.value.Class.TheVariants as class
-use Rattle.es3_heap.specs.declared.value.Proto.{Proto}
-use Rattle.es3_heap.specs.declared.value.Proto.TheVariants as proto
+use Rattle.es3_objects.specs.declared.value.Value.{Value}
+use Rattle.es3_objects.specs.declared.value.Value.TheVariants.{Undefined, Bool as Truth, Num, Text, Obj}
+use Rattle.es3_objects.specs.declared.value.Class.TheVariants as class
+use Rattle.es3_objects.specs.declared.value.Proto.{Proto}
+use Rattle.es3_objects.specs.declared.value.Proto.TheVariants as proto
 use Rattle.es3_heap.specs.Objects.{fixed_attrs}
 use Rattle.es3_heap.specs.Properties.{define, lookup, length_key}
 use Rattle.es3_heap.specs.Enumerating.{keys}

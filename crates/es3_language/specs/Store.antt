@@ -2,11 +2,11 @@
 use Rattle.std.specs.Prelude.{ℕ, List, [], ◌∷◌, ◌++◌, Option, Some, None, is_some, length, slice_get, slice_set, codes, pos, if◌then◌else◌}
 use Rattle.caja_units.specs.Units.{same_units}
 use Rattle.es3_tree.specs.Tree as t
-use Rattle.es3_heap.specs.declared.value.Value.{Value}
-use Rattle.es3_heap.specs.declared.value.Value.TheVariants.{Undefined, Num, Obj}
-use Rattle.es3_heap.specs.declared.value.Class.TheVariants as class
-use Rattle.es3_heap.specs.declared.value.FuncKind.TheVariants.{Code as CodeKind}
-use Rattle.es3_heap.specs.declared.value.Proto.TheVariants as proto
+use Rattle.es3_objects.specs.declared.value.Value.{Value}
+use Rattle.es3_objects.specs.declared.value.Value.TheVariants.{Undefined, Num, Obj}
+use Rattle.es3_objects.specs.declared.value.Class.TheVariants as class
+use Rattle.es3_objects.specs.declared.value.FuncKind.TheVariants.{Code as CodeKind}
+use Rattle.es3_objects.specs.declared.value.Proto.TheVariants as proto
 use Rattle.es3_heap.specs.Objects.{Objects, fixed_attrs, hidden_attrs, kept_attrs}
 use Rattle.es3_heap.specs.Properties.{define, length_key}
 use Rattle.es3_heap.specs.Making.{proto_id, made, made_function}

@@ -6,7 +6,7 @@
 ghost use Rattle.std.specs.Prelude.{◌≡◌, ℕ, suc, List, [], ◌∷◌, Some, None};
 ghost use Rattle.plans.specs.Plans.{over, out};
 ghost use Rattle.es3_tree.specs.Tree as t;
-ghost use Rattle.es3_heap.specs.declared.value.Value.TheVariants.{Null};
+ghost use Rattle.es3_objects.specs.declared.value.Value.TheVariants.{Null};
 ghost use Rattle.es3_language.specs.Natives.{Table};
 ghost use Rattle.es3_language.specs.Store.{Store, caught, with_scope};
 ghost use Rattle.es3_language.specs.Meaning.{run_program, normal, threw};

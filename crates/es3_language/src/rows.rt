@@ -4,7 +4,7 @@ ghost use Rattle.std.specs.Prelude.{◌≡◌, pos, true, false, [], ◌∷◌, 
 ghost use Rattle.es3_tree.specs.Tree as t;
 ghost use Rattle.es3_tree.specs.declared.BinOp.TheVariants as bin;
 ghost use Rattle.es3_tree.specs.declared.UnOp.TheVariants as un;
-ghost use Rattle.es3_heap.specs.declared.value.Value.TheVariants.{Undefined, Null, Bool, Num, Text};
+ghost use Rattle.es3_objects.specs.declared.value.Value.TheVariants.{Undefined, Null, Bool, Num, Text};
 ghost use Rattle.es3_language.specs.Rows.{value_of, body_of, returned};
 
 /// `(function (a) { return a; })(true);` is true.

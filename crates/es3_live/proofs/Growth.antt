@@ -1,8 +1,8 @@
 -- What is live stays live where there are more objects.
 use Rattle.std.proofs.Common.{ℕ, ◌≤◌, List, Option, Some, None, All, refl, ◌∙◌, le_trans, lt_of_lt_of_le, arith}
 use Rattle.std.proofs.lemmas.List.Elements.{All-weaker}
-use Rattle.es3_heap.specs.declared.value.Value.{Value}
-use Rattle.es3_heap.specs.declared.value.Value.TheVariants.{Undefined, Null, Bool as Truth, Num, Text, Obj}
+use Rattle.es3_objects.specs.declared.value.Value.{Value}
+use Rattle.es3_objects.specs.declared.value.Value.TheVariants.{Undefined, Null, Bool as Truth, Num, Text, Obj}
 use Rattle.es3_heap.specs.Objects.{Property, Object, Objects}
 use Rattle.es3_language.specs.Store.{Owner, activation, own_name, caught, with_object_of, Scope}
 use Rattle.es3_language.specs.References.{Ref, unresolved, slot, own_arguments, in_object, named, member, just}

@@ -5,13 +5,13 @@ use Rattle.std.proofs.Math.ListN.{length-set}
 use Rattle.std.proofs.lemmas.List.Elements.{All-cons, All-head, All-tail, All-set}
 use Rattle.caja_units.specs.Units.{same_units}
 use Rattle.caja_units.specs.Index.{array_index}
-use Rattle.es3_heap.specs.declared.value.Value.{Value}
-use Rattle.es3_heap.specs.declared.value.Value.TheVariants.{Num}
-use Rattle.es3_heap.specs.declared.value.Attrs.{Attrs}
-use Rattle.es3_heap.specs.declared.value.Class.{Class}
-use Rattle.es3_heap.specs.declared.value.Class.TheVariants as class
-use Rattle.es3_heap.specs.declared.value.Tag.{Tag}
-use Rattle.es3_heap.specs.declared.value.Tag.TheVariants as tag
+use Rattle.es3_objects.specs.declared.value.Value.{Value}
+use Rattle.es3_objects.specs.declared.value.Value.TheVariants.{Num}
+use Rattle.es3_objects.specs.declared.value.Attrs.{Attrs}
+use Rattle.es3_objects.specs.declared.value.Class.{Class}
+use Rattle.es3_objects.specs.declared.value.Class.TheVariants as class
+use Rattle.es3_objects.specs.declared.value.Tag.{Tag}
+use Rattle.es3_objects.specs.declared.value.Tag.TheVariants as tag
 use Rattle.es3_heap.specs.Objects.{Property, Object, Objects, plain_attrs, object_at, props_of, class_of, callable_of, replaced}
 use Rattle.es3_heap.specs.Properties.{find, value_of, length_key, length_of, at_least, lengthened, written, revalued, defined, without, with_props, can_put, put, define, delete}
 use Rattle.es3_heap.specs.Making.{count_at, raised, with_tag, awaits_name, tagged, named}

@@ -1,6 +1,6 @@
 -- Natives that name live objects alone: what they are asked to keep, and what they promise.
 use Rattle.std.specs.Prelude.{ℕ, List, All, length}
-use Rattle.es3_heap.specs.declared.value.Value.{Value}
+use Rattle.es3_objects.specs.declared.value.Value.{Value}
 use Rattle.es3_heap.specs.Objects.{Objects}
 use Rattle.es3_language.specs.Natives.{Touched, Reply, value_reply, throw_reply, invoke_reply, stop_reply, Turn, Table}
 use Rattle.es3_live.specs.Live.{IsLive, AreClosed, Later}

@@ -1,7 +1,7 @@
 -- Live objects: an object that something names is one of the store's (ES3 8.6). Nothing is ever taken out of a store, so what is live stays live.
 use Rattle.std.specs.Prelude.{◌≡◌, ℕ, ◌<◌, ◌≤◌, Option, Some, None, All, length}
-use Rattle.es3_heap.specs.declared.value.Value.{Value}
-use Rattle.es3_heap.specs.declared.value.Value.TheVariants.{Obj}
+use Rattle.es3_objects.specs.declared.value.Value.{Value}
+use Rattle.es3_objects.specs.declared.value.Value.TheVariants.{Obj}
 use Rattle.es3_heap.specs.Objects.{Property, Object, Objects, object_at, class_of, callable_of}
 
 -- a value, where there are so many objects

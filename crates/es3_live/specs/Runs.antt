@@ -1,6 +1,6 @@
 -- What a running text names: live objects alone, in its scopes, in what is to be done, and in how it ends (ES3 8.7, 8.9, 10).
 use Rattle.std.specs.Prelude.{ℕ, ◌<◌, Option, Some, None, List, All, length}
-use Rattle.es3_heap.specs.declared.value.Value.{Value}
+use Rattle.es3_objects.specs.declared.value.Value.{Value}
 use Rattle.es3_language.specs.Store.{Owner, activation, with_object_of, Scope, Shared, Store}
 use Rattle.es3_language.specs.References.{Ref, in_object, named, member, just}
 use Rattle.es3_language.specs.Tasks.{Completion, gave, found, normal, broke, continued, returned, threw, Env, Task, value_of, target_of, effect_of, again, next_key, native_call}

@@ -3,7 +3,7 @@ use Rattle.std.proofs.Common.{◌≡◌, ℕ, ◌≤◌, List, [], Some, None, f
 use Rattle.plans.specs.Plans.{ends, run}
 use Rattle.es3_tree.specs.Tree as t
 use Rattle.caja_units.specs.declared.Memory.{Memory}
-use Rattle.es3_heap.specs.declared.value.Value.{Value}
+use Rattle.es3_objects.specs.declared.value.Value.{Value}
 use Rattle.es3_language.specs.Store.{Store}
 use Rattle.es3_language.specs.Hoisting.{vars_of, functions_of}
 use Rattle.es3_language.specs.Natives.{Table}

@@ -1,7 +1,7 @@
 -- What a run leaves names live objects alone.
 use Rattle.std.specs.Prelude.{ℕ, Option, Some, None, Result, Ok, Err, All, length}
-use Rattle.es3_heap.specs.declared.value.Stop.{Stop}
-use Rattle.es3_heap.specs.declared.value.Stop.TheVariants.{Memory}
+use Rattle.es3_objects.specs.declared.value.Stop.{Stop}
+use Rattle.es3_objects.specs.declared.value.Stop.TheVariants.{Memory}
 use Rattle.es3_heap.specs.Objects.{Objects}
 use Rattle.es3_language.specs.Store.{Store}
 use Rattle.es3_live.specs.Live.{IsLive}

@@ -1,8 +1,8 @@
 -- How a run ended, and how much is left of it.
 use Rattle.std.specs.Prelude.{ℕ, ◌+◌, ◌-◌, ◌*◌, ◌==◌, Bool, true, false, List, Result, Ok, Err, length}
 use Rattle.plans.specs.Plans.{over, stopped, out, run, rest}
-use Rattle.es3_heap.specs.declared.value.Stop.{Stop}
-use Rattle.es3_heap.specs.declared.value.Stop.TheVariants as stop
+use Rattle.es3_objects.specs.declared.value.Stop.{Stop}
+use Rattle.es3_objects.specs.declared.value.Stop.TheVariants as stop
 use Rattle.es3_heap.specs.Objects.{Objects}
 use Rattle.es3_language.specs.Store.{Store}
 use Rattle.es3_language.specs.Natives.{Table}

@@ -1,7 +1,7 @@
 -- What a native may answer.
 use Rattle.std.specs.Prelude.{◌≡◌}
 use Rattle.plans.specs.Plans.{number_fault, depth_fault, convert_fault}
-use Rattle.es3_heap.specs.declared.value.Stop.TheVariants.{Number, Depth, Convert, Steps, Memory}
+use Rattle.es3_objects.specs.declared.value.Stop.TheVariants.{Number, Depth, Convert, Steps, Memory}
 use Rattle.es3_heap.specs.Objects.{Objects}
 use Rattle.es3_language.specs.Natives.{value_reply, throw_reply, invoke_reply, stop_reply, Turn}
 use Rattle.es3_moves.specs.declared.natives.Answer.{Answer}

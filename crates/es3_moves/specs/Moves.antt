@@ -1,8 +1,8 @@
 -- What the machine's frames and moves stand for, as plans.
 use Rattle.std.specs.Prelude.{◌+◌, Bool, true, false, []}
 use Rattle.plans.specs.Plans.{ends, stops, enter, told}
-use Rattle.es3_heap.specs.declared.value.Value.{Value as PlainValue}
-use Rattle.es3_heap.specs.declared.value.Value.TheVariants.{Text}
+use Rattle.es3_objects.specs.declared.value.Value.{Value as PlainValue}
+use Rattle.es3_objects.specs.declared.value.Value.TheVariants.{Text}
 use Rattle.es3_language.specs.Store.{Store}
 use Rattle.es3_language.specs.References as ref
 use Rattle.es3_language.specs.Natives.{Touched}

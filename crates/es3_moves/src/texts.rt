@@ -26,7 +26,7 @@ pub struct Binding {
 
 impl Model for Binding {
     ghost use Rattle.std.specs.Prelude.{ℕ, List};
-    ghost use Rattle.es3_heap.specs.declared.value.Value.{Value as PlainValue};
+    ghost use Rattle.es3_objects.specs.declared.value.Value.{Value as PlainValue};
 
     ghost Value = { List ℕ × PlainValue };
 
@@ -41,7 +41,7 @@ pub struct Names {
 
 impl Model for Names {
     ghost use Rattle.std.specs.Prelude.{ℕ, List};
-    ghost use Rattle.es3_heap.specs.declared.value.Value.{Value as PlainValue};
+    ghost use Rattle.es3_objects.specs.declared.value.Value.{Value as PlainValue};
 
     ghost Value = { List (List ℕ × PlainValue) };
 

@@ -3,7 +3,7 @@ use Rattle.std.proofs.Common.{◌≡◌, ℕ, true, List, [], Option, Some, None
 use Rattle.std.proofs.lemmas.Option.{same_Some}
 use Rattle.plans.specs.Plans.{ends, enter}
 use Rattle.es3_tree.specs.Tree as t
-use Rattle.es3_heap.specs.declared.value.Value.{Value}
+use Rattle.es3_objects.specs.declared.value.Value.{Value}
 use Rattle.es3_language.specs.Store.{Store}
 use Rattle.es3_language.specs.Tasks.{Plan, Env, effect_of, normal, with_value}
 use Rattle.es3_language.specs.Lists.{later, list_rest}

@@ -1,8 +1,8 @@
 -- What a conversion's answer says once it has settled.
 use Rattle.std.proofs.Common.{◌≡◌, Result, Ok, Err, sym}
 use Rattle.plans.specs.Plans as plans
-use Rattle.es3_heap.specs.declared.value.Stop.{Stop}
-use Rattle.es3_heap.specs.declared.value.Stop.TheVariants as stop
+use Rattle.es3_objects.specs.declared.value.Stop.{Stop}
+use Rattle.es3_objects.specs.declared.value.Stop.TheVariants as stop
 use Rattle.es3_moves.specs.declared.frame.Fault.{Fault}
 use Rattle.es3_moves.specs.declared.frame.Fault.TheVariants.{Number, Depth, Convert}
 use Rattle.es3_convert.specs.Answers.{Answers}

@@ -2,7 +2,7 @@
 use Rattle.std.specs.Prelude.{ℤ, Option, Some, Result, Ok}
 use Rattle.plans.specs.Plans.{Fault}
 use Rattle.caja_num.specs.Numbers as n
-use Rattle.es3_heap.specs.declared.value.Value.{Value}
+use Rattle.es3_objects.specs.declared.value.Value.{Value}
 use Rattle.es3_heap.specs.Objects.{Objects}
 use Rattle.es3_convert.specs.Conversions.{and_then}
 use Rattle.es3_convert.specs.Numbers.{number_of}

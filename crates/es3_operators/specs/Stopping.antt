@@ -1,7 +1,7 @@
 -- Conversions that stopped, with want of memory kept apart.
 use Rattle.std.specs.Prelude.{Result, Ok, Err}
-use Rattle.es3_heap.specs.declared.value.Stop.{Stop}
-use Rattle.es3_heap.specs.declared.value.Stop.TheVariants as stop
+use Rattle.es3_objects.specs.declared.value.Stop.{Stop}
+use Rattle.es3_objects.specs.declared.value.Stop.TheVariants as stop
 use Rattle.es3_moves.specs.declared.frame.Fault.{Fault}
 use Rattle.es3_moves.specs.declared.frame.Fault.TheVariants.{Number, Depth, Convert}
 

@@ -9,7 +9,7 @@ use Rattle.std.specs.declared.rc.Rc.{Rc}
 use Rattle.std.specs.Global.{Global}
 use Rattle.caja_units.specs.Units.{same_units}
 use Rattle.caja_units.specs.Index.{number_units}
-use Rattle.es3_heap.specs.declared.value.Value.{Value}
+use Rattle.es3_objects.specs.declared.value.Value.{Value}
 use Rattle.es3_heap.specs.Objects.{Objects, hidden_attrs}
 use Rattle.es3_heap.specs.Properties.{define}
 use Rattle.es3_language.specs.Store as store

@@ -1,5 +1,5 @@
 -- What is written and deleted at once, so that no memory is wanted.
-use Rattle.es3_heap.specs.declared.value.Value.TheVariants.{Text, Obj}
+use Rattle.es3_objects.specs.declared.value.Value.TheVariants.{Text, Obj}
 use Rattle.es3_language.specs.References.{Ref, member, just}
 
 -- what is no reference, and members of what is no object, are not written (8.7.2)

@@ -1,7 +1,7 @@
 -- Parts of arguments objects, as data.
 use Rattle.std.specs.Prelude.{ℕ, zero, suc, ◌+◌, List, [], ◌∷◌, ◌++◌, Option, Some, None, drop, nat_eq, if◌then◌else◌}
 use Rattle.caja_units.specs.Index.{number_units}
-use Rattle.es3_heap.specs.declared.value.Value.{Value}
+use Rattle.es3_objects.specs.declared.value.Value.{Value}
 use Rattle.es3_language.specs.Store.{Names, Shared, name_value}
 use Rattle.es3_language.specs.Arguments.{value_or, comes_again, without_item}
 

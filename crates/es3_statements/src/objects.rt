@@ -1,9 +1,9 @@
 //! `with` (ES3 12.10).
 
 ghost use Rattle.std.specs.Prelude.{◌≡◌, ◌<◌, ◌≤◌, IfOk, OnOk, Some, length, pos};
-ghost use Rattle.es3_heap.specs.declared.value.Class.TheVariants as class;
-ghost use Rattle.es3_heap.specs.declared.value.Proto.TheVariants as proto;
-ghost use Rattle.es3_heap.specs.declared.value.Value.TheVariants.{Num};
+ghost use Rattle.es3_objects.specs.declared.value.Class.TheVariants as class;
+ghost use Rattle.es3_objects.specs.declared.value.Proto.TheVariants as proto;
+ghost use Rattle.es3_objects.specs.declared.value.Value.TheVariants.{Num};
 ghost use Rattle.es3_heap.specs.Objects.{Objects, fixed_attrs};
 ghost use Rattle.es3_heap.specs.Making.{made, proto_id};
 ghost use Rattle.es3_heap.specs.Properties.{define, length_key};

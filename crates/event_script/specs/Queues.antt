@@ -1,6 +1,6 @@
 -- The queues of a page's modules: a list for each module, the first to be called in front.
 use Rattle.std.specs.Prelude.{ℕ, List, [], ◌∷◌, ◌++◌, Option, drop, slice_get, slice_set, slice_index_or}
-use Rattle.es3_heap.specs.declared.value.Value.{Value}
+use Rattle.es3_objects.specs.declared.value.Value.{Value}
 
 -- the functions that wait for module m
 abbrev pub queue : ℕ → List (List Value) → List Value

@@ -17,7 +17,7 @@ pub struct Queues {
 
 impl Model for Queues {
     ghost use Rattle.std.specs.Prelude.{List, map};
-    ghost use Rattle.es3_heap.specs.declared.value.Value.{Value as Waiting};
+    ghost use Rattle.es3_objects.specs.declared.value.Value.{Value as Waiting};
 
     ghost Value = { List (List Waiting) };
 

@@ -4,9 +4,9 @@ use Rattle.std.specs.Prelude.{slice_get, map}
 use Rattle.std.specs.List.{filter}
 use Rattle.std.specs.Cmp.Lexicographic.{same_text}
 use Rattle.caja_units.specs.Units.{same_units}
-use Rattle.es3_heap.specs.declared.value.Value.{Value}
-use Rattle.es3_heap.specs.declared.value.Value.TheVariants.{Bool}
-use Rattle.es3_heap.specs.declared.value.Attrs.{Attrs}
+use Rattle.es3_objects.specs.declared.value.Value.{Value}
+use Rattle.es3_objects.specs.declared.value.Value.TheVariants.{Bool}
+use Rattle.es3_objects.specs.declared.value.Attrs.{Attrs}
 use Rattle.es3_heap.specs.Objects.{Property, Object, Objects, hidden_attrs, object_at, props_of}
 use Rattle.es3_heap.specs.Properties.{defined, without, with_props}
 use Rattle.heap_rows.specs.Marks.{frozen_mark, marked, is_set_mark, set_marks, without_keys, without_set_marks, freeze}

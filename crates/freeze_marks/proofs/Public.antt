@@ -4,10 +4,10 @@ use Rattle.std.specs.Prelude.{not, map}
 use Rattle.std.specs.List.{filter}
 use Rattle.std.specs.Cmp.Lexicographic.{same_text}
 use Rattle.caja_units.specs.Units.{same_units, is_hidden}
-use Rattle.es3_heap.specs.declared.value.Value.{Value}
+use Rattle.es3_objects.specs.declared.value.Value.{Value}
 use Rattle.es3_heap.specs.Objects.{Property}
 use Rattle.es3_heap.specs.Properties.{find, value_of}
-use Rattle.es3_heap.proofs.Keys.{same_key-refl}
+use Rattle.es3_objects.proofs.Keys.{same_key-refl}
 use Rattle.heap_rows.specs.Doing.{guests}
 use Rattle.freeze_marks.specs.Records.{has_key, AreNew}
 

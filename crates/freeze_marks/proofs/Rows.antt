@@ -3,11 +3,11 @@ use Rattle.std.proofs.Common.{◌≡◌, ℕ, zero, suc, ◌+◌, Bool, true, fa
 use Rattle.std.specs.Prelude.{codes, is_some}
 use Rattle.std.proofs.lemmas.List.{length-map}
 use Rattle.caja_units.specs.Index.{number_units}
-use Rattle.es3_heap.specs.declared.value.Stop.{Stop}
-use Rattle.es3_heap.specs.declared.value.Value.{Value}
-use Rattle.es3_heap.specs.declared.value.Value.TheVariants as v
-use Rattle.es3_heap.specs.declared.value.Class.{Class}
-use Rattle.es3_heap.specs.declared.value.Class.TheVariants as class
+use Rattle.es3_objects.specs.declared.value.Stop.{Stop}
+use Rattle.es3_objects.specs.declared.value.Value.{Value}
+use Rattle.es3_objects.specs.declared.value.Value.TheVariants as v
+use Rattle.es3_objects.specs.declared.value.Class.{Class}
+use Rattle.es3_objects.specs.declared.value.Class.TheVariants as class
 use Rattle.es3_heap.specs.Objects.{Objects, object_at, class_of, callable_of, props_of}
 use Rattle.es3_heap.specs.Properties.{own, value_of, length_key, length_of}
 use Rattle.es3_convert.specs.Conversions.{items_from, array_items}

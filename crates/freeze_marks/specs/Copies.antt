@@ -1,9 +1,9 @@
 -- New arrays, and copies of arrays and records: each is frozen or not, and has the next name of the module.
 use Rattle.std.specs.Prelude.{ℕ, Bool, List, [], length, nat_lt, codes, if◌then◌else◌}
-use Rattle.es3_heap.specs.declared.value.Value.{Value}
-use Rattle.es3_heap.specs.declared.value.Value.TheVariants as v
-use Rattle.es3_heap.specs.declared.value.Class.{Class}
-use Rattle.es3_heap.specs.declared.value.Class.TheVariants as class
+use Rattle.es3_objects.specs.declared.value.Value.{Value}
+use Rattle.es3_objects.specs.declared.value.Value.TheVariants as v
+use Rattle.es3_objects.specs.declared.value.Class.{Class}
+use Rattle.es3_objects.specs.declared.value.Class.TheVariants as class
 use Rattle.es3_heap.specs.Objects.{Object, Objects, object_at, props_of, class_of}
 use Rattle.es3_heap.specs.Making.{array_object}
 use Rattle.es3_convert.specs.Conversions.{array_items}

@@ -2,7 +2,7 @@
 use Rattle.std.proofs.Common.{◌≡◌, ℕ, ◌+◌, [], ◌∷◌, length, ap, ◌∙◌, arith}
 use Rattle.std.specs.Prelude.{codes}
 use Rattle.std.proofs.lemmas.List.{length-append}
-use Rattle.es3_heap.specs.declared.value.FuncKind.TheVariants.{Constructor}
+use Rattle.es3_objects.specs.declared.value.FuncKind.TheVariants.{Constructor}
 use Rattle.es3_heap.specs.Objects.{Objects}
 use Rattle.es3_heap.specs.Making.{made_function}
 use Rattle.heap_rows.specs.Opening.{runtime_id}

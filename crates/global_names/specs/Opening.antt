@@ -1,12 +1,12 @@
 -- The store in which a text begins that runs as it stands: the global names (ES3 15.1), and what the prototypes have (15.2.4 to 15.11.4). `Object`, `Function` and `Array`
 -- stand behind all that a page begins with, and the global object behind them.
 use Rattle.std.specs.Prelude.{ℕ, ◌+◌, ◌*◌, true, false, List, [], ◌∷◌, None, map, length, codes}
-use Rattle.es3_heap.specs.declared.value.Value.TheVariants.{Undefined, Obj}
-use Rattle.es3_heap.specs.declared.value.Class.TheVariants as class
-use Rattle.es3_heap.specs.declared.value.Attrs.{Attrs}
-use Rattle.es3_heap.specs.declared.value.FuncKind.TheVariants.{Constructor}
-use Rattle.es3_heap.specs.declared.value.Proto.{Proto}
-use Rattle.es3_heap.specs.declared.value.Proto.TheVariants as proto
+use Rattle.es3_objects.specs.declared.value.Value.TheVariants.{Undefined, Obj}
+use Rattle.es3_objects.specs.declared.value.Class.TheVariants as class
+use Rattle.es3_objects.specs.declared.value.Attrs.{Attrs}
+use Rattle.es3_objects.specs.declared.value.FuncKind.TheVariants.{Constructor}
+use Rattle.es3_objects.specs.declared.value.Proto.{Proto}
+use Rattle.es3_objects.specs.declared.value.Proto.TheVariants as proto
 use Rattle.es3_heap.specs.Objects.{Objects, hidden_attrs, fixed_attrs}
 use Rattle.es3_heap.specs.Properties.{define}
 use Rattle.es3_heap.specs.Making.{made, made_function, proto_id}

@@ -1,10 +1,10 @@
 -- Which functions modules may use.
 use Rattle.std.specs.Prelude.{ℕ, Bool, true, false, Option, Some, None, is_some}
-use Rattle.es3_heap.specs.declared.value.FuncKind.{FuncKind}
-use Rattle.es3_heap.specs.declared.value.FuncKind.TheVariants as kind
+use Rattle.es3_objects.specs.declared.value.FuncKind.{FuncKind}
+use Rattle.es3_objects.specs.declared.value.FuncKind.TheVariants as kind
 use Rattle.es3_heap.specs.Objects.{Objects, object_at, callable_of}
 use Rattle.es3_heap.specs.Properties.{own}
-use Rattle.es3_heap.specs.Reading.{kind_of}
+use Rattle.es3_objects.specs.Reading.{kind_of}
 use Rattle.heap_rows.specs.Marks.{simple_mark}
 
 -- one of a text needs its mark

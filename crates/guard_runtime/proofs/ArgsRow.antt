@@ -1,7 +1,7 @@
 -- What the row of args comes to.
 use Rattle.std.proofs.Common.{◌≡◌, ℕ, zero, suc, ◌+◌, List, [], length, map, true, Some, Result, refl, sym, ap, ◌∙◌, subst, append-nil}
-use Rattle.es3_heap.specs.declared.value.Value.{Value}
-use Rattle.es3_heap.specs.declared.value.Stop.{Stop}
+use Rattle.es3_objects.specs.declared.value.Value.{Value}
+use Rattle.es3_objects.specs.declared.value.Stop.{Stop}
 use Rattle.es3_heap.specs.Objects.{Objects}
 use Rattle.rows.specs.Arguments.{values_from}
 use Rattle.rows.specs.Guards as rows

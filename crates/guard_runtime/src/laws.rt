@@ -1,7 +1,7 @@
 //! Laws of the guards. There is no code: the functions here have no bodies, and each one's contract is a law.
 
 ghost use Rattle.std.specs.Prelude.{ℕ, ◌<◌, List, length, All};
-ghost use Rattle.es3_heap.specs.declared.value.Value.{Value};
+ghost use Rattle.es3_objects.specs.declared.value.Value.{Value};
 ghost use Rattle.es3_heap.specs.Objects.{Objects};
 ghost use Rattle.es3_live.specs.Live.{IsLive, AreClosed};
 ghost use Rattle.heap_rows.specs.Opening.{built_ins_there};

@@ -1,7 +1,7 @@
 -- What a guard touches: how, which object with a name, and at which key.
 use Rattle.std.specs.Prelude.{ℕ, List, [], ◌∷◌, Option, Some, None, Result, Ok, Err, is_some, if◌then◌else◌}
 use Rattle.plans.specs.Plans.{Fault}
-use Rattle.es3_heap.specs.declared.value.Value.{Value}
+use Rattle.es3_objects.specs.declared.value.Value.{Value}
 use Rattle.es3_heap.specs.Objects.{Objects}
 use Rattle.es3_convert.specs.Conversions.{text_of}
 use Rattle.rows.specs.Rows.{Touch, to_get, to_set, to_delete, to_has, to_keys, to_new}

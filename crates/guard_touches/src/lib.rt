@@ -5,7 +5,7 @@
 mod touches;
 
 ghost use Rattle.std.specs.Prelude.{◌≡◌, ℕ, false, List, []};
-ghost use Rattle.es3_heap.specs.declared.value.Value.{Value};
+ghost use Rattle.es3_objects.specs.declared.value.Value.{Value};
 ghost use Rattle.es3_heap.specs.Objects.{Objects};
 ghost use Rattle.heap_rows.specs.Doing.{heard};
 ghost use Rattle.guard_runtime.specs.declared.Guard.{Guard};

@@ -4,7 +4,7 @@ use Rattle.std.specs.Prelude.{slice_get, option_map, map}
 use Rattle.std.specs.Cmp.Lexicographic.{same_text}
 use Rattle.std.proofs.lemmas.List.{length-append}
 use Rattle.caja_units.specs.Units.{same_units, is_hidden}
-use Rattle.es3_heap.specs.declared.value.Value.{Value}
+use Rattle.es3_objects.specs.declared.value.Value.{Value}
 use Rattle.es3_heap.specs.Objects.{Property}
 use Rattle.es3_heap.specs.Properties.{find}
 use Rattle.rows.specs.Rows.{Native, held, handles, keyed_handles}

@@ -1,11 +1,11 @@
 -- The built-in functions among the objects of ES3: the name and the kind of each.
 use Rattle.std.specs.Prelude.{ℕ, ◌+◌, ◌*◌, Bool, true, false, nat_eq, List, [], ◌∷◌, Option, Some, None, get_or, if◌then◌else◌}
-use Rattle.es3_heap.specs.declared.value.FuncKind.{FuncKind}
-use Rattle.es3_heap.specs.declared.value.FuncKind.TheVariants as kind
-use Rattle.es3_heap.specs.declared.value.Receiver.{Receiver as EsReceiver}
-use Rattle.es3_heap.specs.declared.value.Receiver.TheVariants as receiver
-use Rattle.es3_heap.specs.declared.value.Tag.{Tag}
-use Rattle.es3_heap.specs.declared.value.Tag.TheVariants as tag
+use Rattle.es3_objects.specs.declared.value.FuncKind.{FuncKind}
+use Rattle.es3_objects.specs.declared.value.FuncKind.TheVariants as kind
+use Rattle.es3_objects.specs.declared.value.Receiver.{Receiver as EsReceiver}
+use Rattle.es3_objects.specs.declared.value.Receiver.TheVariants as receiver
+use Rattle.es3_objects.specs.declared.value.Tag.{Tag}
+use Rattle.es3_objects.specs.declared.value.Tag.TheVariants as tag
 use Rattle.rows.specs.Rows as r
 use Rattle.rows.specs.Names.{Tools, of_cajita, of_math, code_of, sort_of}
 

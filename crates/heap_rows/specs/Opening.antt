@@ -1,14 +1,14 @@
 -- A store in which a page begins: the ten prototypes, the object of the runtime with its guards, and the global object; then the records `cajita` and `Math`, and the
 -- built-in functions; then each module's own functions, each cell, and what a module may import.
 use Rattle.std.specs.Prelude.{ℕ, zero, suc, ◌+◌, ◌≤◌, true, List, [], ◌∷◌, None, Some, length, codes}
-use Rattle.es3_heap.specs.declared.value.Value.{Value}
-use Rattle.es3_heap.specs.declared.value.Value.TheVariants.{Obj, Bool, Undefined}
-use Rattle.es3_heap.specs.declared.value.Class.TheVariants as class
-use Rattle.es3_heap.specs.declared.value.FuncKind.{FuncKind}
-use Rattle.es3_heap.specs.declared.value.FuncKind.TheVariants.{Simple}
-use Rattle.es3_heap.specs.declared.value.Proto.TheVariants as proto
-use Rattle.es3_heap.specs.declared.value.Tag.{Tag}
-use Rattle.es3_heap.specs.declared.value.Tag.TheVariants as tag
+use Rattle.es3_objects.specs.declared.value.Value.{Value}
+use Rattle.es3_objects.specs.declared.value.Value.TheVariants.{Obj, Bool, Undefined}
+use Rattle.es3_objects.specs.declared.value.Class.TheVariants as class
+use Rattle.es3_objects.specs.declared.value.FuncKind.{FuncKind}
+use Rattle.es3_objects.specs.declared.value.FuncKind.TheVariants.{Simple}
+use Rattle.es3_objects.specs.declared.value.Proto.TheVariants as proto
+use Rattle.es3_objects.specs.declared.value.Tag.{Tag}
+use Rattle.es3_objects.specs.declared.value.Tag.TheVariants as tag
 use Rattle.es3_heap.specs.Objects.{Object, Objects, plain_attrs, hidden_attrs, with_object}
 use Rattle.es3_heap.specs.Properties.{define}
 use Rattle.es3_heap.specs.Making.{new_objects, made, made_function, tagged, proto_id}

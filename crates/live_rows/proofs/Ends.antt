@@ -1,7 +1,7 @@
 -- What a row is done with: the objects have grown, and what is answered was live already.
 use Rattle.std.proofs.Common.{Bool, true, false, List, length, cond}
 use Rattle.plans.specs.Plans.{Fault}
-use Rattle.es3_heap.specs.declared.value.Value.{Value}
+use Rattle.es3_objects.specs.declared.value.Value.{Value}
 use Rattle.es3_heap.specs.Objects.{Objects}
 use Rattle.es3_language.specs.Natives.{stop_reply}
 use Rattle.es3_live.specs.Live.{IsLive, AreClosed}

@@ -3,8 +3,8 @@ use Rattle.std.proofs.Common.{ℕ, ◌+◌, List, [], ◌∷◌, All, length}
 use Rattle.std.specs.Prelude.{pos, if◌then◌else◌}
 use Rattle.std.proofs.lemmas.List.Elements.{All-head, All-tail}
 use Rattle.caja_units.specs.Index.{number_units}
-use Rattle.es3_heap.specs.declared.value.Value.{Value}
-use Rattle.es3_heap.specs.declared.value.Value.TheVariants.{Num}
+use Rattle.es3_objects.specs.declared.value.Value.{Value}
+use Rattle.es3_objects.specs.declared.value.Value.TheVariants.{Num}
 use Rattle.es3_heap.specs.Objects.{Property, Objects, plain_attrs, fixed_attrs, object_at, props_of, class_of}
 use Rattle.es3_heap.specs.Properties.{length_key, defined}
 use Rattle.es3_heap.specs.Items.{with_items, items_set, set_items}

@@ -2,10 +2,10 @@
 use Rattle.std.proofs.Common.{ℕ, ◌≤◌, Bool, true, false, List, [], ◌∷◌, ◌++◌, All, length, cond}
 use Rattle.std.specs.Prelude.{nat_eq}
 use Rattle.std.proofs.lemmas.List.Elements.{All-nil, All-cons, All-append}
-use Rattle.es3_heap.specs.declared.value.Value.{Value}
-use Rattle.es3_heap.specs.declared.value.Value.TheVariants as v
-use Rattle.es3_heap.specs.declared.value.Tag.{Tag}
-use Rattle.es3_heap.specs.declared.value.Tag.TheVariants as tag
+use Rattle.es3_objects.specs.declared.value.Value.{Value}
+use Rattle.es3_objects.specs.declared.value.Value.TheVariants as v
+use Rattle.es3_objects.specs.declared.value.Tag.{Tag}
+use Rattle.es3_objects.specs.declared.value.Tag.TheVariants as tag
 use Rattle.es3_heap.specs.Objects.{Objects}
 use Rattle.es3_live.specs.Live.{IsLive, AreClosed}
 use Rattle.es3_live.proofs.Growth.{live_more, all_more}

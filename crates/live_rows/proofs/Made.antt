@@ -3,12 +3,12 @@ use Rattle.std.proofs.Common.{ℕ, ◌+◌, ◌<◌, Bool, true, false, List, []
 use Rattle.std.specs.Prelude.{map, codes}
 use Rattle.std.proofs.lemmas.List.Elements.{All-nil, All-cons, All-head, All-tail}
 use Rattle.caja_units.specs.Index.{number_units}
-use Rattle.es3_heap.specs.declared.value.Value.{Value}
-use Rattle.es3_heap.specs.declared.value.Value.TheVariants as v
-use Rattle.es3_heap.specs.declared.value.Class.{Class}
-use Rattle.es3_heap.specs.declared.value.Class.TheVariants as class
-use Rattle.es3_heap.specs.declared.value.Proto.{Proto}
-use Rattle.es3_heap.specs.declared.value.Proto.TheVariants as proto
+use Rattle.es3_objects.specs.declared.value.Value.{Value}
+use Rattle.es3_objects.specs.declared.value.Value.TheVariants as v
+use Rattle.es3_objects.specs.declared.value.Class.{Class}
+use Rattle.es3_objects.specs.declared.value.Class.TheVariants as class
+use Rattle.es3_objects.specs.declared.value.Proto.{Proto}
+use Rattle.es3_objects.specs.declared.value.Proto.TheVariants as proto
 use Rattle.es3_heap.specs.Objects.{Object, Objects, plain_attrs, hidden_attrs, object_at, class_of, with_object}
 use Rattle.es3_heap.specs.Making.{length_property, item_properties, array_object, error_object}
 use Rattle.es3_language.specs.Natives.{Reply, value_reply, throw_reply}

@@ -2,8 +2,8 @@
 use Rattle.std.proofs.Common.{ℕ, true, List, length}
 use Rattle.std.specs.Prelude.{◌&&◌, ◌||◌, not, is_some, if◌then◌else◌}
 use Rattle.caja_units.specs.Units.{is_hidden}
-use Rattle.es3_heap.specs.declared.value.Value.{Value}
-use Rattle.es3_heap.specs.declared.value.Value.TheVariants as v
+use Rattle.es3_objects.specs.declared.value.Value.{Value}
+use Rattle.es3_objects.specs.declared.value.Value.TheVariants as v
 use Rattle.es3_heap.specs.Objects.{Objects, hidden_attrs, object_at, class_of}
 use Rattle.es3_heap.specs.Properties.{own, put, delete}
 use Rattle.es3_live.specs.Live.{IsLive, AreClosed}

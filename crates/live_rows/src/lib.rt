@@ -5,7 +5,7 @@
 #![tactic(auto)]
 
 ghost use Rattle.std.specs.Prelude.{◌≡◌, ℕ, List, true, length, All};
-ghost use Rattle.es3_heap.specs.declared.value.Value.{Value};
+ghost use Rattle.es3_objects.specs.declared.value.Value.{Value};
 ghost use Rattle.es3_heap.specs.Objects.{Objects};
 ghost use Rattle.es3_live.specs.Live.{IsLive, AreClosed};
 ghost use Rattle.rows.specs.Rows.{Native, Row};

@@ -1,7 +1,7 @@
 -- A row that is among objects names common built-in functions alone, and these stand in their places.
 use Rattle.std.proofs.Common.{◌≡◌, ℕ, true, List, [], ◌∷◌, All, length, suc}
 use Rattle.std.proofs.lemmas.List.Elements.{All-nil, All-cons, All-head, All-tail}
-use Rattle.es3_heap.specs.declared.value.Value.{Value}
+use Rattle.es3_objects.specs.declared.value.Value.{Value}
 use Rattle.es3_heap.specs.Objects.{Objects}
 use Rattle.es3_live.specs.Live.{IsLive, AreClosed}
 use Rattle.rows.specs.Rows as r

@@ -1,8 +1,8 @@
 -- What the call of a key comes to, by the public property of the key.
 use Rattle.std.specs.Prelude.{ℕ, Bool, true, false, List, Option, Some, None, codes, if◌then◌else◌}
-use Rattle.es3_heap.specs.declared.value.Value.{Value}
-use Rattle.es3_heap.specs.declared.value.Value.TheVariants as v
-use Rattle.es3_heap.specs.declared.value.FuncKind.{FuncKind}
+use Rattle.es3_objects.specs.declared.value.Value.{Value}
+use Rattle.es3_objects.specs.declared.value.Value.TheVariants as v
+use Rattle.es3_objects.specs.declared.value.FuncKind.{FuncKind}
 use Rattle.es3_heap.specs.Objects.{Objects}
 use Rattle.es3_language.specs.Natives.{Reply, throw_reply, invoke_reply}
 use Rattle.heap_rows.specs.Doing.{Done}

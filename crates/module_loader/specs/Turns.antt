@@ -3,8 +3,8 @@ use Rattle.std.specs.Prelude.{ℕ, ◌+◌, ◌*◌, List, [], ◌∷◌, ◌++�
 use Rattle.plans.specs.Plans.{ends, stops}
 use Rattle.page_deeds.specs.Deeds as deed
 use Rattle.page_deeds.specs.Deeds.{Plain, Grant, a_cell, a_result, a_plain, Grants}
-use Rattle.es3_heap.specs.declared.value.Value.{Value}
-use Rattle.es3_heap.specs.declared.value.Value.TheVariants as v
+use Rattle.es3_objects.specs.declared.value.Value.{Value}
+use Rattle.es3_objects.specs.declared.value.Value.TheVariants as v
 use Rattle.es3_heap.specs.Objects.{Objects, with_object}
 use Rattle.es3_language.specs.Store.{Store, with_heap}
 use Rattle.es3_language.specs.Natives.{Reply, value_reply, throw_reply, invoke_reply, stop_reply}

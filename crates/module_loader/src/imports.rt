@@ -1,7 +1,7 @@
 //! The functions of modules and of cells, and what a module may import.
 
 ghost use Rattle.std.specs.Prelude.{◌≡◌, ◌<◌, ◌≤◌, ◌∷◌, ◌++◌, [], IfOk, OnOk, length, map};
-ghost use Rattle.es3_heap.specs.declared.value.Value.TheVariants.{Obj};
+ghost use Rattle.es3_objects.specs.declared.value.Value.TheVariants.{Obj};
 ghost use Rattle.es3_heap.specs.Objects.{with_object};
 ghost use Rattle.freeze_marks.specs.Records.{AreNew};
 ghost use Rattle.heap_rows.specs.Opening.{named_function, fixed_values, with_module, with_modules, with_cell, with_cells};

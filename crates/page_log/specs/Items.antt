@@ -2,7 +2,7 @@
 use Rattle.std.specs.Prelude.{ℕ, List, [], ◌∷◌, Option, Some, None, map}
 use Rattle.page_deeds.specs.Deeds as deed
 use Rattle.page_deeds.specs.Shown as show
-use Rattle.es3_heap.specs.declared.value.Tag.{Tag}
+use Rattle.es3_objects.specs.declared.value.Tag.{Tag}
 use Rattle.es3_language.specs.declared.Touch.{Touch}
 use Rattle.es3_language.specs.declared.Touch.TheVariants as t
 use Rattle.es3_language.specs.Natives.{Touched}

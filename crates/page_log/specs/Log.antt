@@ -6,8 +6,8 @@ use Rattle.caja_units.specs.Literal.{literal}
 use Rattle.caja_units.specs.Utf8.{utf8_of}
 use Rattle.page_deeds.specs.Deeds.{Label, of_load, of_call, of_tick}
 use Rattle.page_deeds.specs.Shown.{Shown, undefined, null, truth, number, text, thing, error, Sort, a_record, an_array, a_function, a_node, Ended, by_return, by_throw, by_nothing}
-use Rattle.es3_heap.specs.declared.value.Tag.{Tag}
-use Rattle.es3_heap.specs.declared.value.Tag.TheVariants as tag
+use Rattle.es3_objects.specs.declared.value.Tag.{Tag}
+use Rattle.es3_objects.specs.declared.value.Tag.TheVariants as tag
 use Rattle.rows.specs.Rows.{Touch, to_get, to_set, to_delete, to_has, to_keys, to_new, to_call}
 use Rattle.rows.specs.Names.{of_cajita, of_math}
 use Rattle.rows.specs.Paths.{tools_path, path_of}

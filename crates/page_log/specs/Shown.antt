@@ -1,11 +1,11 @@
 -- What the log shows of a value of ES3.
 use Rattle.std.specs.Prelude.{ℕ, List, [], codes}
 use Rattle.page_deeds.specs.Shown.{Shown, undefined, null, truth, number, text, thing, error, a_record, an_array, a_function, a_node}
-use Rattle.es3_heap.specs.declared.value.Value.{Value}
-use Rattle.es3_heap.specs.declared.value.Value.TheVariants as v
-use Rattle.es3_heap.specs.declared.value.Class.{Class}
-use Rattle.es3_heap.specs.declared.value.Class.TheVariants as class
-use Rattle.es3_heap.specs.declared.value.Tag.{Tag}
+use Rattle.es3_objects.specs.declared.value.Value.{Value}
+use Rattle.es3_objects.specs.declared.value.Value.TheVariants as v
+use Rattle.es3_objects.specs.declared.value.Class.{Class}
+use Rattle.es3_objects.specs.declared.value.Class.TheVariants as class
+use Rattle.es3_objects.specs.declared.value.Tag.{Tag}
 use Rattle.es3_heap.specs.Objects.{Objects, object_at, class_of, tag_of}
 use Rattle.es3_heap.specs.Properties.{own, value_of}
 

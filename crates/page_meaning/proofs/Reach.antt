@@ -2,7 +2,7 @@
 use Rattle.std.proofs.Common.{◌≡◌, ℕ, ◌≤◌, true, List, [], ◌∷◌, ◌++◌, refl, sym, ap, ◌∙◌, subst}
 use Rattle.std.proofs.lemmas.List.{append_assoc}
 use Rattle.plans.specs.Plans.{kept_of}
-use Rattle.es3_heap.specs.declared.value.Tag.{Tag}
+use Rattle.es3_objects.specs.declared.value.Tag.{Tag}
 use Rattle.rows.specs.Rows.{Touch}
 use Rattle.rows.specs.Nodes.{no_rules}
 use Rattle.heap_rows.specs.Doing as told

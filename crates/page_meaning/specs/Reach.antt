@@ -2,7 +2,7 @@
 use Rattle.std.specs.Prelude.{◌≡◌, ◌≤◌, ℕ, true, List, ◌∷◌, ◌++◌}
 use Rattle.plans.specs.Plans.{kept_of}
 use Rattle.es3_tree.specs.Tree as t
-use Rattle.es3_heap.specs.declared.value.Tag.{Tag}
+use Rattle.es3_objects.specs.declared.value.Tag.{Tag}
 use Rattle.rows.specs.Rows.{Touch}
 use Rattle.heap_rows.specs.Doing.{Told, touched}
 use Rattle.cajita_tree.specs.Tree as c

@@ -2,9 +2,9 @@
 use Rattle.std.proofs.Common.{◌≡◌, ℕ, [], ◌∙◌, subst}
 use Rattle.std.specs.Prelude.{Result, slice_get, unwrap_or}
 use Rattle.std.proofs.lemmas.Option.{unwrap_or-slice_get}
-use Rattle.es3_heap.specs.declared.value.Value.{Value}
-use Rattle.es3_heap.specs.declared.value.Value.TheVariants as v
-use Rattle.es3_heap.specs.declared.value.Stop.{Stop}
+use Rattle.es3_objects.specs.declared.value.Value.{Value}
+use Rattle.es3_objects.specs.declared.value.Value.TheVariants as v
+use Rattle.es3_objects.specs.declared.value.Stop.{Stop}
 use Rattle.es3_heap.specs.Objects.{Objects}
 use Rattle.es3_moves.specs.Answers.{Answers}
 use Rattle.heap_rows.specs.Doing.{gives}

@@ -1,6 +1,6 @@
 -- What is told, where touches are asked for and where they are not.
 use Rattle.std.proofs.Common.{◌≡◌, ℕ, true, false, List, ◌++◌, Option, sym, ap, ◌∙◌, append-nil}
-use Rattle.es3_heap.specs.declared.value.Value.{Value}
+use Rattle.es3_objects.specs.declared.value.Value.{Value}
 use Rattle.es3_heap.specs.Objects.{Objects}
 use Rattle.heap_rows.specs.Doing.{Told, heard}
 use Rattle.guard_runtime.specs.declared.Guard.{Guard}

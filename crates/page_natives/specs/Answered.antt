@@ -1,6 +1,6 @@
 -- What a function comes to, as the answer of a native and as its turn, whatever natives keep.
 use Rattle.std.specs.Prelude.{Result, Ok, Err}
-use Rattle.es3_heap.specs.declared.value.Stop.{Stop}
+use Rattle.es3_objects.specs.declared.value.Stop.{Stop}
 use Rattle.es3_language.specs.Natives.{Turn}
 use Rattle.es3_moves.specs.declared.natives.Answer.{Answer}
 use Rattle.es3_moves.specs.declared.natives.Answer.TheVariants as answer

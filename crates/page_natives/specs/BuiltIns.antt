@@ -1,6 +1,6 @@
 -- The built-in functions of a page: what each comes to, by its number.
 use Rattle.std.specs.Prelude.{ℕ, ◌-◌, List, Option, None, slice_get, nat_lt, if◌then◌else◌}
-use Rattle.es3_heap.specs.declared.value.Value.{Value}
+use Rattle.es3_objects.specs.declared.value.Value.{Value}
 use Rattle.es3_heap.specs.Objects.{Objects}
 use Rattle.rows.specs.Rows as r
 use Rattle.heap_rows.specs.Doing.{Done}

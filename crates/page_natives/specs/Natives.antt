@@ -1,15 +1,15 @@
 -- The natives of a page: what each answers, by its number, and what they keep.
 use Rattle.std.specs.Prelude.{ℕ, ◌+◌, ◌-◌, ◌/◌, ◌%◌, ◌<◌, Bool, false, List, [], ◌∷◌, ◌++◌, All, Option, Some, None, Result, Ok, Err, is_some, map, length, get_or, set, replicate, codes, nat_eq, nat_lt, drop, if◌then◌else◌}
 use Rattle.plans.specs.Plans.{Fault}
-use Rattle.es3_heap.specs.declared.value.Value.{Value}
-use Rattle.es3_heap.specs.declared.value.Value.TheVariants as v
-use Rattle.es3_heap.specs.declared.value.Class.{Class}
-use Rattle.es3_heap.specs.declared.value.Class.TheVariants as class
-use Rattle.es3_heap.specs.declared.value.FuncKind.{FuncKind}
-use Rattle.es3_heap.specs.declared.value.FuncKind.TheVariants as kind
+use Rattle.es3_objects.specs.declared.value.Value.{Value}
+use Rattle.es3_objects.specs.declared.value.Value.TheVariants as v
+use Rattle.es3_objects.specs.declared.value.Class.{Class}
+use Rattle.es3_objects.specs.declared.value.Class.TheVariants as class
+use Rattle.es3_objects.specs.declared.value.FuncKind.{FuncKind}
+use Rattle.es3_objects.specs.declared.value.FuncKind.TheVariants as kind
 use Rattle.es3_heap.specs.Objects.{Objects, object_at, class_of, callable_of}
 use Rattle.es3_heap.specs.Properties.{own}
-use Rattle.es3_heap.specs.Reading.{kind_of}
+use Rattle.es3_objects.specs.Reading.{kind_of}
 use Rattle.es3_convert.specs.Conversions.{text_of}
 use Rattle.es3_language.specs.Natives.{Turn, Table}
 use Rattle.es3_live.specs.Live.{IsLive}

@@ -1,8 +1,8 @@
 -- The functions of a module and of a cell beside the rows that they have among objects: there the function itself stands in the place of the receiver, and is known by
 -- its name.
 use Rattle.std.specs.Prelude.{◌≡◌, ℕ, suc, true, List, ◌∷◌, [], ◌++◌, length, Some}
-use Rattle.es3_heap.specs.declared.value.Value.{Value}
-use Rattle.es3_heap.specs.declared.value.Tag.{Tag}
+use Rattle.es3_objects.specs.declared.value.Value.{Value}
+use Rattle.es3_objects.specs.declared.value.Tag.{Tag}
 use Rattle.es3_heap.specs.Objects.{Objects}
 use Rattle.rows.specs.Rows.{Native}
 use Rattle.rows.specs.Nodes.{Rules}

@@ -6,7 +6,7 @@
 
 ghost use Rattle.rows.specs.Rows.{say, later, get, set};
 ghost use Rattle.std.specs.Prelude.{ℕ};
-ghost use Rattle.es3_heap.specs.declared.value.Tag.TheVariants as tag;
+ghost use Rattle.es3_objects.specs.declared.value.Tag.TheVariants as tag;
 ghost use Rattle.heap_rows.specs.Natives.{own_number, cell_number};
 ghost use Rattle.page_natives.specs.OwnFunctions.{DoesItsRow, HasItsNumber, BuiltInsDoTheirRows};
 

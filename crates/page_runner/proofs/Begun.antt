@@ -1,8 +1,8 @@
 -- What a page begins with: nothing was loaded.
 use Rattle.std.proofs.Common.{◌≡◌, ℕ, zero, suc, List, refl, replicate}
 use Rattle.std.proofs.Math.Path.{fun_ext}
-use Rattle.es3_heap.specs.declared.value.Value.{Value}
-use Rattle.es3_heap.specs.declared.value.Value.TheVariants.{Undefined}
+use Rattle.es3_objects.specs.declared.value.Value.{Value}
+use Rattle.es3_objects.specs.declared.value.Value.TheVariants.{Undefined}
 use Rattle.page_runner.specs.Page.{no_results}
 use Rattle.page_runner.specs.Runner.{results_of}
 

@@ -6,10 +6,10 @@ use Rattle.plans.specs.Plans.{over, run}
 use Rattle.page_deeds.specs.Deeds as deed
 use Rattle.pages.specs.Pages.{turns_or_none, deed as deed_of_page}
 use Rattle.es3_tree.specs.Tree as t
-use Rattle.es3_heap.specs.declared.value.Value.{Value}
-use Rattle.es3_heap.specs.declared.value.Value.TheVariants.{Undefined}
-use Rattle.es3_heap.specs.declared.value.Stop.{Stop}
-use Rattle.es3_heap.specs.declared.value.Stop.TheVariants as stop
+use Rattle.es3_objects.specs.declared.value.Value.{Value}
+use Rattle.es3_objects.specs.declared.value.Value.TheVariants.{Undefined}
+use Rattle.es3_objects.specs.declared.value.Stop.{Stop}
+use Rattle.es3_objects.specs.declared.value.Stop.TheVariants as stop
 use Rattle.es3_heap.specs.Objects.{Objects}
 use Rattle.es3_language.specs.Store.{Store, with_heap}
 use Rattle.es3_language.specs.Natives.{Reply, throw_reply, invoke_reply}

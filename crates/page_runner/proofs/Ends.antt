@@ -1,8 +1,8 @@
 -- What an answer says of the page's run.
 use Rattle.std.proofs.Common.{ℕ, List, Result, Ok, Err, IfOk, refl, ap, subst}
 use Rattle.caja_units.specs.declared.Memory.{Memory}
-use Rattle.es3_heap.specs.declared.value.Stop.{Stop}
-use Rattle.es3_heap.specs.declared.value.Stop.TheVariants as stop
+use Rattle.es3_objects.specs.declared.value.Stop.{Stop}
+use Rattle.es3_objects.specs.declared.value.Stop.TheVariants as stop
 use Rattle.es3_language.specs.Store.{Store}
 use Rattle.page_log.specs.Log.{Names}
 use Rattle.page_natives.specs.Natives.{Kept, kept_of}

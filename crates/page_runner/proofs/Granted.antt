@@ -5,7 +5,7 @@ use Rattle.std.specs.List.{list_any}
 use Rattle.std.proofs.lemmas.List.{map-append}
 use Rattle.std.proofs.lemmas.List.Elements.{All-tail}
 use Rattle.caja_units.specs.Units.{same_units}
-use Rattle.es3_heap.specs.declared.value.Value.{Value}
+use Rattle.es3_objects.specs.declared.value.Value.{Value}
 use Rattle.freeze_marks.specs.Records.{has_key, AreNew}
 use Rattle.heap_rows.specs.Opening.{fixed_values}
 use Rattle.module_loader.specs.Turns.{Results, say_place, granted_value, granted_pairs}

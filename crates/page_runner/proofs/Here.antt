@@ -1,8 +1,8 @@
 -- Where a machine is: what the host changes of it, and what a run leaves. All that is used of the relation between a machine and a store stands here.
 use Rattle.std.proofs.Common.{◌≡◌, ℕ, ◌-◌, Option, Ok, Err, refl, sym, ap, ◌∙◌, subst, arith}
 use Rattle.plans.specs.Plans.{over}
-use Rattle.es3_heap.specs.declared.value.Stop.{Stop}
-use Rattle.es3_heap.specs.declared.value.Stop.TheVariants as stop
+use Rattle.es3_objects.specs.declared.value.Stop.{Stop}
+use Rattle.es3_objects.specs.declared.value.Stop.TheVariants as stop
 use Rattle.es3_heap.specs.Objects.{Objects}
 use Rattle.es3_language.specs.Store.{Store, with_heap}
 use Rattle.es3_language.specs.Meaning.{Run as TurnRun}

@@ -1,7 +1,7 @@
 -- Deeds one after another: what is left of the page, from here, is the whole page.
 use Rattle.std.proofs.Common.{◌≡◌, ℕ, List, [], ◌∷◌, Result, Err, refl, sym, ap, ◌∙◌, subst}
 use Rattle.pages.specs.Pages.{chain, deed as deed_of_page, page}
-use Rattle.es3_heap.specs.declared.value.Stop.{Stop}
+use Rattle.es3_objects.specs.declared.value.Stop.{Stop}
 use Rattle.es3_language.specs.Store.{Store}
 use Rattle.page_natives.specs.Natives.{kept_of}
 use Rattle.page_runner.specs.Page.{Deed, Run, evaluator}

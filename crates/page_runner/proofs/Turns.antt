@@ -9,10 +9,10 @@ use Rattle.page_deeds.specs.Deeds as deed
 use Rattle.page_deeds.specs.Deeds.{label_of}
 use Rattle.pages.specs.Pages.{Turn as TurnOf, chain, turns}
 use Rattle.es3_tree.specs.Tree as t
-use Rattle.es3_heap.specs.declared.value.Value.{Value}
-use Rattle.es3_heap.specs.declared.value.Value.TheVariants.{Undefined}
-use Rattle.es3_heap.specs.declared.value.Stop.{Stop}
-use Rattle.es3_heap.specs.declared.value.Stop.TheVariants as stop
+use Rattle.es3_objects.specs.declared.value.Value.{Value}
+use Rattle.es3_objects.specs.declared.value.Value.TheVariants.{Undefined}
+use Rattle.es3_objects.specs.declared.value.Stop.{Stop}
+use Rattle.es3_objects.specs.declared.value.Stop.TheVariants as stop
 use Rattle.es3_language.specs.Store.{Store}
 use Rattle.es3_language.specs.Natives.{Touched}
 use Rattle.es3_language.specs.Meaning.{Completion as EsCompletion, Task, es3}

@@ -2,7 +2,7 @@
 use Rattle.std.specs.Prelude.{◌≡◌, ℕ, Bool, List, length, Result}
 use Rattle.plans.specs.Plans.{Fault, number_fault, depth_fault, convert_fault, over, stopped, out, kept_of}
 use Rattle.page_log.specs.Log.{Names, log}
-use Rattle.es3_heap.specs.declared.value.Stop.{Stop}
+use Rattle.es3_objects.specs.declared.value.Stop.{Stop}
 use Rattle.es3_language.specs.Store.{Store}
 use Rattle.heap_rows.specs.Opening.{runtime_id}
 use Rattle.page_natives.specs.Natives.{Kept, new_kept, kept_of as natives_kept}

@@ -5,9 +5,9 @@ use Rattle.page_deeds.specs.Deeds.{Deed as DeedOf, to_load, to_call, to_tick, la
 use Rattle.page_deeds.specs.Shown.{Ended, by_return, by_throw, by_nothing}
 use Rattle.pages.specs.Pages.{Begun as BegunOf, Evaluator, page}
 use Rattle.es3_tree.specs.Tree as t
-use Rattle.es3_heap.specs.declared.value.Value.{Value}
-use Rattle.es3_heap.specs.declared.value.Value.TheVariants.{Undefined}
-use Rattle.es3_heap.specs.declared.value.Tag.{Tag}
+use Rattle.es3_objects.specs.declared.value.Value.{Value}
+use Rattle.es3_objects.specs.declared.value.Value.TheVariants.{Undefined}
+use Rattle.es3_objects.specs.declared.value.Tag.{Tag}
 use Rattle.es3_heap.specs.Objects.{Objects}
 use Rattle.es3_language.specs.Store.{Store, with_heap}
 use Rattle.es3_language.specs.Natives.{Touched}

@@ -2,7 +2,7 @@
 use Rattle.std.proofs.Common.{◌≡◌, ℕ, ◌+◌, ◌-◌, ◌*◌, ◌≤◌, List, [], ◌∷◌, ◌++◌, refl, subst, arith}
 use Rattle.page_deeds.specs.Deeds.{Plain, Grant, a_cell, a_result, a_plain, Grants}
 use Rattle.page_deeds.specs.Deeds as deed
-use Rattle.es3_heap.specs.declared.value.Value.TheVariants as es
+use Rattle.es3_objects.specs.declared.value.Value.TheVariants as es
 use Rattle.es3_heap.specs.Objects.{Objects}
 use Rattle.es3_language.specs.Store.{Store}
 use Rattle.cajita_meaning.specs.World as world

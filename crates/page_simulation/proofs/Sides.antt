@@ -5,7 +5,7 @@ use Rattle.page_deeds.specs.Deeds.{to_load, to_call, to_tick, label_of}
 use Rattle.page_deeds.specs.Shown.{by_nothing}
 use Rattle.pages.specs.Pages.{GrowsOn}
 use Rattle.pages.specs.Pairs.{PageSides}
-use Rattle.es3_heap.specs.declared.value.Value as es_value
+use Rattle.es3_objects.specs.declared.value.Value as es_value
 use Rattle.es3_language.specs.Store.{Store}
 use Rattle.es3_language.specs.Natives.{Touched}
 use Rattle.es3_language.specs.Meaning as Target

@@ -2,12 +2,12 @@
 use Rattle.std.proofs.Common.{◌≡◌, ℕ, suc, ◌+◌, ◌-◌, true, false, List, [], ◌∷◌, ◌++◌, length, map, Option, Some, None, Result, refl, sym, ap, ◌∙◌, subst, append_assoc, arith}
 use Rattle.std.specs.Prelude.{is_some, nat_lt, codes}
 use Rattle.std.proofs.lemmas.Bool.Decides.{nat_tests}
-use Rattle.es3_heap.specs.declared.value.Stop.{Stop}
-use Rattle.es3_heap.specs.declared.value.Value.{Value}
-use Rattle.es3_heap.specs.declared.value.Value.TheVariants as v
-use Rattle.es3_heap.specs.declared.value.Class.{Class}
-use Rattle.es3_heap.specs.declared.value.Class.TheVariants as class
-use Rattle.es3_heap.specs.declared.value.FuncKind.{FuncKind}
+use Rattle.es3_objects.specs.declared.value.Stop.{Stop}
+use Rattle.es3_objects.specs.declared.value.Value.{Value}
+use Rattle.es3_objects.specs.declared.value.Value.TheVariants as v
+use Rattle.es3_objects.specs.declared.value.Class.{Class}
+use Rattle.es3_objects.specs.declared.value.Class.TheVariants as class
+use Rattle.es3_objects.specs.declared.value.FuncKind.{FuncKind}
 use Rattle.es3_heap.specs.Objects.{Objects, object_at, class_of, callable_of}
 use Rattle.es3_heap.specs.Properties.{own}
 use Rattle.es3_language.specs.Natives.{value_reply, invoke_reply}

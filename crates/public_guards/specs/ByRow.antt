@@ -1,6 +1,6 @@
 -- What a row comes to among the objects of a page.
 use Rattle.std.specs.Prelude.{ℕ, List, []}
-use Rattle.es3_heap.specs.declared.value.Value.{Value}
+use Rattle.es3_objects.specs.declared.value.Value.{Value}
 use Rattle.es3_heap.specs.Objects.{Objects}
 use Rattle.rows.specs.Rows.{Row}
 use Rattle.heap_rows.specs.Doing.{Done, does}

@@ -1,6 +1,6 @@
 -- keysPub: a new array of keys, without a name.
 use Rattle.std.specs.Prelude.{ℕ, List, [], Option, Some, None, length, map, nat_lt, codes, if◌then◌else◌}
-use Rattle.es3_heap.specs.declared.value.Value.TheVariants as v
+use Rattle.es3_objects.specs.declared.value.Value.TheVariants as v
 use Rattle.es3_heap.specs.Objects.{Objects, with_object}
 use Rattle.es3_heap.specs.Making.{array_object}
 use Rattle.rows.specs.Rows.{most_items}

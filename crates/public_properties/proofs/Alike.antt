@@ -1,7 +1,7 @@
 -- What two rows come to is alike where the answer and the objects are the same, whatever was touched.
 use Rattle.std.proofs.Common.{◌≡◌, Result, Ok, Err, ap, ◌∙◌}
-use Rattle.es3_heap.specs.declared.value.Stop.{Stop}
-use Rattle.es3_heap.specs.declared.value.Stop.TheVariants as stop
+use Rattle.es3_objects.specs.declared.value.Stop.{Stop}
+use Rattle.es3_objects.specs.declared.value.Stop.TheVariants as stop
 use Rattle.es3_heap.specs.Objects.{Objects}
 use Rattle.heap_rows.specs.Doing.{Done}
 use Rattle.row_outcomes.specs.declared.Outcome.{Outcome}

@@ -2,12 +2,12 @@
 use Rattle.std.proofs.Common.{◌≡◌, ℕ, suc, List, [], ◌∷◌, ◌++◌, length, Option, Some, None, Result, Ok, Err, refl, sym, ap, subst}
 use Rattle.std.specs.Prelude.{is_some, codes}
 use Rattle.plans.specs.Plans.{Fault}
-use Rattle.es3_heap.specs.declared.value.Stop.{Stop}
-use Rattle.es3_heap.specs.declared.value.Stop.TheVariants as stop
-use Rattle.es3_heap.specs.declared.value.Value.{Value}
-use Rattle.es3_heap.specs.declared.value.Value.TheVariants as v
-use Rattle.es3_heap.specs.declared.value.Class.{Class}
-use Rattle.es3_heap.specs.declared.value.Class.TheVariants as class
+use Rattle.es3_objects.specs.declared.value.Stop.{Stop}
+use Rattle.es3_objects.specs.declared.value.Stop.TheVariants as stop
+use Rattle.es3_objects.specs.declared.value.Value.{Value}
+use Rattle.es3_objects.specs.declared.value.Value.TheVariants as v
+use Rattle.es3_objects.specs.declared.value.Class.{Class}
+use Rattle.es3_objects.specs.declared.value.Class.TheVariants as class
 use Rattle.es3_heap.specs.Objects.{Objects, object_at, class_of, callable_of}
 use Rattle.es3_heap.specs.Properties.{own}
 use Rattle.es3_convert.specs.Answers.{Answers}

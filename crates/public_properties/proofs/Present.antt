@@ -3,10 +3,10 @@ use Rattle.std.proofs.Common.{◌≡◌, ℕ, Bool, true, false, List, [], ◌++
 use Rattle.std.specs.Prelude.{slice_get, option_map, is_some, nat_lt, not, ◌&&◌, ◌||◌, cond}
 use Rattle.caja_units.specs.Units.{same_units, is_hidden}
 use Rattle.caja_units.specs.Index.{array_index, number_units}
-use Rattle.es3_heap.specs.declared.value.Value.{Value}
-use Rattle.es3_heap.specs.declared.value.Value.TheVariants as v
-use Rattle.es3_heap.specs.declared.value.Class.{Class}
-use Rattle.es3_heap.specs.declared.value.Class.TheVariants as class
+use Rattle.es3_objects.specs.declared.value.Value.{Value}
+use Rattle.es3_objects.specs.declared.value.Value.TheVariants as v
+use Rattle.es3_objects.specs.declared.value.Class.{Class}
+use Rattle.es3_objects.specs.declared.value.Class.TheVariants as class
 use Rattle.es3_heap.specs.Objects.{Objects, object_at, class_of, callable_of, props_of}
 use Rattle.es3_heap.specs.Properties.{own, value_of, length_key}
 use Rattle.es3_convert.specs.Conversions.{array_items}

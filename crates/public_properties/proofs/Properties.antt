@@ -6,14 +6,14 @@ use Rattle.std.proofs.lemmas.Bool.Decides.{nat_tests}
 use Rattle.std.proofs.lemmas.Option.{same_Some}
 use Rattle.caja_units.specs.Units.{same_units, is_hidden}
 use Rattle.caja_units.specs.Index.{array_index, number_units}
-use Rattle.es3_heap.specs.declared.value.Value.{Value}
-use Rattle.es3_heap.specs.declared.value.Value.TheVariants as v
-use Rattle.es3_heap.specs.declared.value.Class.{Class}
-use Rattle.es3_heap.specs.declared.value.Class.TheVariants as class
-use Rattle.es3_heap.specs.declared.value.FuncKind.TheVariants as kind
+use Rattle.es3_objects.specs.declared.value.Value.{Value}
+use Rattle.es3_objects.specs.declared.value.Value.TheVariants as v
+use Rattle.es3_objects.specs.declared.value.Class.{Class}
+use Rattle.es3_objects.specs.declared.value.Class.TheVariants as class
+use Rattle.es3_objects.specs.declared.value.FuncKind.TheVariants as kind
 use Rattle.es3_heap.specs.Objects.{Property, Callable, Objects, object_at, class_of, callable_of, props_of}
 use Rattle.es3_heap.specs.Properties.{own, value_of, length_key}
-use Rattle.es3_heap.specs.Reading.{kind_of}
+use Rattle.es3_objects.specs.Reading.{kind_of}
 use Rattle.es3_convert.specs.Conversions.{items_from, array_items}
 use Rattle.rows.specs.Rows as r
 use Rattle.rows.specs.Rows.{Native, Handle, held, handles, keyed_handles}

@@ -1,12 +1,12 @@
 -- What a function that modules may use runs.
 use Rattle.std.specs.Prelude.{ℕ, Option, None, if◌then◌else◌}
-use Rattle.es3_heap.specs.declared.value.Value.{Value}
-use Rattle.es3_heap.specs.declared.value.Value.TheVariants as v
-use Rattle.es3_heap.specs.declared.value.Class.{Class}
-use Rattle.es3_heap.specs.declared.value.Class.TheVariants as class
-use Rattle.es3_heap.specs.declared.value.FuncKind.{FuncKind}
+use Rattle.es3_objects.specs.declared.value.Value.{Value}
+use Rattle.es3_objects.specs.declared.value.Value.TheVariants as v
+use Rattle.es3_objects.specs.declared.value.Class.{Class}
+use Rattle.es3_objects.specs.declared.value.Class.TheVariants as class
+use Rattle.es3_objects.specs.declared.value.FuncKind.{FuncKind}
 use Rattle.es3_heap.specs.Objects.{Objects, object_at, class_of, callable_of}
-use Rattle.es3_heap.specs.Reading.{kind_of}
+use Rattle.es3_objects.specs.Reading.{kind_of}
 use Rattle.guard_marks.specs.Functions.{is_for_modules}
 
 abbrev pub class_kind : Class → Objects → ℕ → Option FuncKind

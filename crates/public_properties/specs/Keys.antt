@@ -1,8 +1,8 @@
 -- The text of a key, where there is an object that may have it.
 use Rattle.std.specs.Prelude.{ℕ, List, Option, Some, None, Result, Ok, codes}
 use Rattle.plans.specs.Plans.{Fault}
-use Rattle.es3_heap.specs.declared.value.Value.{Value}
-use Rattle.es3_heap.specs.declared.value.Value.TheVariants as v
+use Rattle.es3_objects.specs.declared.value.Value.{Value}
+use Rattle.es3_objects.specs.declared.value.Value.TheVariants as v
 use Rattle.es3_heap.specs.Objects.{Objects}
 use Rattle.es3_convert.specs.Conversions.{and_then, text_of}
 use Rattle.heap_rows.specs.Doing.{Done}

@@ -1,9 +1,9 @@
 -- The arguments of a built-in function as values, and the number that one gives where another stands for one that is undefined.
 use Rattle.std.specs.Prelude.{ℕ, ℤ, List, [], Result, Ok, Err, unwrap_or, slice_get, codes}
 use Rattle.plans.specs.Plans.{Fault}
-use Rattle.es3_heap.specs.declared.value.Value.{Value}
-use Rattle.es3_heap.specs.declared.value.Value.TheVariants as v
-use Rattle.es3_heap.specs.declared.value.Stop.{Stop}
+use Rattle.es3_objects.specs.declared.value.Value.{Value}
+use Rattle.es3_objects.specs.declared.value.Value.TheVariants as v
+use Rattle.es3_objects.specs.declared.value.Stop.{Stop}
 use Rattle.es3_heap.specs.Objects.{Objects}
 use Rattle.es3_convert.specs.Conversions.{text_of}
 use Rattle.es3_convert.specs.Numbers.{number_of}

@@ -1,6 +1,6 @@
 -- How a built-in function ends in an array: a new one, or other items of one that is there. An array has fewer than 2^32 items (ES3 15.4).
 use Rattle.std.specs.Prelude.{ℕ, List, [], length, nat_lt, if◌then◌else◌}
-use Rattle.es3_heap.specs.declared.value.Value.{Value}
+use Rattle.es3_objects.specs.declared.value.Value.{Value}
 use Rattle.es3_heap.specs.Objects.{Objects}
 use Rattle.es3_heap.specs.Items.{set_items}
 use Rattle.es3_heap.specs.Making.{array_object}

@@ -1,7 +1,7 @@
 -- The numbers of some values, from the left (ES3 9.3).
 use Rattle.std.specs.Prelude.{ℤ, List, [], ◌∷◌, Result, Ok}
 use Rattle.plans.specs.Plans.{Fault}
-use Rattle.es3_heap.specs.declared.value.Value.{Value}
+use Rattle.es3_objects.specs.declared.value.Value.{Value}
 use Rattle.es3_heap.specs.Objects.{Objects}
 use Rattle.es3_convert.specs.Conversions.{and_then}
 use Rattle.es3_convert.specs.Numbers.{number_of}

@@ -10,10 +10,10 @@ use Rattle.std.proofs.lemmas.Str.Parse.{digit_from_value}
 use Rattle.std.proofs.lemmas.Bool.Decides.{nat_tests}
 use Rattle.caja_units.specs.Units.{is_hidden}
 use Rattle.caja_units.specs.Index.{number_units}
-use Rattle.es3_heap.specs.declared.value.Value.TheVariants as es
-use Rattle.es3_heap.specs.declared.value.Class.TheVariants as class
-use Rattle.es3_heap.specs.declared.value.Tag.TheVariants as tag
-use Rattle.es3_heap.specs.declared.value.Attrs.{Attrs}
+use Rattle.es3_objects.specs.declared.value.Value.TheVariants as es
+use Rattle.es3_objects.specs.declared.value.Class.TheVariants as class
+use Rattle.es3_objects.specs.declared.value.Tag.TheVariants as tag
+use Rattle.es3_objects.specs.declared.value.Attrs.{Attrs}
 use Rattle.es3_heap.specs.Objects as heap
 use Rattle.es3_heap.specs.Objects.{Property, Objects, object_at, hidden_attrs}
 use Rattle.es3_heap.specs.Properties.{find, defined, length_key}

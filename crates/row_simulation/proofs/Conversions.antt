@@ -4,9 +4,9 @@ use Rattle.std.specs.Prelude.{◌-◌, codes, ℤ, option_map}
 use Rattle.std.proofs.lemmas.Option.{slice_get_within}
 use Rattle.plans.specs.Plans.{Fault, depth_fault}
 use Rattle.es3_tokens.specs.TextNumber.{text_number}
-use Rattle.es3_heap.specs.declared.value.Value.TheVariants as es
-use Rattle.es3_heap.specs.declared.value.Proto.{Proto}
-use Rattle.es3_heap.specs.declared.value.Proto.TheVariants as proto
+use Rattle.es3_objects.specs.declared.value.Value.TheVariants as es
+use Rattle.es3_objects.specs.declared.value.Proto.{Proto}
+use Rattle.es3_objects.specs.declared.value.Proto.TheVariants as proto
 use Rattle.es3_heap.specs.Objects as heap
 use Rattle.es3_heap.specs.Objects.{Property, Objects, object_at}
 use Rattle.es3_heap.specs.Properties.{find, own, or_else, lookup, lookup_from}

@@ -3,11 +3,11 @@ use Rattle.std.proofs.Common.{◌≡◌, ℕ, zero, suc, ◌<◌, Bool, true, fa
 use Rattle.std.specs.Prelude.{codes, map, is_some}
 use Rattle.std.proofs.lemmas.Option.{none-some}
 use Rattle.caja_units.specs.Units.{same_units, is_hidden}
-use Rattle.es3_heap.specs.declared.value.Value.TheVariants as es
+use Rattle.es3_objects.specs.declared.value.Value.TheVariants as es
 use Rattle.es3_heap.specs.Objects as heap
 use Rattle.es3_heap.specs.Objects.{Property, Objects, object_at, plain_attrs, hidden_attrs}
 use Rattle.es3_heap.specs.Properties.{find, defined}
-use Rattle.es3_heap.proofs.Laws.{find-defined-other}
+use Rattle.es3_objects.proofs.Laws.{find-defined-other}
 use Rattle.es3_language.specs.Natives.{value_reply}
 use Rattle.rows.specs.Rows as r
 use Rattle.rows.specs.Rows.{Handle, Native}

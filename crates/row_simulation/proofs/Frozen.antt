@@ -3,7 +3,7 @@ use Rattle.std.proofs.Common.{◌≡◌, ℕ, Bool, true, false, List, [], ◌�
 use Rattle.std.specs.Prelude.{is_some, codes}
 use Rattle.std.proofs.lemmas.Option.{none-some}
 use Rattle.caja_units.specs.Units.{same_units, is_hidden}
-use Rattle.es3_heap.specs.declared.value.Value.TheVariants as es
+use Rattle.es3_objects.specs.declared.value.Value.TheVariants as es
 use Rattle.es3_heap.specs.Objects.{Property, Objects, plain_attrs, hidden_attrs}
 use Rattle.es3_heap.specs.Properties.{find}
 use Rattle.cajita_meaning.specs.World.{Pairs}

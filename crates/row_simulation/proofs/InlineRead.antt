@@ -4,7 +4,7 @@ use Rattle.std.specs.Prelude.{slice_get, map, is_some}
 use Rattle.std.proofs.lemmas.Option.{none-some}
 use Rattle.plans.specs.Plans.{Fault}
 use Rattle.caja_units.specs.Units.{same_units, is_hidden}
-use Rattle.es3_heap.specs.declared.value.Value.TheVariants as es
+use Rattle.es3_objects.specs.declared.value.Value.TheVariants as es
 use Rattle.es3_heap.specs.Objects as heap
 use Rattle.es3_heap.specs.Objects.{Objects}
 use Rattle.es3_heap.specs.Properties.{find, own, get}

@@ -7,13 +7,13 @@ use Rattle.std.proofs.lemmas.List.{append-nil, length-take}
 use Rattle.std.proofs.lemmas.Bool.Decides.{nat_tests}
 use Rattle.caja_units.specs.Index.{number_units}
 use Rattle.caja_units.proofs.Indices.{array_index-number}
-use Rattle.es3_heap.specs.declared.value.Value.{Value}
-use Rattle.es3_heap.specs.declared.value.Value.TheVariants.{Num}
+use Rattle.es3_objects.specs.declared.value.Value.{Value}
+use Rattle.es3_objects.specs.declared.value.Value.TheVariants.{Num}
 use Rattle.es3_heap.specs.Objects.{Property, plain_attrs, fixed_attrs}
 use Rattle.es3_heap.specs.Properties.{defined, length_key}
 use Rattle.es3_heap.specs.Making.{length_property, item_properties}
 use Rattle.es3_heap.specs.Items.{is_past, with_items, items_set}
-use Rattle.es3_heap.proofs.Keys.{same_key-refl}
+use Rattle.es3_objects.proofs.Keys.{same_key-refl}
 use Rattle.row_simulation.proofs.Items.{array_index-length, index-not_length, index-other}
 
 abbrev item : ℕ → Value → Property

@@ -1,7 +1,7 @@
 -- Keys are listed, in an array that has no name.
 use Rattle.std.proofs.Common.{ℕ, ◌<◌, length, false, List, cond, refl, sym, subst}
 use Rattle.std.specs.Prelude.{map}
-use Rattle.es3_heap.specs.declared.value.Value.TheVariants as es
+use Rattle.es3_objects.specs.declared.value.Value.TheVariants as es
 use Rattle.es3_heap.specs.Objects.{Objects, with_object}
 use Rattle.std.proofs.lemmas.List.{length-map}
 use Rattle.es3_heap.specs.Making.{array_object}

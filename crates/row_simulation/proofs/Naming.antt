@@ -3,8 +3,8 @@ use Rattle.std.proofs.Common.{◌≡◌, ◌≢◌, ℕ, suc, ◌+◌, ◌≤◌
 use Rattle.std.specs.Prelude.{slice_get, slice_set}
 use Rattle.std.proofs.lemmas.Option.{slice_get_within, none-some}
 use Rattle.std.proofs.lemmas.List.{length-append, length-set}
-use Rattle.es3_heap.specs.declared.value.Class.TheVariants as class
-use Rattle.es3_heap.specs.declared.value.Tag.TheVariants as tag
+use Rattle.es3_objects.specs.declared.value.Class.TheVariants as class
+use Rattle.es3_objects.specs.declared.value.Tag.TheVariants as tag
 use Rattle.es3_heap.specs.Objects as heap
 use Rattle.es3_heap.specs.Objects.{Objects, object_at}
 use Rattle.es3_heap.specs.Properties.{find}

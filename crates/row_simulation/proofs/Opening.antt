@@ -5,10 +5,10 @@ use Rattle.std.proofs.lemmas.Option.{none-some}
 use Rattle.std.proofs.lemmas.List.{length-append}
 use Rattle.std.proofs.lemmas.Bool.Decides.{nat_tests}
 use Rattle.caja_units.specs.Units.{is_hidden}
-use Rattle.es3_heap.specs.declared.value.Class.TheVariants as class
-use Rattle.es3_heap.specs.declared.value.FuncKind.{FuncKind}
-use Rattle.es3_heap.specs.declared.value.Tag.{Tag}
-use Rattle.es3_heap.specs.declared.value.Tag.TheVariants as tag
+use Rattle.es3_objects.specs.declared.value.Class.TheVariants as class
+use Rattle.es3_objects.specs.declared.value.FuncKind.{FuncKind}
+use Rattle.es3_objects.specs.declared.value.Tag.{Tag}
+use Rattle.es3_objects.specs.declared.value.Tag.TheVariants as tag
 use Rattle.es3_heap.specs.Objects as heap
 use Rattle.es3_heap.specs.Objects.{object_at}
 use Rattle.es3_heap.specs.Properties.{find}

@@ -5,12 +5,12 @@ use Rattle.std.specs.List.{filter}
 use Rattle.std.specs.Cmp.Lexicographic.{same_text}
 use Rattle.std.proofs.lemmas.Option.{none-some}
 use Rattle.caja_units.specs.Units.{same_units, is_hidden}
-use Rattle.es3_heap.specs.declared.value.Value.TheVariants as es
-use Rattle.es3_heap.specs.declared.value.Attrs.{Attrs}
+use Rattle.es3_objects.specs.declared.value.Value.TheVariants as es
+use Rattle.es3_objects.specs.declared.value.Attrs.{Attrs}
 use Rattle.es3_heap.specs.Objects.{Property, Objects, plain_attrs, hidden_attrs}
 use Rattle.es3_heap.specs.Properties.{find, written, defined, without}
-use Rattle.es3_heap.proofs.Keys.{same_key-refl}
-use Rattle.es3_heap.proofs.Laws.{attrs_of, find-written, find-written-other, find-defined, find-defined-other}
+use Rattle.es3_objects.proofs.Keys.{same_key-refl}
+use Rattle.es3_objects.proofs.Laws.{attrs_of, find-written, find-written-other, find-defined, find-defined-other}
 use Rattle.cajita_meaning.specs.World.{Value, Pairs, value_at, with_value}
 use Rattle.cajita_meaning.specs.Doing.{dropped}
 use Rattle.heap_rows.specs.Marks.{read_mark, set_mark, frozen_mark, is_set_mark, without_set_marks}

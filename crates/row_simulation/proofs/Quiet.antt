@@ -4,13 +4,13 @@ use Rattle.std.specs.Prelude.{slice_get, slice_set, is_some}
 use Rattle.std.specs.Cmp.Lexicographic.{same_text}
 use Rattle.std.proofs.lemmas.List.{length-set}
 use Rattle.caja_units.specs.Units.{same_units}
-use Rattle.es3_heap.specs.declared.value.Value.{Value}
-use Rattle.es3_heap.specs.declared.value.Tag.TheVariants as tag
-use Rattle.es3_heap.specs.declared.value.Class.TheVariants as class
+use Rattle.es3_objects.specs.declared.value.Value.{Value}
+use Rattle.es3_objects.specs.declared.value.Tag.TheVariants as tag
+use Rattle.es3_objects.specs.declared.value.Class.TheVariants as class
 use Rattle.es3_heap.specs.Objects as heap
 use Rattle.es3_heap.specs.Objects.{Property, Objects, replaced}
 use Rattle.es3_heap.specs.Properties.{own, put, can_put, find, lengthened, written, with_props}
-use Rattle.es3_heap.proofs.Laws.{find-written-other}
+use Rattle.es3_objects.proofs.Laws.{find-written-other}
 use Rattle.rows.specs.Rows as r
 use Rattle.cajita_meaning.specs.World.{Name, built_name, Object}
 use Rattle.heap_rows.specs.Marks.{read_mark, set_mark}

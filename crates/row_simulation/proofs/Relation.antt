@@ -1,6 +1,6 @@
 -- What persists of values, properties and objects that correspond.
 use Rattle.std.proofs.Common.{List, [], ◌∷◌, ℕ, zero, suc, Bool}
-use Rattle.es3_heap.specs.declared.value.Value.TheVariants as es
+use Rattle.es3_objects.specs.declared.value.Value.TheVariants as es
 use Rattle.es3_heap.specs.Objects as heap
 use Rattle.es3_heap.specs.Objects.{Property, Objects}
 use Rattle.cajita_meaning.specs.World.{Value, undefined, null, truth, number, text, object, Pairs, Object, a_record, an_array, a_closure, an_error, Name, made_name, cell_name, own_name, built_name, tools_name, facet_name, forward_name}

@@ -7,7 +7,7 @@ use Rattle.std.proofs.lemmas.Option.{none-some}
 use Rattle.caja_units.specs.Units.{same_units}
 use Rattle.es3_heap.specs.Objects.{Property}
 use Rattle.es3_heap.specs.Properties.{find, without}
-use Rattle.es3_heap.proofs.Keys.{same_key-refl}
+use Rattle.es3_objects.proofs.Keys.{same_key-refl}
 use Rattle.heap_rows.specs.Marks.{is_set_mark, set_marks, without_keys, without_set_marks}
 use Rattle.row_simulation.proofs.Keys.{not_true}
 use Rattle.row_simulation.proofs.Relation.{Once}

@@ -3,7 +3,7 @@ use Rattle.std.proofs.Common.{◌≡◌, ℕ, zero, suc, ◌+◌, Bool, true, fa
 use Rattle.std.specs.Prelude.{codes, map, is_some}
 use Rattle.std.specs.Fmt.{digits}
 use Rattle.caja_units.specs.Index.{array_index}
-use Rattle.es3_heap.specs.declared.value.Value.TheVariants as es
+use Rattle.es3_objects.specs.declared.value.Value.TheVariants as es
 use Rattle.es3_heap.specs.Objects as heap
 use Rattle.es3_heap.specs.Objects.{Objects}
 use Rattle.es3_heap.specs.Properties.{find, own}

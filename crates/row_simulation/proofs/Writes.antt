@@ -4,10 +4,10 @@ use Rattle.std.specs.Prelude.{slice_get, slice_set, codes, is_some, not, nat_eq,
 use Rattle.std.proofs.lemmas.Option.{none-some}
 use Rattle.std.proofs.lemmas.Bool.Decides.{nat_tests}
 use Rattle.caja_units.specs.Units.{same_units, is_hidden}
-use Rattle.es3_heap.specs.declared.value.Value.TheVariants as es
-use Rattle.es3_heap.specs.declared.value.Class.TheVariants as class
-use Rattle.es3_heap.specs.declared.value.Proto.TheVariants as proto
-use Rattle.es3_heap.specs.declared.value.Tag.TheVariants as tag
+use Rattle.es3_objects.specs.declared.value.Value.TheVariants as es
+use Rattle.es3_objects.specs.declared.value.Class.TheVariants as class
+use Rattle.es3_objects.specs.declared.value.Proto.TheVariants as proto
+use Rattle.es3_objects.specs.declared.value.Tag.TheVariants as tag
 use Rattle.es3_heap.specs.Objects as heap
 use Rattle.es3_heap.specs.Objects.{Property, Objects, object_at, hidden_attrs, plain_attrs}
 use Rattle.es3_heap.specs.Properties.{find, own, or_else, may_write, lookup_from, can_put, written, defined, without, put, define, delete}
@@ -78,13 +78,13 @@ revised_same {h = h} objects old n i c frozen ps props name known there is back 
 
 -- properties that are defined and deleted of an object that is there
 
-pub define_at : (h : Objects) (i : ℕ) (c : heap.Object) (ps : List Property) (k : List ℕ) (v : EsValue) (a : Rattle.es3_heap.specs.declared.value.Attrs.Attrs) → object_at h i ≡ Some c → define (revised h i c ps) i k v a ≡ revised h i c (defined k v a ps)
+pub define_at : (h : Objects) (i : ℕ) (c : heap.Object) (ps : List Property) (k : List ℕ) (v : EsValue) (a : Rattle.es3_objects.specs.declared.value.Attrs.Attrs) → object_at h i ≡ Some c → define (revised h i c ps) i k v a ≡ revised h i c (defined k v a ps)
 define_at h i c ps k v a there = rw (revised_there h i c ps there) (revised_twice h i c ps (defined k v a ps))
 
 delete_at : (h : Objects) (i : ℕ) (c : heap.Object) (ps : List Property) (k : List ℕ) → object_at h i ≡ Some c → delete (revised h i c ps) i k ≡ revised h i c (without k ps)
 delete_at h i c ps k there = rw (revised_there h i c ps there) (revised_twice h i c ps (without k ps))
 
-pub define_first : (h : Objects) (i : ℕ) (c : heap.Object) (k : List ℕ) (v : EsValue) (a : Rattle.es3_heap.specs.declared.value.Attrs.Attrs) → object_at h i ≡ Some c → define h i k v a ≡ revised h i c (defined k v a c.props)
+pub define_first : (h : Objects) (i : ℕ) (c : heap.Object) (k : List ℕ) (v : EsValue) (a : Rattle.es3_objects.specs.declared.value.Attrs.Attrs) → object_at h i ≡ Some c → define h i k v a ≡ revised h i c (defined k v a c.props)
 define_first h i c k v a there = rw there refl
 
 delete_first : (h : Objects) (i : ℕ) (c : heap.Object) (k : List ℕ) → object_at h i ≡ Some c → delete h i k ≡ revised h i c (without k c.props)

@@ -1,7 +1,7 @@
 -- What a printed text may do in the place of a guard, where it finds a mark.
 use Rattle.std.specs.Prelude.{◌≡◌, ℕ, false, List, [], ◌∷◌, ◌++◌, Some}
 use Rattle.caja_units.specs.Units.{is_hidden}
-use Rattle.es3_heap.specs.declared.value.Value.TheVariants.{Obj}
+use Rattle.es3_objects.specs.declared.value.Value.TheVariants.{Obj}
 use Rattle.es3_heap.specs.Objects.{Objects, Property}
 use Rattle.es3_heap.specs.Properties.{lookup, get, put}
 use Rattle.es3_language.specs.Natives.{value_reply}

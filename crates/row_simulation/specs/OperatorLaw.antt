@@ -4,9 +4,9 @@ use Rattle.es3_tree.specs.declared.UnOp.{UnOp}
 use Rattle.es3_tree.specs.declared.UnOp.TheVariants as un
 use Rattle.es3_tree.specs.declared.BinOp.{BinOp}
 use Rattle.es3_tree.specs.declared.BinOp.TheVariants as bin
-use Rattle.es3_heap.specs.declared.value.Value.TheVariants.{Obj}
-use Rattle.es3_heap.specs.declared.value.Class.{Class}
-use Rattle.es3_heap.specs.declared.value.Class.TheVariants as class
+use Rattle.es3_objects.specs.declared.value.Value.TheVariants.{Obj}
+use Rattle.es3_objects.specs.declared.value.Class.{Class}
+use Rattle.es3_objects.specs.declared.value.Class.TheVariants as class
 use Rattle.es3_heap.specs.Objects.{Objects, object_at, class_of, callable_of}
 use Rattle.es3_convert.specs.Conversions.{and_then, number_or_fault}
 use Rattle.es3_convert.specs.Numbers.{number_of}

@@ -4,9 +4,9 @@ use Rattle.es3_heap.specs.Objects as heap
 use Rattle.es3_heap.specs.Objects.{Objects, object_at}
 use Rattle.es3_heap.specs.Properties.{own, value_of, may_write}
 use Rattle.es3_heap.specs.Making.{proto_id, array_object}
-use Rattle.es3_heap.specs.declared.value.Value.TheVariants as es
-use Rattle.es3_heap.specs.declared.value.Proto.{Proto}
-use Rattle.es3_heap.specs.declared.value.Proto.TheVariants as proto
+use Rattle.es3_objects.specs.declared.value.Value.TheVariants as es
+use Rattle.es3_objects.specs.declared.value.Proto.{Proto}
+use Rattle.es3_objects.specs.declared.value.Proto.TheVariants as proto
 use Rattle.es3_convert.specs.Conversions as convert
 use Rattle.es3_convert.specs.Conversions.{to_string, value_of_object, is_built_in}
 use Rattle.es3_convert.specs.Numbers as convert_number

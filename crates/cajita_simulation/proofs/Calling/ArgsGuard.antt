@@ -2,7 +2,7 @@
 use Rattle.std.proofs.Common.{◌≡◌, ℕ, ◌<◌, true, List, [], ◌∷◌, length, cond, refl, ap, ◌∙◌, arith}
 use Rattle.std.specs.Prelude.{nat_lt}
 use Rattle.std.proofs.lemmas.Bool.Decides.{nat_tests}
-use Rattle.es3_heap.specs.declared.value.Value.TheVariants as es
+use Rattle.es3_objects.specs.declared.value.Value.TheVariants as es
 use Rattle.es3_heap.specs.Objects.{Objects, with_object}
 use Rattle.es3_heap.specs.Making.{array_object}
 use Rattle.es3_language.specs.Store.{Names, Store, with_heap}

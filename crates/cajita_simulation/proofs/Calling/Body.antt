@@ -5,7 +5,7 @@ use Rattle.plans.specs.Plans.{bind, depth_fault, stops, enter}
 use Rattle.acts.specs.Acts.{replied, answer, fault, task_plan}
 use Rattle.matching.proofs.Rules.{right_enter, left_tick, left_told, both_stop, both_cut, both_enter}
 use Rattle.es3_tree.specs.Tree as t
-use Rattle.es3_heap.specs.declared.value.Value.TheVariants as es
+use Rattle.es3_objects.specs.declared.value.Value.TheVariants as es
 use Rattle.es3_heap.specs.Objects as heap
 use Rattle.es3_language.specs.Store.{Store, Names, activation, with_vars, with_params, with_scope, with_heap}
 use Rattle.es3_language.specs.Hoisting.{functions_of}

@@ -5,7 +5,7 @@ use Rattle.std.proofs.lemmas.List.{append_assoc, length-map}
 use Rattle.plans.specs.Plans.{Fault, bind}
 use Rattle.acts.specs.Acts.{replied}
 use Rattle.matching.proofs.Rules.{both_stop}
-use Rattle.es3_heap.specs.declared.value.Value.TheVariants as es
+use Rattle.es3_objects.specs.declared.value.Value.TheVariants as es
 use Rattle.es3_heap.specs.Objects as heap
 use Rattle.es3_heap.specs.Objects.{Objects}
 use Rattle.es3_language.specs.Store.{Store, with_heap}

@@ -7,7 +7,7 @@ use Rattle.caja_units.specs.Units.{same_units}
 use Rattle.plans.specs.Plans.{bind}
 use Rattle.matching.proofs.Rules.{right_enter}
 use Rattle.es3_tree.specs.Tree as t
-use Rattle.es3_heap.specs.declared.value.Value.TheVariants as es
+use Rattle.es3_objects.specs.declared.value.Value.TheVariants as es
 use Rattle.es3_heap.specs.Objects.{Objects, Object, with_object}
 use Rattle.es3_heap.specs.Making.{array_object}
 use Rattle.es3_language.specs.Store as store

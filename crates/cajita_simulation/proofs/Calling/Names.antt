@@ -4,7 +4,7 @@ use Rattle.std.specs.Prelude.{is_some, ◌||◌, ◌&&◌}
 use Rattle.std.specs.Cmp.Lexicographic.{same_text}
 use Rattle.caja_units.specs.Units.{same_units, is_hidden}
 use Rattle.es3_tree.specs.Tree as t
-use Rattle.es3_heap.specs.declared.value.Value.TheVariants as es
+use Rattle.es3_objects.specs.declared.value.Value.TheVariants as es
 use Rattle.es3_heap.specs.Objects.{Objects}
 use Rattle.es3_language.specs.Store.{Names, name_value, with_name, with_vars, with_params}
 use Rattle.es3_language.specs.Hoisting.{vars_in, vars_of, functions_of, own_vars}

@@ -5,8 +5,8 @@ use Rattle.std.proofs.lemmas.Bool.Decides.{nat_tests}
 use Rattle.plans.specs.Plans.{bind, ends, enter}
 use Rattle.acts.specs.Acts.{task, given_at, replied}
 use Rattle.matching.proofs.Rules.{both_cut, both_enter, right_past, left_told}
-use Rattle.es3_heap.specs.declared.value.Value.TheVariants as es
-use Rattle.es3_heap.specs.declared.value.FuncKind.{FuncKind}
+use Rattle.es3_objects.specs.declared.value.Value.TheVariants as es
+use Rattle.es3_objects.specs.declared.value.FuncKind.{FuncKind}
 use Rattle.es3_heap.specs.Objects as heap
 use Rattle.es3_language.specs.Store.{Store, with_heap}
 use Rattle.es3_language.specs.Natives.{Turn}

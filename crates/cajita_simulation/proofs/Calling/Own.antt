@@ -3,7 +3,7 @@ use Rattle.std.proofs.Common.{◌≡◌, ℕ, Bool, true, false, zero, suc, ◌�
 use Rattle.std.specs.Prelude.{nat_eq, slice_get}
 use Rattle.plans.specs.Plans.{Fault, bind}
 use Rattle.acts.specs.Acts.{replied}
-use Rattle.es3_heap.specs.declared.value.Value.TheVariants as es
+use Rattle.es3_objects.specs.declared.value.Value.TheVariants as es
 use Rattle.es3_language.specs.Store.{Store, with_heap}
 use Rattle.es3_language.specs.Natives.{Turn}
 use Rattle.es3_language.specs.Meaning as Target

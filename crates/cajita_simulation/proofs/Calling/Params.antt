@@ -2,8 +2,8 @@
 use Rattle.std.proofs.Common.{◌≡◌, ℕ, Bool, true, false, List, [], ◌∷◌, Some, refl, sym, ◌∙◌}
 use Rattle.std.specs.Prelude.{◌||◌}
 use Rattle.caja_units.specs.Units.{same_units}
-use Rattle.es3_heap.specs.declared.value.Value.TheVariants.{Undefined}
-use Rattle.es3_heap.proofs.Keys.{same_key-refl}
+use Rattle.es3_objects.specs.declared.value.Value.TheVariants.{Undefined}
+use Rattle.es3_objects.proofs.Keys.{same_key-refl}
 use Rattle.es3_language.specs.Store.{Names, name_value, with_name, with_vars, with_params}
 use Rattle.cajita_tree.specs.Tree as c
 use Rattle.cajita_simulation.specs.Guest.{AreDistinct, NewFuncs, is_among, is_declared}

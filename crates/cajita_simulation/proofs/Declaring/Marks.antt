@@ -6,7 +6,7 @@ use Rattle.acts.specs.Acts.{replied}
 use Rattle.matching.specs.Sides.{Match}
 use Rattle.matching.proofs.Rules.{right_enter, left_told}
 use Rattle.es3_tree.specs.Tree as t
-use Rattle.es3_heap.specs.declared.value.Value.TheVariants as es
+use Rattle.es3_objects.specs.declared.value.Value.TheVariants as es
 use Rattle.es3_language.specs.Store.{Store, name_value}
 use Rattle.es3_language.specs.References.{slot, resolve, member}
 use Rattle.es3_language.specs.Meaning as Target

@@ -6,7 +6,7 @@ use Rattle.std.proofs.Math.Path.{fun_ext}
 use Rattle.std.proofs.Math.Seq.{set-append_seam}
 use Rattle.std.proofs.lemmas.Bool.Decides.{nat_tests}
 use Rattle.caja_units.specs.Units.{same_units}
-use Rattle.es3_heap.specs.declared.value.Value.TheVariants as es
+use Rattle.es3_objects.specs.declared.value.Value.TheVariants as es
 use Rattle.es3_language.specs.Store.{Names, name_value, with_name}
 use Rattle.cajita_tree.specs.Tree as c
 use Rattle.cajita_meaning.specs.Asking.{func_name}
@@ -51,7 +51,7 @@ or_swap true false d = refl
 or_swap false true d = refl
 or_swap false false d = refl
 
-pub name_bound : (x y : List ℕ) (v : Rattle.es3_heap.specs.declared.value.Value.Value) (names : Names) → is_some (name_value x (with_name y v names)) ≡ (same_units x y || is_some (name_value x names))
+pub name_bound : (x y : List ℕ) (v : Rattle.es3_objects.specs.declared.value.Value.Value) (names : Names) → is_some (name_value x (with_name y v names)) ≡ (same_units x y || is_some (name_value x names))
 name_bound x y v names =
     let cases = elim (same_units x y) as (λ b. same_units x y ≡ b → is_some (name_value x (with_name y v names)) ≡ (b || is_some (name_value x names))) [
       | true ↦ λ same. subst (λ q. is_some (name_value x (with_name q v names)) ≡ true) (same_text x y (sym same)) (ap is_some (name_value-with_name x v names))

@@ -3,12 +3,12 @@ use Rattle.std.proofs.Common.{◌≡◌, ℕ, zero, suc, ◌<◌, true, false, L
 use Rattle.std.specs.Prelude.{codes, pos, slice_get, slice_set}
 use Rattle.std.proofs.Math.Seq.{set-append_seam}
 use Rattle.std.proofs.lemmas.List.{length-set, set-append_left}
-use Rattle.es3_heap.specs.declared.value.Value as es_value
-use Rattle.es3_heap.specs.declared.value.Value.TheVariants as es
-use Rattle.es3_heap.specs.declared.value.Class.{Class}
+use Rattle.es3_objects.specs.declared.value.Value as es_value
+use Rattle.es3_objects.specs.declared.value.Value.TheVariants as es
+use Rattle.es3_objects.specs.declared.value.Class.{Class}
 use Rattle.es3_heap.specs.Objects.{Object, Objects, fixed_attrs, hidden_attrs, kept_attrs, object_at, class_of, with_object, replaced}
 use Rattle.es3_heap.specs.Properties.{length_key}
-use Rattle.es3_heap.specs.Reading.{property}
+use Rattle.es3_objects.specs.Reading.{property}
 use Rattle.es3_heap.specs.Making.{count_at, raised, named}
 use Rattle.es3_language.specs.Store as store
 use Rattle.es3_language.specs.Store.{Store, Code, Names, Owner, with_heap, with_name, with_slot, with_scope, with_code, new_function}

@@ -5,7 +5,7 @@ use Rattle.plans.specs.Plans.{bind}
 use Rattle.acts.specs.Acts.{replied, Places}
 use Rattle.matching.proofs.Rules.{right_enter}
 use Rattle.es3_tree.specs.Tree as t
-use Rattle.es3_heap.specs.declared.value.Value.TheVariants as es
+use Rattle.es3_objects.specs.declared.value.Value.TheVariants as es
 use Rattle.es3_language.specs.Store.{Store}
 use Rattle.es3_language.specs.References.{just}
 use Rattle.es3_language.specs.Meaning as Target

@@ -6,7 +6,7 @@ use Rattle.acts.specs.Acts.{Places, put}
 use Rattle.matching.proofs.Rules.{right_enter}
 use Rattle.es3_tree.specs.Tree as t
 use Rattle.es3_tree.specs.declared.BinOp.{BinOp}
-use Rattle.es3_heap.specs.declared.value.Value.TheVariants as es
+use Rattle.es3_objects.specs.declared.value.Value.TheVariants as es
 use Rattle.es3_language.specs.Store.{Store}
 use Rattle.es3_language.specs.References.{member}
 use Rattle.es3_language.specs.Expressions.{binary_left, binary_right}

@@ -6,7 +6,7 @@ use Rattle.plans.specs.Plans.{bind}
 use Rattle.acts.specs.Acts.{put, replied}
 use Rattle.matching.proofs.Rules.{right_enter, both_stop}
 use Rattle.es3_tree.specs.Tree as t
-use Rattle.es3_heap.specs.declared.value.Value.TheVariants as es
+use Rattle.es3_objects.specs.declared.value.Value.TheVariants as es
 use Rattle.es3_language.specs.Store.{Store}
 use Rattle.es3_language.specs.References.{slot}
 use Rattle.es3_language.specs.Natives.{Reply, value_reply, throw_reply, stop_reply}

@@ -3,7 +3,7 @@ use Rattle.std.proofs.Common.{ℕ, suc, ◌≤◌, ◌<◌, false, List, [], ◌
 use Rattle.plans.specs.Plans.{bind}
 use Rattle.acts.specs.Acts.{Places, put}
 use Rattle.matching.proofs.Rules.{right_enter}
-use Rattle.es3_heap.specs.declared.value.Value.TheVariants as es
+use Rattle.es3_objects.specs.declared.value.Value.TheVariants as es
 use Rattle.es3_language.specs.Store.{Store}
 use Rattle.es3_language.specs.Meaning as Target
 use Rattle.cajita_tree.specs.Tree as c

@@ -8,7 +8,7 @@ use Rattle.matching.proofs.Rules.{right_enter, both_enter, both_cut}
 use Rattle.caja_units.specs.Units.{same_units}
 use Rattle.es3_tree.specs.Tree as t
 use Rattle.es3_tree.specs.declared.BinOp.TheVariants as bin
-use Rattle.es3_heap.specs.declared.value.Value.TheVariants as es
+use Rattle.es3_objects.specs.declared.value.Value.TheVariants as es
 use Rattle.es3_heap.specs.Objects.{Objects}
 use Rattle.es3_language.specs.Store.{Store, name_value}
 use Rattle.es3_language.specs.Expressions.{index_value, dot_value, binary_right, step_plan}

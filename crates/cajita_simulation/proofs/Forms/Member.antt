@@ -5,7 +5,7 @@ use Rattle.plans.specs.Plans.{bind, enter}
 use Rattle.acts.specs.Acts.{put}
 use Rattle.matching.proofs.Rules.{right_enter}
 use Rattle.es3_tree.specs.Tree as t
-use Rattle.es3_heap.specs.declared.value.Value.TheVariants as es
+use Rattle.es3_objects.specs.declared.value.Value.TheVariants as es
 use Rattle.es3_language.specs.Store.{Store}
 use Rattle.es3_language.specs.References.{slot, member}
 use Rattle.es3_language.specs.Expressions.{assign_to, assign_value, comma_right}

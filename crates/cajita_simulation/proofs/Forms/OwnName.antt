@@ -7,7 +7,7 @@ use Rattle.plans.specs.Plans.{bind}
 use Rattle.matching.proofs.Rules.{right_enter, left_told}
 use Rattle.caja_units.specs.Units.{same_units, is_hidden}
 use Rattle.es3_tree.specs.Tree as t
-use Rattle.es3_heap.specs.declared.value.Value.TheVariants as es
+use Rattle.es3_objects.specs.declared.value.Value.TheVariants as es
 use Rattle.es3_heap.specs.Objects as heap
 use Rattle.es3_heap.specs.Properties.{find}
 use Rattle.es3_heap.specs.Making.{count_at}

@@ -4,7 +4,7 @@ use Rattle.std.specs.Prelude.{is_some}
 use Rattle.plans.specs.Plans.{ends, bind}
 use Rattle.matching.proofs.Rules.{right_enter}
 use Rattle.es3_tree.specs.Tree as t
-use Rattle.es3_heap.specs.declared.value.Value.TheVariants as es
+use Rattle.es3_objects.specs.declared.value.Value.TheVariants as es
 use Rattle.es3_language.specs.Store.{Store, name_value}
 use Rattle.es3_language.specs.References.{slot, resolve}
 use Rattle.es3_language.specs.Expressions.{assign_to}

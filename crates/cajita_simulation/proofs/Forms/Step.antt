@@ -8,7 +8,7 @@ use Rattle.es3_tree.specs.Tree as t
 use Rattle.es3_tree.specs.declared.BinOp.{BinOp}
 use Rattle.es3_tree.specs.declared.BinOp.TheVariants as bin
 use Rattle.es3_tree.specs.declared.UnOp.TheVariants as un
-use Rattle.es3_heap.specs.declared.value.Value.TheVariants as es
+use Rattle.es3_objects.specs.declared.value.Value.TheVariants as es
 use Rattle.es3_heap.specs.Objects.{Objects}
 use Rattle.es3_convert.specs.Conversions.{and_then}
 use Rattle.es3_convert.specs.Numbers.{number_of}

@@ -4,12 +4,13 @@ use Rattle.std.specs.Prelude.{pos, nat_lt, codes}
 use Rattle.std.proofs.lemmas.Bool.Decides.{nat_tests}
 use Rattle.caja_units.specs.Units.{same_units, is_hidden}
 use Rattle.caja_units.specs.Index.{number_units}
-use Rattle.es3_heap.specs.declared.value.Value.{Value}
-use Rattle.es3_heap.specs.declared.value.Value.TheVariants.{Num, Obj}
+use Rattle.es3_objects.specs.declared.value.Value.{Value}
+use Rattle.es3_objects.specs.declared.value.Value.TheVariants.{Num, Obj}
 use Rattle.es3_heap.specs.Objects.{Property, Objects, hidden_attrs, with_object}
 use Rattle.es3_heap.specs.Properties.{find, own, value_of, defined, length_key}
-use Rattle.es3_heap.proofs.Keys.{same_key-refl}
-use Rattle.es3_heap.proofs.Laws.{object_at-with_object, find-defined, find-defined-other}
+use Rattle.es3_objects.proofs.Keys.{same_key-refl}
+use Rattle.es3_objects.proofs.Laws.{find-defined, find-defined-other}
+use Rattle.es3_heap.proofs.Laws.{object_at-with_object}
 use Rattle.es3_convert.specs.Conversions.{items_from, array_items}
 use Rattle.es3_language.specs.Store.{Names, name_value}
 use Rattle.es3_language.specs.Arguments.{comes_again, value_or}

@@ -7,11 +7,11 @@ use Rattle.std.proofs.lemmas.Fmt.{decimal_injective}
 use Rattle.caja_units.specs.Units.{same_units}
 use Rattle.caja_units.specs.Index.{array_index, number_units}
 use Rattle.caja_units.proofs.Indices.{array_index-number}
-use Rattle.es3_heap.specs.declared.value.Value.{Value}
+use Rattle.es3_objects.specs.declared.value.Value.{Value}
 use Rattle.es3_heap.specs.Objects.{Objects, with_object}
 use Rattle.es3_heap.specs.Properties.{find, own, value_of, length_key}
 use Rattle.es3_heap.specs.Making.{item_properties, array_object}
-use Rattle.es3_heap.proofs.Keys.{same_key-refl}
+use Rattle.es3_objects.proofs.Keys.{same_key-refl}
 use Rattle.es3_heap.proofs.Laws.{object_at-with_object}
 use Rattle.es3_convert.specs.Conversions.{items_from, array_items}
 

@@ -3,16 +3,16 @@ use Rattle.std.proofs.Common.{◌≡◌, ℕ, suc, ◌<◌, true, List, [], ◌�
 use Rattle.std.specs.Prelude.{codes, pos, slice_get, slice_set}
 use Rattle.std.proofs.Math.Seq.{set-append_seam}
 use Rattle.std.proofs.lemmas.List.{set-append_left}
-use Rattle.es3_heap.specs.declared.value.Value.{Value}
-use Rattle.es3_heap.specs.declared.value.Value.TheVariants.{Num, Obj, Bool}
-use Rattle.es3_heap.specs.declared.value.Attrs.{Attrs}
-use Rattle.es3_heap.specs.declared.value.Class.TheVariants as class
-use Rattle.es3_heap.specs.declared.value.FuncKind.TheVariants.{Code}
-use Rattle.es3_heap.specs.declared.value.Proto.TheVariants as proto
-use Rattle.es3_heap.specs.declared.value.Tag.TheVariants as tag
+use Rattle.es3_objects.specs.declared.value.Value.{Value}
+use Rattle.es3_objects.specs.declared.value.Value.TheVariants.{Num, Obj, Bool}
+use Rattle.es3_objects.specs.declared.value.Attrs.{Attrs}
+use Rattle.es3_objects.specs.declared.value.Class.TheVariants as class
+use Rattle.es3_objects.specs.declared.value.FuncKind.TheVariants.{Code}
+use Rattle.es3_objects.specs.declared.value.Proto.TheVariants as proto
+use Rattle.es3_objects.specs.declared.value.Tag.TheVariants as tag
 use Rattle.es3_heap.specs.Objects.{Property, Object, Objects, fixed_attrs, hidden_attrs, kept_attrs, object_at, with_object, replaced}
 use Rattle.es3_heap.specs.Properties.{defined, define, length_key}
-use Rattle.es3_heap.specs.Reading.{property}
+use Rattle.es3_objects.specs.Reading.{property}
 use Rattle.es3_heap.specs.Making.{bare, proto_id, count_at, raised, is_untagged, named}
 use Rattle.es3_language.specs.Store.{new_function}
 use Rattle.heap_rows.specs.Marks.{marked, simple_mark, frozen_mark}

@@ -3,7 +3,7 @@ use Rattle.std.proofs.Common.{◌≡◌, ◌≢◌, ℕ, suc, ◌<◌, List, [],
 use Rattle.std.specs.Prelude.{slice_get}
 use Rattle.std.proofs.lemmas.List.{length-append}
 use Rattle.std.proofs.lemmas.Option.{slice_get_within}
-use Rattle.es3_heap.specs.declared.value.Tag.TheVariants as tag
+use Rattle.es3_objects.specs.declared.value.Tag.TheVariants as tag
 use Rattle.es3_heap.specs.Objects.{Object, Objects, object_at, tag_of}
 use Rattle.es3_heap.specs.Making.{count_at, raised}
 use Rattle.cajita_simulation.proofs.Heaps.Lists.{slice_get-set, slice_get-set-other, slice_get-push, slice_get-push-other, slice_get-push-cases}

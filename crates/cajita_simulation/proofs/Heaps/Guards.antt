@@ -3,13 +3,13 @@ use Rattle.std.proofs.Common.{◌≡◌, ℕ, ◌<◌, Bool, true, false, List, 
 use Rattle.std.specs.Prelude.{codes}
 use Rattle.plans.specs.Plans.{enter, ends}
 use Rattle.caja_units.specs.Units.{is_hidden}
-use Rattle.es3_heap.specs.declared.value.Value.{Value}
-use Rattle.es3_heap.specs.declared.value.Value.TheVariants.{Obj}
-use Rattle.es3_heap.specs.declared.value.FuncKind.TheVariants.{Simple}
-use Rattle.es3_heap.specs.declared.value.Tag.TheVariants as tag
+use Rattle.es3_objects.specs.declared.value.Value.{Value}
+use Rattle.es3_objects.specs.declared.value.Value.TheVariants.{Obj}
+use Rattle.es3_objects.specs.declared.value.FuncKind.TheVariants.{Simple}
+use Rattle.es3_objects.specs.declared.value.Tag.TheVariants as tag
 use Rattle.es3_heap.specs.Objects.{Objects, hidden_attrs, object_at, callable_of, tag_of}
 use Rattle.es3_heap.specs.Properties.{own}
-use Rattle.es3_heap.specs.Reading.{property}
+use Rattle.es3_objects.specs.Reading.{property}
 use Rattle.es3_language.specs.Store.{Store}
 use Rattle.es3_language.specs.References.{member, get_member}
 use Rattle.es3_language.specs.Meaning.{Env, Plan, native_call, called, do_call}

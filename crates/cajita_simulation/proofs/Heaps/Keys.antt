@@ -5,12 +5,12 @@ use Rattle.std.proofs.lemmas.Option.{slice_get_within}
 use Rattle.caja_units.specs.Units.{is_hidden}
 use Rattle.caja_units.specs.Index.{number_units}
 use Rattle.es3_tree.specs.declared.BinOp.TheVariants as bin
-use Rattle.es3_heap.specs.declared.value.Value.{Value}
-use Rattle.es3_heap.specs.declared.value.Value.TheVariants as es
+use Rattle.es3_objects.specs.declared.value.Value.{Value}
+use Rattle.es3_objects.specs.declared.value.Value.TheVariants as es
 use Rattle.es3_heap.specs.Objects.{Property, Objects, plain_attrs, object_at}
 use Rattle.es3_heap.specs.Properties.{find, own, get, value_of}
 use Rattle.es3_heap.specs.Making.{item_properties, array_object}
-use Rattle.es3_heap.proofs.Keys.{same_key-refl}
+use Rattle.es3_objects.proofs.Keys.{same_key-refl}
 use Rattle.es3_convert.specs.Conversions.{text_within, text_of}
 use Rattle.es3_language.specs.Store.{Store, name_value}
 use Rattle.es3_language.specs.References.{slot}

@@ -2,8 +2,8 @@
 use Rattle.std.proofs.Common.{◌≡◌, ℕ, true, false, List, [], ◌∷◌, Some, cond, refl, sym, ap, ◌∙◌}
 use Rattle.std.specs.Cmp.Lexicographic.{same_text}
 use Rattle.caja_units.specs.Units.{same_units}
-use Rattle.es3_heap.specs.declared.value.Value.{Value}
-use Rattle.es3_heap.proofs.Keys.{same_key-refl}
+use Rattle.es3_objects.specs.declared.value.Value.{Value}
+use Rattle.es3_objects.proofs.Keys.{same_key-refl}
 use Rattle.es3_language.specs.Store.{Names, name_value, with_name}
 
 -- a name that was written has that value

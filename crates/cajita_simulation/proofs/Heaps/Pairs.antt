@@ -1,11 +1,11 @@
 -- Keys and values: a new object that is given them, and a list that has them in turn.
 use Rattle.std.proofs.Common.{◌≡◌, ℕ, false, List, [], ◌∷◌, Ok, length, refl, ◌∙◌}
 use Rattle.caja_units.specs.Units.{same_units}
-use Rattle.es3_heap.specs.declared.value.Value.{Value}
-use Rattle.es3_heap.specs.declared.value.Value.TheVariants.{Text}
+use Rattle.es3_objects.specs.declared.value.Value.{Value}
+use Rattle.es3_objects.specs.declared.value.Value.TheVariants.{Text}
 use Rattle.es3_heap.specs.Objects.{Property, Object, Objects, plain_attrs, with_object}
 use Rattle.es3_heap.specs.Properties.{find, defined}
-use Rattle.es3_heap.proofs.Laws.{find-defined-other}
+use Rattle.es3_objects.proofs.Laws.{find-defined-other}
 use Rattle.es3_convert.specs.Conversions.{text_of, text_within}
 use Rattle.guard_runtime.specs.Guards.{keyed, with_pairs}
 use Rattle.cajita_simulation.proofs.Heaps.Made.{with_properties, defined_new}

@@ -1,10 +1,10 @@
 -- A new array of keys and values in turn becomes a new record: what initializeMap answers, and what a call of it comes to in a page.
 use Rattle.std.proofs.Common.{◌≡◌, ℕ, ◌<◌, List, [], ◌∷◌, Some, None, length, refl, ap}
 use Rattle.plans.specs.Plans.{ends}
-use Rattle.es3_heap.specs.declared.value.Value.{Value}
-use Rattle.es3_heap.specs.declared.value.Value.TheVariants.{Obj}
-use Rattle.es3_heap.specs.declared.value.Class.TheVariants as class
-use Rattle.es3_heap.specs.declared.value.Proto.TheVariants as proto
+use Rattle.es3_objects.specs.declared.value.Value.{Value}
+use Rattle.es3_objects.specs.declared.value.Value.TheVariants.{Obj}
+use Rattle.es3_objects.specs.declared.value.Class.TheVariants as class
+use Rattle.es3_objects.specs.declared.value.Proto.TheVariants as proto
 use Rattle.es3_heap.specs.Objects.{Object, Objects, with_object}
 use Rattle.es3_heap.specs.Making.{bare, proto_id, array_object}
 use Rattle.es3_heap.proofs.Laws.{object_at-with_object}

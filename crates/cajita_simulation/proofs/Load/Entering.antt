@@ -5,10 +5,10 @@ use Rattle.plans.specs.Plans.{bind}
 use Rattle.matching.specs.Sides.{Match}
 use Rattle.matching.proofs.Rules.{right_enter}
 use Rattle.es3_tree.specs.Tree as t
-use Rattle.es3_heap.specs.declared.value.Value.TheVariants as es
+use Rattle.es3_objects.specs.declared.value.Value.TheVariants as es
 use Rattle.es3_heap.specs.Objects.{Object, Objects, hidden_attrs, object_at, class_of, callable_of, with_object}
 use Rattle.es3_heap.specs.Properties.{own, lookup, value_of, get}
-use Rattle.es3_heap.specs.Reading.{property}
+use Rattle.es3_objects.specs.Reading.{property}
 use Rattle.es3_language.specs.Store as store
 use Rattle.es3_language.specs.Store.{Store, Code, activation, with_heap, with_code, first_names}
 use Rattle.es3_language.specs.Hoisting.{code_of}

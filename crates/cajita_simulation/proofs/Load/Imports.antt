@@ -6,7 +6,7 @@ use Rattle.plans.specs.Plans.{bind}
 use Rattle.matching.specs.Sides.{Match}
 use Rattle.matching.proofs.Rules.{right_enter}
 use Rattle.es3_tree.specs.Tree as t
-use Rattle.es3_heap.specs.declared.value.Value.TheVariants as es
+use Rattle.es3_objects.specs.declared.value.Value.TheVariants as es
 use Rattle.es3_heap.specs.Objects.{Objects}
 use Rattle.es3_heap.specs.Properties.{own, value_of}
 use Rattle.es3_convert.specs.Conversions.{text_within, text_of}
@@ -100,7 +100,7 @@ module _ (rules : Rules) (turn : Turn) (object by calls this : ℕ) (owner : sto
   read_all [] names rest end' next' r guests bound f = f _ (omega arith)
   read_all (x ∷ xs) names rest {m = m} end' next' r guests bound f =
       let v = value_of (own s.heap object x) in
-      let first : is_among (x ∷ xs) x ≡ true = ap (λ b. Rattle.std.specs.Prelude.◌||◌ b (is_among xs x)) (Rattle.es3_heap.proofs.Keys.same_key-refl x) in
+      let first : is_among (x ∷ xs) x ≡ true = ap (λ b. Rattle.std.specs.Prelude.◌||◌ b (is_among xs x)) (Rattle.es3_objects.proofs.Keys.same_key-refl x) in
       let guest = guests x first in
       let u = there (name_value x names) refl (bound x first) in
       read_one names x u.0 (import_stmts xs rest) end' next' r guest u.1

@@ -6,7 +6,7 @@ use Rattle.std.specs.Cmp.Lexicographic.{same_text}
 use Rattle.std.proofs.lemmas.List.{append-nil, append_assoc}
 use Rattle.caja_units.specs.Units.{same_units, is_hidden}
 use Rattle.es3_tree.specs.Tree as t
-use Rattle.es3_heap.specs.declared.value.Value.TheVariants as es
+use Rattle.es3_objects.specs.declared.value.Value.TheVariants as es
 use Rattle.es3_language.specs.Store.{Names, name_value, with_vars, with_params}
 use Rattle.es3_language.specs.Hoisting.{vars_in, vars_of, functions_of, own_vars}
 use Rattle.es3_language.specs.Arguments.{is_arguments}
@@ -18,7 +18,7 @@ use Rattle.heap_rows.specs.Opening.{runtime_id}
 use Rattle.cajita_simulation.specs.Guest.{Names as KnownNames, is_among, inner, Guest}
 use Rattle.cajita_simulation.proofs.Temporaries.{temp_hidden}
 use Rattle.cajita_simulation.proofs.Declaring.Trees.{func_list, declared_vars, declared_functions}
-use Rattle.es3_heap.proofs.Keys.{same_key-refl}
+use Rattle.es3_objects.proofs.Keys.{same_key-refl}
 use Rattle.row_simulation.proofs.Changes.{by_number}
 use Rattle.row_simulation.specs.Correspond.{EsValue}
 

@@ -5,7 +5,7 @@ use Rattle.std.specs.Cmp.Lexicographic.{same_text}
 use Rattle.std.proofs.lemmas.List.{length-append}
 use Rattle.std.proofs.lemmas.Bool.Decides.{nat_tests}
 use Rattle.caja_units.specs.Units.{same_units}
-use Rattle.es3_heap.specs.declared.value.Value.TheVariants as es
+use Rattle.es3_objects.specs.declared.value.Value.TheVariants as es
 use Rattle.es3_language.specs.Store as store
 use Rattle.es3_language.specs.Store.{Store, name_value}
 use Rattle.es3_language.specs.Arguments.{is_fixed}

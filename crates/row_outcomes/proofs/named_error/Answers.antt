@@ -1,5 +1,5 @@
 use Rattle.std.proofs.Common.{◌≡◌, ℕ, List, length, refl, ◌∙◌}
-use Rattle.es3_heap.specs.declared.value.Proto.{Proto}
+use Rattle.es3_objects.specs.declared.value.Proto.{Proto}
 use Rattle.es3_heap.specs.Objects.{Objects, with_object}
 use Rattle.es3_heap.specs.Making.{error_object, named}
 use Rattle.row_outcomes.proofs.named_error.Goals as goal

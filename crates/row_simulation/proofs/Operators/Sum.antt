@@ -3,7 +3,7 @@ use Rattle.std.proofs.Common.{◌≡◌, ℕ, Bool, true, false, List, ◌∷◌
 use Rattle.std.specs.Prelude.{ℤ, ◌||◌}
 use Rattle.plans.specs.Plans.{Fault}
 use Rattle.caja_num.specs.Numbers.{sum}
-use Rattle.es3_heap.specs.declared.value.Value.TheVariants as es
+use Rattle.es3_objects.specs.declared.value.Value.TheVariants as es
 use Rattle.es3_heap.specs.Objects.{Objects}
 use Rattle.es3_convert.specs.Conversions.{and_then, text_within, text_of, primitive_of, primitive_text, plain_number, number_or_fault, sum_of_numbers, sum_of_primitives, sum_of}
 use Rattle.es3_convert.specs.Numbers.{number_of, found_number}

@@ -1,6 +1,6 @@
 use Rattle.std.proofs.Common.{map, ap, sym, ◌∙◌, arith}
 use Rattle.std.specs.List.{slice_range}
-use Rattle.es3_heap.specs.declared.value.Value.TheVariants as v
+use Rattle.es3_objects.specs.declared.value.Value.TheVariants as v
 use Rattle.builtin_string.proofs.Standing.{next_piece, last_piece, pieces_more, pieces_end, split_some}
 use Rattle.builtin_string.proofs.pieces.pieces_between.Goals as goal
 

@@ -1,5 +1,5 @@
 use Rattle.std.proofs.Common.{◌≡◌, ◌≤◌, ◌-◌, ◌++◌, [], length, drop, map}
-use Rattle.es3_heap.specs.declared.value.Value.TheVariants as v
+use Rattle.es3_objects.specs.declared.value.Value.TheVariants as v
 use Rattle.rows.specs.Texts.{pieces}
 use Rattle.builtin_string.proofs.pieces.pieces_between.Given as goal
 

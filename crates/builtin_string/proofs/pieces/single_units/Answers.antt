@@ -1,6 +1,6 @@
 use Rattle.std.proofs.Common.{◌<◌, ◌∷◌, [], ◌++◌, length, ap, sym, ◌∙◌, arith}
 use Rattle.std.proofs.lemmas.Option.{slice_get-get_or}
-use Rattle.es3_heap.specs.declared.value.Value.TheVariants as v
+use Rattle.es3_objects.specs.declared.value.Value.TheVariants as v
 use Rattle.builtin_string.proofs.Standing.{unit_more}
 use Rattle.builtin_string.proofs.pieces.single_units.Goals as goal
 use Rattle.builtin_string.proofs.pieces.single_units.Goals.{in-Some+in_ok-from_units+in_ok-push, in_default}

@@ -1,5 +1,5 @@
 use Rattle.std.proofs.Common.{◌≡◌, [], take, map}
-use Rattle.es3_heap.specs.declared.value.Value.TheVariants as v
+use Rattle.es3_objects.specs.declared.value.Value.TheVariants as v
 use Rattle.rows.specs.Texts.{split_by}
 use Rattle.builtin_string.proofs.pieces.single_units.Given as goal
 

@@ -1,5 +1,5 @@
 use Rattle.std.proofs.Common.{◌≡◌, ◌++◌, Ok, drop}
-use Rattle.es3_heap.specs.declared.value.Value.TheVariants as v
+use Rattle.es3_objects.specs.declared.value.Value.TheVariants as v
 use Rattle.es3_convert.specs.Conversions.{and_then}
 use Rattle.rows.specs.Texts.{joined}
 use Rattle.row_outcomes.specs.Lists.{texts_of}

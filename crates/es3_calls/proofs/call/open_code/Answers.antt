@@ -1,7 +1,7 @@
 use Rattle.std.proofs.Common.{◌≡◌, ◌<◌, ◌∷◌, true, false, length, arith, ap, ◌∙◌, None}
 use Rattle.std.specs.Prelude.{nat_lt, slice_get}
 use Rattle.std.proofs.lemmas.Bool.Decides.{nat_tests}
-use Rattle.es3_heap.specs.declared.value.Value.TheVariants.{Obj}
+use Rattle.es3_objects.specs.declared.value.Value.TheVariants.{Obj}
 use Rattle.es3_language.specs.Tasks.{Env}
 use Rattle.es3_language.specs.Lists.{list}
 use Rattle.es3_moves.specs.Code.{plain_stmts, stmts_at}

@@ -1,5 +1,5 @@
 use Rattle.std.proofs.Common.{[], ◌++◌, ◌∷◌, ap, ◌∙◌}
-use Rattle.es3_heap.specs.declared.value.Value.TheVariants.{Obj}
+use Rattle.es3_objects.specs.declared.value.Value.TheVariants.{Obj}
 use Rattle.es3_language.specs.Store.{own_name}
 use Rattle.es3_moves.specs.Code.{plain_func}
 use Rattle.es3_moves.specs.Where.{plain_chain}

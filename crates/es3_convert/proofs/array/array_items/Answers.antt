@@ -1,5 +1,5 @@
 use Rattle.std.proofs.Common.{◌≡◌, ◌∷◌, [], ◌++◌, arith, rules}
-use Rattle.es3_convert.proofs.Arrays.{items_from-more}
+use Rattle.es3_heap.proofs.Items.{items_from-more}
 use Rattle.es3_convert.proofs.array.array_items.Goals as goal
 
 pub loop-index-preserved : goal.loop-index-preserved

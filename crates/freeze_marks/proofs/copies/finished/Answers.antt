@@ -1,5 +1,5 @@
 use Rattle.std.proofs.Common.{◌≡◌, ◌∙◌, ap, sym, cond, rules}
-use Rattle.es3_heap.specs.declared.value.Value.TheVariants.{Obj}
+use Rattle.es3_objects.specs.declared.value.Value.TheVariants.{Obj}
 use Rattle.es3_language.specs.Natives.{value_reply}
 use Rattle.heap_rows.specs.Marks.{frozen_mark, marked}
 use Rattle.freeze_marks.proofs.Fresh.{named-new}

@@ -1,5 +1,5 @@
 use Rattle.std.proofs.Common.{◌≡◌, Some, None, map, rules}
-use Rattle.es3_heap.specs.declared.value.Value.TheVariants.{Text}
+use Rattle.es3_objects.specs.declared.value.Value.TheVariants.{Text}
 use Rattle.freeze_marks.specs.Listing.{public_keys}
 use Rattle.freeze_marks.proofs.Rows.{keys_comes, keys_refused}
 use Rattle.freeze_marks.proofs.tools.keys.Goals as goal

@@ -1,5 +1,5 @@
 use Rattle.std.proofs.Common.{◌≡◌, OnOk, map, ap, ◌∙◌, subst}
-use Rattle.es3_heap.specs.declared.value.Tag.TheVariants as tag
+use Rattle.es3_objects.specs.declared.value.Tag.TheVariants as tag
 use Rattle.module_loader.specs.declared.built_ins.TheConstants.{MATH_FUNCTIONS, FUNCTIONS}
 use Rattle.module_loader.specs.BuiltIns.{with_functions, with_frozen, with_built_ins}
 use Rattle.module_loader.proofs.built_ins.add_built_ins.Goals as goal

@@ -1,6 +1,6 @@
 use Rattle.std.proofs.Common.{length, ap, ◌∙◌}
 use Rattle.std.specs.Prelude.{codes}
-use Rattle.es3_heap.specs.declared.value.Proto.TheVariants.{TypeError}
+use Rattle.es3_objects.specs.declared.value.Proto.TheVariants.{TypeError}
 use Rattle.es3_heap.specs.Objects.{with_object}
 use Rattle.es3_heap.specs.Making.{error_object, named}
 use Rattle.module_loader.proofs.events.thrown.Goals as goal

@@ -1,5 +1,5 @@
 use Rattle.std.proofs.Common.{◌<◌, ◌≤◌, length, sym, ap, ◌∙◌, arith}
-use Rattle.es3_heap.specs.declared.value.Value.TheVariants.{Undefined}
+use Rattle.es3_objects.specs.declared.value.Value.TheVariants.{Undefined}
 use Rattle.page_natives.specs.Natives.{padded}
 use Rattle.page_natives.proofs.Padded.{padded_more, padded_all}
 use Rattle.page_natives.proofs.natives.pad.Goals as goal

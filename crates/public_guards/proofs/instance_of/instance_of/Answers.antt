@@ -1,6 +1,6 @@
 use Rattle.std.proofs.Common.{◌≡◌, Some, None, Result, Ok, ap, refl, rules}
-use Rattle.es3_heap.specs.declared.value.Value.TheVariants.{Bool}
-use Rattle.es3_heap.specs.declared.value.Stop.{Stop}
+use Rattle.es3_objects.specs.declared.value.Value.TheVariants.{Bool}
+use Rattle.es3_objects.specs.declared.value.Stop.{Stop}
 use Rattle.es3_language.specs.Natives.{value_reply}
 use Rattle.row_outcomes.specs.declared.Outcome.{Outcome}
 use Rattle.row_outcomes.specs.declared.Outcome.TheVariants.{Value as Answered}

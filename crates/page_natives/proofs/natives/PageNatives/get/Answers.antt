@@ -1,6 +1,6 @@
 use Rattle.std.proofs.Common.{◌≡◌}
 use Rattle.std.specs.Prelude.{slice_get, unwrap_or}
-use Rattle.es3_heap.specs.declared.value.Value.TheVariants.{Undefined}
+use Rattle.es3_objects.specs.declared.value.Value.TheVariants.{Undefined}
 use Rattle.page_natives.specs.Natives.{kept_of}
 use Rattle.page_natives.proofs.Cells.{got}
 use Rattle.page_natives.proofs.natives.PageNatives.get.Goals as goal

@@ -1,5 +1,5 @@
 use Rattle.std.proofs.Common.{◌≡◌, Some, Err, rules, refl, ap, ◌∙◌}
-use Rattle.es3_heap.specs.declared.value.Value.TheVariants.{Undefined}
+use Rattle.es3_objects.specs.declared.value.Value.TheVariants.{Undefined}
 use Rattle.es3_machine.specs.Machine.{a_call}
 use Rattle.page_runner.specs.declared.runner.Runner.{Runner}
 use Rattle.page_runner.proofs.Here.{started_here}
