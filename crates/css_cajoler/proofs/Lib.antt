@@ -1,4 +1,3 @@
-mod Slices
-mod Images
 mod Filled
 mod Ascii
+mod Alone

@@ -1,17 +1,20 @@
 //! What is kept of a sheet.
 
-ghost use Rattle.std.specs.Prelude.{◌≡◌, ◌≢◌, ◌++◌, codes, length, IfOk, OnOk};
+ghost use Rattle.std.specs.Prelude.{◌≡◌, ◌≢◌, ◌++◌, codes, length, option_copied, IfOk, OnOk};
 ghost use Rattle.std.specs.List.{flat_map};
 ghost use Rattle.css_tree.specs.Views.{declarations_of, rule_of, rules_of, sheet_of};
-ghost use Rattle.css_kept.specs.Table.{no_urls, rows, values_in};
+ghost use Rattle.css_kept.specs.Table.{rows, values_in};
 ghost use Rattle.css_kept.specs.Kept as k;
+ghost use Rattle.url_rule.specs.Table.{rows_of};
+ghost use Rattle.css_urls.specs.Answers.{for_sheets};
 
-use crate::selectors::keeps;
-use crate::table::keeps_values;
-use crate::texts::{append_units, fill};
+use crate::table::values_of_property;
 use caja_units::{Memory, Units};
 use css_tree::{Css, CssRule, make_sheet};
+use css_values::{append_units, fill, keeps};
 use std::alloc::Global;
+use url::Url;
+use url_rule::{Asks, UriRule};
 
 /// A space.
 const SPACE: u16 = 32;
@@ -68,46 +71,49 @@ fn keep_selectors(
     Ok(kept)
 }
 
-/// Copies of texts.
-fn copy_all(alloc: Global, list: &[Units]) -> Result<Vec<Units>, Memory>
-    ensures { IfOk result (λ v. v.items ≡ list.now) }
-{
-    let mut copies = Vec::with_capacity(alloc, list.len())?;
-    for text in list {
-        copies.push(text.copy(alloc)?)?;
-    }
-    Ok(copies)
-}
-
 /// Appends a declaration, if its values are kept.
-fn push_kept(
+fn push_kept<F: Asks>(
     alloc: Global,
     room: &mut Room,
     kept: &mut Vec<(Units, Vec<Units>)>,
     name: &Units,
     values: &[Units],
+    urls: &UriRule<F>,
+    base: Option<&Url>,
 ) -> Result<(), Memory>
-    ensures { OnOk result (declarations_of kept.new.items ≡ declarations_of kept.old.items ++ k.with_values name.now (values_in rows no_urls name.now values.now)) }
+    ensures { OnOk result (declarations_of kept.new.items ≡ declarations_of kept.old.items ++ k.with_values name.now (values_in rows (for_sheets (rows_of urls.now.table.items) (option_copied base.entry)) name.now values.now)) }
 {
-    if keeps_values(&mut room.line, &mut room.value, name, values)? {
-        let name = name.copy(alloc)?;
-        let values = copy_all(alloc, values)?;
-        kept.push((name, values))?;
+    let (line, value) = (&mut room.line, &mut room.value);
+    match values_of_property(alloc, line, value, name, values, urls, base)? {
+        Some(values) => {
+            kept.push((name.copy(alloc)?, values))?;
+            Ok(())
+        }
+        None => Ok(()),
     }
-    Ok(())
 }
 
 /// The declarations that are kept.
-fn keep_declarations(
+fn keep_declarations<F: Asks>(
     alloc: Global,
     room: &mut Room,
     declarations: &[(Units, Vec<Units>)],
+    urls: &UriRule<F>,
+    base: Option<&Url>,
 ) -> Result<Vec<(Units, Vec<Units>)>, Memory>
-    ensures { IfOk result (λ v. declarations_of v.items ≡ flat_map (k.kept_declaration no_urls) (declarations_of declarations.now)) }
+    ensures { IfOk result (λ v. declarations_of v.items ≡ flat_map (k.kept_declaration (for_sheets (rows_of urls.now.table.items) (option_copied base.entry))) (declarations_of declarations.now)) }
 {
     let mut kept = Vec::with_capacity(alloc, declarations.len())?;
     for declaration in declarations {
-        push_kept(alloc, room, &mut kept, &declaration.0, &declaration.1)?;
+        push_kept(
+            alloc,
+            room,
+            &mut kept,
+            &declaration.0,
+            &declaration.1,
+            urls,
+            base,
+        )?;
     }
     Ok(kept)
 }
@@ -131,16 +137,18 @@ fn push_filled(
 
 /// Appends what is kept of a rule. Where no declaration is, the selectors aren't looked at.
 #[tactic(auto, using(crate::proofs::Filled::no_declarations))]
-fn keep_rule(
+fn keep_rule<F: Asks>(
     alloc: Global,
     room: &mut Room,
     rules: &mut Vec<CssRule>,
     scope: &Units,
     rule: &CssRule,
+    urls: &UriRule<F>,
+    base: Option<&Url>,
 ) -> Result<(), Memory>
-    ensures { OnOk result (rules_of rules.new.items ≡ rules_of rules.old.items ++ k.kept_rule no_urls scope.now (rule_of rule.now)) }
+    ensures { OnOk result (rules_of rules.new.items ≡ rules_of rules.old.items ++ k.kept_rule (for_sheets (rows_of urls.now.table.items) (option_copied base.entry)) scope.now (rule_of rule.now)) }
 {
-    let decls = keep_declarations(alloc, room, &rule.decls)?;
+    let decls = keep_declarations(alloc, room, &rule.decls, urls, base)?;
     if decls.len() == 0 {
         return Ok(());
     }
@@ -149,8 +157,14 @@ fn keep_rule(
 }
 
 /// What is kept of rules.
-fn keep_rules(alloc: Global, scope: &Units, rules: &[CssRule]) -> Result<Vec<CssRule>, Memory>
-    ensures { IfOk result (λ v. rules_of v.items ≡ k.cleaned no_urls scope.now (rules_of rules.now)) }
+fn keep_rules<F: Asks>(
+    alloc: Global,
+    scope: &Units,
+    rules: &[CssRule],
+    urls: &UriRule<F>,
+    base: Option<&Url>,
+) -> Result<Vec<CssRule>, Memory>
+    ensures { IfOk result (λ v. rules_of v.items ≡ k.cleaned (for_sheets (rows_of urls.now.table.items) (option_copied base.entry)) scope.now (rules_of rules.now)) }
 {
     let mut room = Room {
         line: Vec::new(alloc),
@@ -158,16 +172,23 @@ fn keep_rules(alloc: Global, scope: &Units, rules: &[CssRule]) -> Result<Vec<Css
     };
     let mut kept = Vec::new(alloc);
     for rule in rules {
-        keep_rule(alloc, &mut room, &mut kept, scope, rule)?;
+        keep_rule(alloc, &mut room, &mut kept, scope, rule, urls, base)?;
     }
     Ok(kept)
 }
 
-/// What is kept of a sheet: the selectors that are kept, each behind the scope and a space, and the declarations of the table. A rule without either is dropped, and
-/// each URL is for now.
-pub fn clean_css(alloc: Global, sheet: &Css, scope: &Units) -> Result<Css, Memory>
-    ensures { IfOk result (λ clean. sheet_of clean ≡ k.cleaned no_urls scope.now (sheet_of sheet.now)) }
+/// What is kept of a sheet: the selectors that are kept, each behind the scope and a space, and the declarations of the table. In the place of each URL stands what
+/// the rule answers for it, joined to the base where there is one; where it answers nothing, the declaration is dropped. A rule without selectors or declarations is
+/// dropped.
+pub fn clean_css<F: Asks>(
+    alloc: Global,
+    sheet: &Css,
+    urls: &UriRule<F>,
+    base: Option<&Url>,
+    scope: &Units,
+) -> Result<Css, Memory>
+    ensures { IfOk result (λ clean. sheet_of clean ≡ k.cleaned (for_sheets (rows_of urls.now.table.items) (option_copied base.entry)) scope.now (sheet_of sheet.now)) }
 {
-    let rules = keep_rules(alloc, scope, &sheet.rules)?;
+    let rules = keep_rules(alloc, scope, &sheet.rules, urls, base)?;
     Ok(make_sheet(rules))
 }

@@ -6,9 +6,9 @@ ghost use Rattle.caja_units.specs.Utf8.{utf8_of};
 ghost use Rattle.css_tree.specs.Views.{declaration_of, declarations_of, rule_of, sheet_of};
 ghost use Rattle.css_kept.specs.Printed as p;
 
-use crate::texts::unit;
 use caja_units::{Memory, Units};
 use css_tree::{Css, CssRule};
+use css_values::unit;
 use std::alloc::Global;
 
 /// Writes bytes.

@@ -1,13 +1,18 @@
 //! The table of what is kept.
 
-ghost use Rattle.std.specs.Prelude.{◌≡◌, map, IfOk};
+ghost use Rattle.std.specs.Prelude.{◌≡◌, map, option_copied, IfOk};
 ghost use Rattle.std.specs.List.{list_all};
 ghost use Rattle.css_kept.specs.Table as t;
-ghost use Rattle.css_cajoler.specs.Views.{row_of, values_of};
+ghost use Rattle.url_rule.specs.Table.{rows_of};
+ghost use Rattle.css_urls.specs.Answers.{for_sheets};
+ghost use Rattle.css_cajoler.specs.Views.{row_of, values_of, texts_in};
 
-use crate::texts::{fill, spells, stands_in};
-use crate::values::{is_colour, is_length};
+use crate::images::images_of;
 use caja_units::{Memory, Units};
+use css_values::{copy_all, fill, is_colour, is_length, spells, stands_in};
+use std::alloc::Global;
+use url::Url;
+use url_rule::{Asks, UriRule};
 
 /// What the values of a property may be.
 #[derive(Debug, Clone, Copy)]
@@ -183,61 +188,82 @@ fn all_lengths(units: &mut Vec<u16>, list: &[Units]) -> Result<bool, Memory>
     Ok(true)
 }
 
-/// Whether values are kept as they are.
-#[tactic(auto, using(crate::proofs::Images::image_without_urls))]
-fn is_kept(units: &mut Vec<u16>, values: Values, list: &[Units]) -> Result<bool, Memory>
-    ensures { IfOk result (λ b. t.if_so b list.now ≡ t.kept_values t.no_urls (values_of values) list.now) }
+/// Copies of values, if they are kept.
+fn copies_if(alloc: Global, keeps: bool, list: &[Units]) -> Result<Option<Vec<Units>>, Memory>
+    ensures { IfOk result (λ kept. texts_in kept ≡ t.if_so keeps list.now) }
+{
+    if keeps {
+        Ok(Some(copy_all(alloc, list)?))
+    } else {
+        Ok(None)
+    }
+}
+
+/// What is kept of values, if they are kept. In the list stands a value while it is looked at.
+fn kept_values<F: Asks>(
+    alloc: Global,
+    units: &mut Vec<u16>,
+    values: Values,
+    list: &[Units],
+    urls: &UriRule<F>,
+    base: Option<&Url>,
+) -> Result<Option<Vec<Units>>, Memory>
+    ensures { IfOk result (λ kept. texts_in kept ≡ t.kept_values (for_sheets (rows_of urls.now.table.items) (option_copied base.entry)) (values_of values) list.now) }
 {
     match values {
         Values::Colour => {
-            let kept = is_one_colour(units, list)?;
-            Ok(kept)
+            let keeps = is_one_colour(units, list)?;
+            copies_if(alloc, keeps, list)
         }
-        Values::Image => {
-            let kept = is_one_of(units, &["none"], list)?;
-            Ok(kept)
-        }
+        Values::Image => images_of(alloc, units, list, urls, base),
         Values::Length => {
-            let kept = is_one_length(units, list)?;
-            Ok(kept)
+            let keeps = is_one_length(units, list)?;
+            copies_if(alloc, keeps, list)
         }
         Values::Lengths => {
-            let kept = all_lengths(units, list)?;
-            Ok(list.len() > 0 && list.len() <= 4 && kept)
+            let keeps = all_lengths(units, list)?;
+            copies_if(alloc, list.len() > 0 && list.len() <= 4 && keeps, list)
         }
         Values::OneOf(words) => {
-            let kept = is_one_of(units, words, list)?;
-            Ok(kept)
+            let keeps = is_one_of(units, words, list)?;
+            copies_if(alloc, keeps, list)
         }
     }
 }
 
-/// Whether the values of a property are kept, by the row with its name.
-fn keeps_by(
+/// What is kept of the values of a property, by the row with its name.
+fn values_in<F: Asks>(
+    alloc: Global,
     units: &mut Vec<u16>,
     rows: &[Row],
     name: &[u16],
     list: &[Units],
-) -> Result<bool, Memory>
-    ensures { IfOk result (λ b. t.if_so b list.now ≡ t.values_in (map row_of rows.now) t.no_urls name.now list.now) }
+    urls: &UriRule<F>,
+    base: Option<&Url>,
+) -> Result<Option<Vec<Units>>, Memory>
+    ensures { IfOk result (λ kept. texts_in kept ≡ t.values_in (map row_of rows.now) (for_sheets (rows_of urls.now.table.items) (option_copied base.entry)) name.now list.now) }
 {
     for row in rows {
         if spells(name, row.property.as_bytes()) {
-            return is_kept(units, row.values, list);
+            return kept_values(alloc, units, row.values, list, urls, base);
         }
     }
-    Ok(false)
+    Ok(None)
 }
 
-/// Whether the values of a property are kept. Each URL is dropped for now. In the two lists stand a name and a value while they are looked at.
-pub fn keeps_values(
+/// What is kept of the values of a property, if they are kept: of a URL what the rule answers for it, and nothing else. In the two lists stand a name and a value
+/// while they are looked at.
+pub fn values_of_property<F: Asks>(
+    alloc: Global,
     names: &mut Vec<u16>,
     units: &mut Vec<u16>,
     name: &Units,
     list: &[Units],
-) -> Result<bool, Memory>
-    ensures { IfOk result (λ b. t.if_so b list.now ≡ t.values_in t.rows t.no_urls name.now list.now) }
+    urls: &UriRule<F>,
+    base: Option<&Url>,
+) -> Result<Option<Vec<Units>>, Memory>
+    ensures { IfOk result (λ kept. texts_in kept ≡ t.values_in t.rows (for_sheets (rows_of urls.now.table.items) (option_copied base.entry)) name.now list.now) }
 {
     fill(names, name)?;
-    keeps_by(units, &ROWS, names, list)
+    values_in(alloc, units, &ROWS, names, list, urls, base)
 }

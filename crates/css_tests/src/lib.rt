@@ -8,6 +8,8 @@ mod cleaning_rows;
 #[cfg(test)]
 mod cleaning_tables;
 #[cfg(test)]
+mod image_tables;
+#[cfg(test)]
 mod neighbour_tables;
 #[cfg(test)]
 mod reading_rows;

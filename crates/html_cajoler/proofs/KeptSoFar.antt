@@ -5,7 +5,7 @@ use Rattle.html_grammar.specs.Tags.{Attr}
 use Rattle.html_grammar.specs.Trees.{Tree, one, many, text_node, element, none, more, snoc, append}
 use Rattle.html_grammar.proofs.Pieces.{append_none, append_snoc}
 use Rattle.html_grammar.specs.Tables.{is_in}
-use Rattle.html_kept.specs.Table.{no_urls, dropped, listed, attr_value}
+use Rattle.html_kept.specs.Table.{Answers, dropped, listed, attr_value}
 use Rattle.html_kept.specs.Kept.{with_value, kept_attrs, joined, kept, cleaned}
 
 append_nil : (xs : List ℕ) → xs ++ [] ≡ xs
@@ -66,23 +66,23 @@ with_split x (Some us) ys = refl
 append_assoc_attrs : (xs ys zs : List Attr) → (xs ++ ys) ++ zs ≡ xs ++ (ys ++ zs)
 append_assoc_attrs xs ys zs = append_assoc xs ys zs
 
-pub attr_kept : (n : List ℕ) (k j : List Attr) (x : Attr) (o : Option (List ℕ)) (xs all : List Attr) → j ≡ k ++ with_value x.name o [] → o ≡ attr_value no_urls n x.name x.value → k ++ kept_attrs no_urls n (x ∷ xs) ≡ all
-    → j ++ kept_attrs no_urls n xs ≡ all
-attr_kept n k j x o xs all e f h =
-    ap (λ (l : List Attr). l ++ kept_attrs no_urls n xs) e ∙ append_assoc_attrs k (with_value x.name o []) (kept_attrs no_urls n xs)
-    ∙ ap (λ (l : List Attr). k ++ l) (sym (with_split x.name o (kept_attrs no_urls n xs)) ∙ ap (λ o. with_value x.name o (kept_attrs no_urls n xs)) f) ∙ h
+pub attr_kept : (a : Answers) (n : List ℕ) (k j : List Attr) (x : Attr) (o : Option (List ℕ)) (xs all : List Attr) → j ≡ k ++ with_value x.name o [] → o ≡ attr_value a n x.name x.value → k ++ kept_attrs a n (x ∷ xs) ≡ all
+    → j ++ kept_attrs a n xs ≡ all
+attr_kept a n k j x o xs all e f h =
+    ap (λ (l : List Attr). l ++ kept_attrs a n xs) e ∙ append_assoc_attrs k (with_value x.name o []) (kept_attrs a n xs)
+    ∙ ap (λ (l : List Attr). k ++ l) (sym (with_split x.name o (kept_attrs a n xs)) ∙ ap (λ o. with_value x.name o (kept_attrs a n xs)) f) ∙ h
 
 -- ---- elements
 
-pub element_dropped : (n : List ℕ) (xs : List Attr) (ts r : Tree many) → is_in dropped n ≡ true → kept no_urls one (element n xs ts) r ≡ r
-element_dropped n xs ts r e = ap (λ b. if b then r else if is_in listed n then more (element n (kept_attrs no_urls n xs) (kept no_urls many ts none)) r else kept no_urls many ts r) e
+pub element_dropped : (a : Answers) (n : List ℕ) (xs : List Attr) (ts r : Tree many) → is_in dropped n ≡ true → kept a one (element n xs ts) r ≡ r
+element_dropped a n xs ts r e = ap (λ b. if b then r else if is_in listed n then more (element n (kept_attrs a n xs) (kept a many ts none)) r else kept a many ts r) e
 
-pub element_unlisted : (n : List ℕ) (xs : List Attr) (ts r : Tree many) → is_in dropped n ≡ false → is_in listed n ≡ false → kept no_urls one (element n xs ts) r ≡ kept no_urls many ts r
-element_unlisted n xs ts r e f =
-    ap (λ b. if b then r else if is_in listed n then more (element n (kept_attrs no_urls n xs) (kept no_urls many ts none)) r else kept no_urls many ts r) e
-    ∙ ap (λ b. if b then more (element n (kept_attrs no_urls n xs) (kept no_urls many ts none)) r else kept no_urls many ts r) f
+pub element_unlisted : (a : Answers) (n : List ℕ) (xs : List Attr) (ts r : Tree many) → is_in dropped n ≡ false → is_in listed n ≡ false → kept a one (element n xs ts) r ≡ kept a many ts r
+element_unlisted a n xs ts r e f =
+    ap (λ b. if b then r else if is_in listed n then more (element n (kept_attrs a n xs) (kept a many ts none)) r else kept a many ts r) e
+    ∙ ap (λ b. if b then more (element n (kept_attrs a n xs) (kept a many ts none)) r else kept a many ts r) f
 
-pub element_listed : (n : List ℕ) (xs : List Attr) (ts r : Tree many) → is_in dropped n ≡ false → is_in listed n ≡ true → kept no_urls one (element n xs ts) r ≡ more (element n (kept_attrs no_urls n xs) (cleaned no_urls ts)) r
-element_listed n xs ts r e f =
-    ap (λ b. if b then r else if is_in listed n then more (element n (kept_attrs no_urls n xs) (kept no_urls many ts none)) r else kept no_urls many ts r) e
-    ∙ ap (λ b. if b then more (element n (kept_attrs no_urls n xs) (kept no_urls many ts none)) r else kept no_urls many ts r) f
+pub element_listed : (a : Answers) (n : List ℕ) (xs : List Attr) (ts r : Tree many) → is_in dropped n ≡ false → is_in listed n ≡ true → kept a one (element n xs ts) r ≡ more (element n (kept_attrs a n xs) (cleaned a ts)) r
+element_listed a n xs ts r e f =
+    ap (λ b. if b then r else if is_in listed n then more (element n (kept_attrs a n xs) (kept a many ts none)) r else kept a many ts r) e
+    ∙ ap (λ b. if b then more (element n (kept_attrs a n xs) (kept a many ts none)) r else kept a many ts r) f

@@ -1,5 +1,4 @@
 mod Oks
 mod KeptSoFar
-mod Rows
 mod Nodes
 mod Attrs

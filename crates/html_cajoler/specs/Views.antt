@@ -1,5 +1,5 @@
 -- What the program's table and what it has kept so far are in the definition.
-use Rattle.std.specs.Prelude.{ℕ, Bool, map}
+use Rattle.std.specs.Prelude.{ℕ, List, Bool, Option, None, map, if◌then◌else◌}
 use Rattle.html_grammar.specs.Characters.{is_digit}
 use Rattle.html_grammar.specs.Trees.{Tree, many, append}
 use Rattle.html_tree.specs.Views.{trees}
@@ -29,6 +29,10 @@ values_of v.Image = t.image
 
 abbrev pub row_of : Row → t.Row
 row_of r = t.row r.attr.now (map (λ name. name.now) r.on.now) (values_of r.values)
+
+-- what a row keeps of a value on an element
+abbrev pub value_by : t.Row → t.Answers → List ℕ → List ℕ → Option (List ℕ)
+value_by r a n us = if t.is_on r.on n then t.kept_value a r.values us else None
 
 -- what was kept so far, before what is kept of what follows
 abbrev pub whole : Kept → Tree many → Tree many

@@ -1,12 +1,13 @@
 //! What is kept of a document.
 
-ghost use Rattle.std.specs.Prelude.{◌≡◌, ◌++◌, [], IfOk, OnOk};
+ghost use Rattle.std.specs.Prelude.{◌≡◌, ◌++◌, [], option_copied, IfOk, OnOk};
 ghost use Rattle.html_grammar.specs.Tables.{is_in};
 ghost use Rattle.html_grammar.specs.Trees.{Tree, many, one, none, more, element};
 ghost use Rattle.html_tree.specs.Views.{tree, trees, attrs_of};
-ghost use Rattle.html_kept.specs.Table.{listed, no_urls};
-ghost use Rattle.html_kept.specs.OfTable.{OfTable};
+ghost use Rattle.html_kept.specs.Table.{listed};
 ghost use Rattle.html_kept.specs.Kept.{kept as kept_tree, kept_attrs, with_value, joined, cleaned};
+ghost use Rattle.url_rule.specs.Table.{rows_of};
+ghost use Rattle.html_urls.specs.Answers.{for_documents, IsKept};
 ghost use Rattle.html_cajoler.specs.Views.{whole};
 
 use crate::table::attr_value;
@@ -16,6 +17,8 @@ use html_tree::{Attr, Html, make_element, push, text};
 use std::alloc::Global;
 use std::marker::Model;
 use std::mem;
+use url::Url;
+use url_rule::{Asks, UriRule};
 
 /// The elements that are dropped with their content.
 static DROPPED: [&str; 8] = [
@@ -59,8 +62,8 @@ static LISTED: [&str; 33] = [
     "ul",
 ];
 
-/// What is kept of a document: each element is listed, each attribute is one of the table with a value that is kept there, no text is empty, and no two stand side
-/// by side. `clean_html` makes it, and nothing else does.
+/// What is kept of a document: each element is listed, each attribute is one of the table with a value that is kept there, links and images by some rule for URLs;
+/// no text is empty, and no two stand side by side. `clean_html` makes it, and nothing else does.
 #[derive(Debug, Drop)]
 pub struct Clean {
     list: Vec<Html>,
@@ -69,12 +72,10 @@ pub struct Clean {
 impl Model for Clean {
     ghost use Rattle.std.specs.Prelude.{List};
     ghost use Rattle.std.specs.Coded.{codes};
-    ghost use Rattle.html_grammar.specs.Trees.{many};
     ghost use Rattle.html_tree.specs.declared.Html.{Html};
     ghost use Rattle.html_tree.specs.contracts.Html as html;
     ghost use Rattle.html_tree.specs.Views.{trees};
-    ghost use Rattle.html_kept.specs.Table.{no_urls};
-    ghost use Rattle.html_kept.specs.OfTable.{OfTable};
+    ghost use Rattle.html_urls.specs.Answers.{IsKept};
 
     ghost Value = { List Html };
 
@@ -82,14 +83,14 @@ impl Model for Clean {
 
     ghost view = { λ clean. clean.list.items };
 
-    ghost invariant = { λ clean. OfTable no_urls many (trees clean.list.items) };
+    ghost invariant = { λ clean. IsKept (trees clean.list.items) };
 }
 
 impl Clean {
     /// The nodes, in order: elements with their attributes and their content, and texts.
     pub fn nodes(&self) -> &[Html]
         ensures same { result.now ≡ self.now }
-        ensures of_table { OfTable no_urls many (trees self.now) }
+        ensures of_table { IsKept (trees self.now) }
     {
         &self.list
     }
@@ -155,28 +156,33 @@ fn keep_attr(
 }
 
 /// The attributes that are kept on an element.
-fn keep_attrs(alloc: Global, tag: &Units, attrs: &[Attr]) -> Result<Vec<Attr>, Memory>
-    ensures { IfOk result (λ v. attrs_of v.items ≡ kept_attrs no_urls tag.now (attrs_of attrs.now)) }
+fn keep_attrs<F: Asks>(
+    alloc: Global,
+    tag: &Units,
+    attrs: &[Attr],
+    urls: &UriRule<F>,
+    base: Option<&Url>,
+) -> Result<Vec<Attr>, Memory>
+    ensures { IfOk result (λ v. attrs_of v.items ≡ kept_attrs (for_documents (rows_of urls.now.table.items) (option_copied base.entry)) tag.now (attrs_of attrs.now)) }
 {
     let mut kept = Vec::new(alloc);
     for attr in attrs {
-        let value = attr_value(alloc, tag, &attr.name, &attr.value)?;
+        let value = attr_value(alloc, tag, &attr.name, &attr.value, urls, base)?;
         keep_attr(alloc, &mut kept, attr, value)?;
     }
     Ok(kept)
 }
 
-/// Appends an element with what is kept in it.
+/// Appends an element with its attributes and what is kept in it.
 fn push_element(
     alloc: Global,
     kept: &mut Kept,
     name: &Units,
-    attrs: &[Attr],
+    attrs: Vec<Attr>,
     content: Vec<Html>,
 ) -> Result<(), Memory>
-    ensures { OnOk result ((r : Tree many) → whole kept.new r ≡ whole kept.old (more (element name.now (kept_attrs no_urls name.now (attrs_of attrs.now)) (trees content.items)) r)) }
+    ensures { OnOk result ((r : Tree many) → whole kept.new r ≡ whole kept.old (more (element name.now (attrs_of attrs.items) (trees content.items)) r)) }
 {
-    let attrs = keep_attrs(alloc, name, attrs)?;
     end_text(alloc, kept)?;
     let name = name.copy(alloc)?;
     push(&mut kept.nodes, make_element(name, attrs, content))
@@ -184,14 +190,19 @@ fn push_element(
 
 /// What is kept of the content of an element.
 #[cycle(keeps)]
-fn keep_content(alloc: Global, nodes: &[Html]) -> Result<Vec<Html>, Memory>
-    ensures { IfOk result (λ v. trees v.items ≡ cleaned no_urls (trees nodes.now)) }
+fn keep_content<F: Asks>(
+    alloc: Global,
+    nodes: &[Html],
+    urls: &UriRule<F>,
+    base: Option<&Url>,
+) -> Result<Vec<Html>, Memory>
+    ensures { IfOk result (λ v. trees v.items ≡ cleaned (for_documents (rows_of urls.now.table.items) (option_copied base.entry)) (trees nodes.now)) }
 {
     let mut kept = Kept {
         nodes: Vec::new(alloc),
         text: Vec::new(alloc),
     };
-    keep_all(alloc, &mut kept, nodes)?;
+    keep_all(alloc, &mut kept, nodes, urls, base)?;
     end_text(alloc, &mut kept)?;
     let Kept { nodes, text: _ } = kept;
     Ok(nodes)
@@ -199,8 +210,14 @@ fn keep_content(alloc: Global, nodes: &[Html]) -> Result<Vec<Html>, Memory>
 
 /// Appends what is kept of a node.
 #[cycle(keeps)]
-fn keep_node(alloc: Global, kept: &mut Kept, node: &Html) -> Result<(), Memory>
-    ensures { OnOk result ((r : Tree many) → whole kept.new r ≡ whole kept.old (kept_tree no_urls one (tree node.now) r)) }
+fn keep_node<F: Asks>(
+    alloc: Global,
+    kept: &mut Kept,
+    node: &Html,
+    urls: &UriRule<F>,
+    base: Option<&Url>,
+) -> Result<(), Memory>
+    ensures { OnOk result ((r : Tree many) → whole kept.new r ≡ whole kept.old (kept_tree (for_documents (rows_of urls.now.table.items) (option_copied base.entry)) one (tree node.now) r)) }
 {
     match node {
         Html::Text(text) => keep_text(kept, text),
@@ -209,9 +226,10 @@ fn keep_node(alloc: Global, kept: &mut Kept, node: &Html) -> Result<(), Memory>
                 return Ok(());
             }
             if !is_listed(name) {
-                return keep_all(alloc, kept, content);
+                return keep_all(alloc, kept, content, urls, base);
             }
-            let content = keep_content(alloc, content)?;
+            let content = keep_content(alloc, content, urls, base)?;
+            let attrs = keep_attrs(alloc, name, attrs, urls, base)?;
             push_element(alloc, kept, name, attrs, content)
         }
     }
@@ -219,20 +237,31 @@ fn keep_node(alloc: Global, kept: &mut Kept, node: &Html) -> Result<(), Memory>
 
 /// Appends what is kept of nodes.
 #[cycle(keeps)]
-fn keep_all(alloc: Global, kept: &mut Kept, nodes: &[Html]) -> Result<(), Memory>
-    ensures { OnOk result ((r : Tree many) → whole kept.new r ≡ whole kept.old (kept_tree no_urls many (trees nodes.now) r)) }
+fn keep_all<F: Asks>(
+    alloc: Global,
+    kept: &mut Kept,
+    nodes: &[Html],
+    urls: &UriRule<F>,
+    base: Option<&Url>,
+) -> Result<(), Memory>
+    ensures { OnOk result ((r : Tree many) → whole kept.new r ≡ whole kept.old (kept_tree (for_documents (rows_of urls.now.table.items) (option_copied base.entry)) many (trees nodes.now) r)) }
 {
     for node in nodes {
-        keep_node(alloc, kept, node)?;
+        keep_node(alloc, kept, node, urls, base)?;
     }
     Ok(())
 }
 
-/// What is kept of a document: the elements and attributes of the table, and texts, which are joined where they come to stand side by side. Each URL is dropped
-/// for now.
-pub fn clean_html(alloc: Global, document: &[Html]) -> Result<Clean, Memory>
-    ensures { IfOk result (λ clean. trees clean ≡ cleaned no_urls (trees document.now)) }
+/// What is kept of a document: the elements and attributes of the table, and texts, which are joined where they come to stand side by side. In the place of each link
+/// and each image stands what the rule answers for it, joined to the base where there is one; where it answers nothing, the attribute is dropped.
+pub fn clean_html<F: Asks>(
+    alloc: Global,
+    document: &[Html],
+    urls: &UriRule<F>,
+    base: Option<&Url>,
+) -> Result<Clean, Memory>
+    ensures { IfOk result (λ clean. trees clean ≡ cleaned (for_documents (rows_of urls.now.table.items) (option_copied base.entry)) (trees document.now)) }
 {
-    let list = keep_content(alloc, document)?;
+    let list = keep_content(alloc, document, urls, base)?;
     Ok(Clean { list })
 }

@@ -1,7 +1,7 @@
 //! HTML that may stand in a page: what is kept of a document that was read, and how it is written.
 //!
-//! Elements and attributes are kept by a table (the definition is html_kept's). What may run code or fetch something is dropped: `script` and its like with their
-//! content, each attribute that isn't listed, and for now each URL.
+//! Elements and attributes are kept by a table (the definition is html_kept's). What may run code is dropped: `script` and its like with their content, and each
+//! attribute that isn't listed. Each URL is asked of the rule for URLs, and what stands in its place is what that answers.
 #![tactic(auto)]
 
 mod keeping;

@@ -1,13 +1,17 @@
 //! The table of what is kept.
 
-ghost use Rattle.std.specs.Prelude.{◌≡◌, map, IfOk};
+ghost use Rattle.std.specs.Prelude.{◌≡◌, map, option_copied, IfOk};
 ghost use Rattle.html_kept.specs.Table as t;
-ghost use Rattle.html_cajoler.specs.Views.{row_of, values_of};
+ghost use Rattle.url_rule.specs.Table.{rows_of};
+ghost use Rattle.html_urls.specs.Answers.{for_documents};
+ghost use Rattle.html_cajoler.specs.Views.{row_of, values_of, value_by};
 
 use crate::values::{are_words, is_language, is_size, is_word};
 use caja_units::{Memory, Units};
 use html_tokens::{spells, stands_in};
 use std::alloc::Global;
+use url::Url;
+use url_rule::{Asks, UriKind, UriRule};
 
 /// What an attribute's value may be.
 #[derive(Debug, Clone, Copy)]
@@ -140,42 +144,76 @@ fn if_so(alloc: Global, keeps: bool, value: &Units) -> Result<Option<Units>, Mem
     }
 }
 
-/// Whether a value is one of those that are kept as they are.
-fn is_kept(values: Values, value: &Units) -> bool
-    ensures { t.if_so result value.now ≡ t.kept_value t.no_urls (values_of values) value.now }
+/// The value that is kept of a value, if one is. A URL is what the rule answers for it.
+fn kept_value<F: Asks>(
+    alloc: Global,
+    values: Values,
+    value: &Units,
+    urls: &UriRule<F>,
+    base: Option<&Url>,
+) -> Result<Option<Units>, Memory>
+    ensures { IfOk result (λ kept. kept ≡ t.kept_value (for_documents (rows_of urls.now.table.items) (option_copied base.entry)) (values_of values) value.now) }
 {
     match values {
-        Values::Any => true,
-        Values::Word => is_word(value),
-        Values::Words => are_words(value),
-        Values::Language => is_language(value),
-        Values::Size => is_size(value),
-        Values::OneOf(texts) => stands_in(texts, value),
-        Values::Link => false,
-        Values::Image => false,
+        Values::Any => if_so(alloc, true, value),
+        Values::Word => if_so(alloc, is_word(value), value),
+        Values::Words => if_so(alloc, are_words(value), value),
+        Values::Language => if_so(alloc, is_language(value), value),
+        Values::Size => if_so(alloc, is_size(value), value),
+        Values::OneOf(texts) => if_so(alloc, stands_in(texts, value), value),
+        Values::Link => urls.read(alloc, UriKind::Link, value, base),
+        Values::Image => urls.read(alloc, UriKind::Image, value, base),
     }
 }
 
-/// Whether the value of an attribute is kept on an element, by the row with its name.
-fn keeps(rows: &[Row], tag: &Units, name: &Units, value: &Units) -> bool
-    ensures { t.if_so result value.now ≡ t.value_in (map row_of rows.now) t.no_urls tag.now name.now value.now }
+/// The value that a row keeps of a value on an element, if it keeps one.
+fn value_by<F: Asks>(
+    alloc: Global,
+    row: &Row,
+    tag: &Units,
+    value: &Units,
+    urls: &UriRule<F>,
+    base: Option<&Url>,
+) -> Result<Option<Units>, Memory>
+    ensures { IfOk result (λ kept. kept ≡ value_by (row_of row.now) (for_documents (rows_of urls.now.table.items) (option_copied base.entry)) tag.now value.now) }
+{
+    if !is_on(row.on, tag) {
+        return Ok(None);
+    }
+    kept_value(alloc, row.values, value, urls, base)
+}
+
+/// The value that is kept of an attribute on an element, by the row with its name.
+fn value_in<F: Asks>(
+    alloc: Global,
+    rows: &[Row],
+    tag: &Units,
+    name: &Units,
+    value: &Units,
+    urls: &UriRule<F>,
+    base: Option<&Url>,
+) -> Result<Option<Units>, Memory>
+    ensures { IfOk result (λ kept. kept ≡ t.value_in (map row_of rows.now) (for_documents (rows_of urls.now.table.items) (option_copied base.entry)) tag.now name.now value.now) }
 {
     for row in rows {
         if spells(name, row.attr.as_bytes()) {
-            return is_on(row.on, tag) && is_kept(row.values, value);
+            return value_by(alloc, row, tag, value, urls, base);
         }
     }
-    false
+    Ok(None)
 }
 
-/// The value that is kept of an attribute on an element, both names in lower case, or None where it is dropped. A URL is dropped for now.
-pub fn attr_value(
+/// The value that is kept of an attribute on an element, both names in lower case, or None where it is dropped. Of a link or an image it is what the rule answers,
+/// and nothing else.
+pub fn attr_value<F: Asks>(
     alloc: Global,
     tag: &Units,
     name: &Units,
     value: &Units,
+    urls: &UriRule<F>,
+    base: Option<&Url>,
 ) -> Result<Option<Units>, Memory>
-    ensures { IfOk result (λ kept. kept ≡ t.attr_value t.no_urls tag.now name.now value.now) }
+    ensures { IfOk result (λ kept. kept ≡ t.attr_value (for_documents (rows_of urls.now.table.items) (option_copied base.entry)) tag.now name.now value.now) }
 {
-    if_so(alloc, keeps(&ROWS, tag, name, value), value)
+    value_in(alloc, &ROWS, tag, name, value, urls, base)
 }

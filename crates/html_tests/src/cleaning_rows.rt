@@ -1,6 +1,7 @@
 //! Texts of which is written what is kept of them, which is read back.
 
 use crate::attack_tables::{BROKEN, CONDITIONS, EVENTS, SCRIPTS, STYLES, URLS};
+use crate::cleaning::is_kept;
 use crate::cleaning_tables::{KEPT_ATTRIBUTES, KEPT_ELEMENTS, WRITTEN};
 use crate::page_tables::PAGES;
 use caja_units::Units;
@@ -9,39 +10,15 @@ use html_reader::read_html;
 use html_tree::Html;
 use std::alloc::Global;
 use std::test::Fail;
+use url_tables::{TableRow, base_of, rule_of};
 
-/// What is kept of a text, as it is written, or why the text is refused.
-fn kept(alloc: Global, text: &[u8]) -> Result<Vec<u8>, Fail> {
-    u32::try_from(text.len())?;
-    match read_html(alloc, text) {
-        Ok(document) => {
-            let clean = clean_html(alloc, &document)?;
-            Ok(print_html(alloc, &clean)?)
-        }
-        Err(refusal) => {
-            let shown = format!(in alloc; "{refusal:?}")?;
-            Ok(shown.into_bytes())
-        }
-    }
-}
-
-/// Whether this is kept of a text, and is kept whole when it is read again.
-fn is_kept(alloc: Global, text: &[u8], wanted: &[u8]) -> Result<bool, Fail> {
-    let first = kept(alloc, text)?;
-    if first.as_slice() != wanted {
-        return Ok(false);
-    }
-    Ok(read_is_refused(alloc, text)? || kept(alloc, &first)?.as_slice() == wanted)
-}
-
-fn read_is_refused(alloc: Global, text: &[u8]) -> Result<bool, Fail> {
-    u32::try_from(text.len())?;
-    Ok(read_html(alloc, text).is_err())
-}
+/// Any host by `https`.
+static SECURE: [TableRow; 1] = [(None, "https", None, false)];
 
 fn check(alloc: Global, rows: &[(&'static str, &str)]) -> Result<(), Fail> {
+    let urls = rule_of(alloc, &SECURE)?;
     for (text, wanted) in rows {
-        if !is_kept(alloc, text.as_bytes(), wanted.as_bytes())? {
+        if !is_kept(alloc, text.as_bytes(), wanted.as_bytes(), &urls, None)? {
             return Err((*text).into());
         }
     }
@@ -70,34 +47,44 @@ fn texts_of_pages_are_kept_or_refused(rt: HostRuntime) -> Result<(), Fail> {
     check(rt.alloc(), &PAGES)
 }
 
-/// Elements, attributes and values, and whether the value is kept.
-static VALUES: [(&str, &str, &str, bool); 10] = [
-    ("p", "id", "a", true),
-    ("p", "id", "1", false),
-    ("p", "onclick", "a", false),
-    ("img", "src", "a", false),
-    ("a", "href", "a", false),
-    ("img", "width", "10", true),
-    ("p", "width", "10", false),
-    ("xmp", "title", "", true),
-    ("input", "type", "text", true),
-    ("input", "type", "file", false),
+/// Elements, attributes and values, and what is kept of the value, `-` where it is dropped.
+static VALUES: [(&str, &str, &str, &str); 15] = [
+    ("p", "id", "a", "a"),
+    ("p", "id", "1", "-"),
+    ("p", "onclick", "a", "-"),
+    ("img", "src", "a", "https://e.example/a"),
+    ("img", "src", "#a", "https://e.example/#a"),
+    ("img", "src", "http://e.example/", "-"),
+    ("img", "href", "a", "-"),
+    ("a", "href", "a", "https://e.example/a"),
+    ("a", "href", "#a", "#a"),
+    ("a", "href", "javascript:a", "-"),
+    ("img", "width", "10", "10"),
+    ("p", "width", "10", "-"),
+    ("xmp", "title", "", ""),
+    ("input", "type", "text", "text"),
+    ("input", "type", "file", "-"),
 ];
+
+fn value_kept(alloc: Global, row: &(&str, &str, &str, &str)) -> Result<Vec<u8>, Fail> {
+    let urls = rule_of(alloc, &SECURE)?;
+    let base = base_of(alloc, "https://e.example/")?;
+    let tag = Units::from_ascii(alloc, row.0.as_bytes())?;
+    let name = Units::from_ascii(alloc, row.1.as_bytes())?;
+    let value = Units::from_ascii(alloc, row.2.as_bytes())?;
+    let mut shown = Vec::new(alloc);
+    match attr_value(alloc, &tag, &name, &value, &urls, base.as_ref())? {
+        Some(kept) => kept.push_utf8(&mut shown)?,
+        None => shown.push(b'-')?,
+    }
+    Ok(shown)
+}
 
 #[test]
 fn values_are_kept_or_dropped(rt: HostRuntime) -> Result<(), Fail> {
-    for (tag, name, value, keeps) in VALUES.iter() {
-        let tag = Units::from_ascii(rt.alloc(), tag.as_bytes())?;
-        let name = Units::from_ascii(rt.alloc(), name.as_bytes())?;
-        let given = Units::from_ascii(rt.alloc(), value.as_bytes())?;
-        let kept = attr_value(rt.alloc(), &tag, &name, &given)?;
-        assert!(rt;
-            match kept {
-                Some(kept) => *keeps && kept.same(&given),
-                None => !*keeps
-            },
-            "{value}"
-        );
+    for row in VALUES.iter() {
+        let kept = value_kept(rt.alloc(), row)?;
+        assert!(rt; kept.as_slice() == row.3.as_bytes(), "{}", row.2);
     }
     Ok(())
 }
@@ -126,7 +113,8 @@ fn an_element_is_written_part_by_part_as_it_is_whole(rt: HostRuntime) -> Result<
     let text = b"<font><p title='a&quot;b'>c &lt; d</p></font>";
     match read_html(rt.alloc(), text) {
         Ok(document) => {
-            let clean = clean_html(rt.alloc(), &document)?;
+            let urls = rule_of(rt.alloc(), &[])?;
+            let clean = clean_html(rt.alloc(), &document, &urls, None)?;
             let mut parts = Vec::new(rt.alloc());
             put_parts(rt.alloc(), &mut parts, clean.nodes())?;
             let whole = print_html(rt.alloc(), &clean)?;

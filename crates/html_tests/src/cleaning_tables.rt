@@ -104,7 +104,10 @@ pub static KEPT_ATTRIBUTES: [(&str, &str); 52] = [
     ),
     ("<p dir=LTR></p>", "<p></p>"),
     ("<p dir=auto></p>", "<p></p>"),
-    ("<a href='https://e.example/'>x</a>", "<a>x</a>"),
+    (
+        "<a href='https://e.example/'>x</a>",
+        "<a href=\"https://e.example/\">x</a>",
+    ),
     ("<img src='x.png'>", "<img>"),
     ("<p href='x'></p>", "<p></p>"),
     (

@@ -1,18 +1,31 @@
-//! Texts of four mebibytes, in shapes that are hard on a reader: each is read or refused in little time and with a small stack.
+//! Texts of four mebibytes, and smaller ones with links, in shapes that are hard on a reader: each is read or refused in little time and with a small stack.
 
 use html_cajoler::{clean_html, print_html};
 use html_reader::read_html;
 use std::alloc::Global;
 use std::test::Fail;
+use url_tables::{TableRow, rule_of};
+
+/// Any host by `https`.
+static SECURE: [TableRow; 1] = [(None, "https", None, false)];
 
 /// How many bytes a text has at most.
 const LARGE: usize = 4_194_304;
 
-/// A front, a part again and again as often as it fits, and an end.
-fn repeated(alloc: Global, front: &str, part: &str, end: &str) -> Result<String, Fail> {
-    let mut text = String::with_capacity(alloc, LARGE)?;
+/// And a text with links, of which each is read as a URL.
+const WITH_LINKS: usize = 262_144;
+
+/// A front, a part again and again as often as it fits into so many bytes, and an end.
+fn repeated(
+    alloc: Global,
+    size: usize,
+    front: &str,
+    part: &str,
+    end: &str,
+) -> Result<String, Fail> {
+    let mut text = String::with_capacity(alloc, size)?;
     text.push_str(front)?;
-    let room = LARGE.saturating_sub(front.len()).saturating_sub(end.len());
+    let room = size.saturating_sub(front.len()).saturating_sub(end.len());
     for _ in 0..room / part.len().max(1) {
         text.push_str(part)?;
     }
@@ -25,7 +38,8 @@ fn shown(alloc: Global, text: &str) -> Result<String, Fail> {
     u32::try_from(text.len())?;
     match read_html(alloc, text.as_bytes()) {
         Ok(document) => {
-            let clean = clean_html(alloc, &document)?;
+            let urls = rule_of(alloc, &SECURE)?;
+            let clean = clean_html(alloc, &document, &urls, None)?;
             let written = print_html(alloc, &clean)?;
             Ok(format!(in alloc; "{}", written.len())?)
         }
@@ -35,9 +49,9 @@ fn shown(alloc: Global, text: &str) -> Result<String, Fail> {
 
 type Shape = (&'static str, &'static str, &'static str, &'static str);
 
-fn check(alloc: Global, shapes: &[Shape]) -> Result<(), Fail> {
+fn check(alloc: Global, size: usize, shapes: &[Shape]) -> Result<(), Fail> {
     for (front, part, end, wanted) in shapes {
-        let text = repeated(alloc, front, part, end)?;
+        let text = repeated(alloc, size, front, part, end)?;
         if shown(alloc, text.as_str())?.as_str() != *wanted {
             return Err((*part).into());
         }
@@ -56,7 +70,7 @@ static TEXTS: [Shape; 5] = [
 
 #[test]
 fn large_texts_are_read(rt: HostRuntime) -> Result<(), Fail> {
-    check(rt.alloc(), &TEXTS)
+    check(rt.alloc(), LARGE, &TEXTS)
 }
 
 /// Elements and comments.
@@ -71,7 +85,7 @@ static ELEMENTS: [Shape; 6] = [
 
 #[test]
 fn many_elements_are_read(rt: HostRuntime) -> Result<(), Fail> {
-    check(rt.alloc(), &ELEMENTS)
+    check(rt.alloc(), LARGE, &ELEMENTS)
 }
 
 /// Tags.
@@ -82,9 +96,21 @@ static TAGS: [Shape; 4] = [
     ("<p title='", "\"", "'></p>", "25165744"),
 ];
 
+/// Links: one that is long, many that are asked, and many that are dropped.
+static LINKS: [Shape; 3] = [
+    ("<a href='https://e.example/", "a", "'></a>", "262144"),
+    ("", "<a href='https:b'></a>", "", "297875"),
+    ("", "<img src='javascript:b'>", "", "54610"),
+];
+
+#[test]
+fn large_links_are_asked(rt: HostRuntime) -> Result<(), Fail> {
+    check(rt.alloc(), WITH_LINKS, &LINKS)
+}
+
 #[test]
 fn large_tags_are_read_or_refused(rt: HostRuntime) -> Result<(), Fail> {
-    check(rt.alloc(), &TAGS)
+    check(rt.alloc(), LARGE, &TAGS)
 }
 
 #[test]
@@ -96,7 +122,7 @@ fn elements_that_nest_to_the_limit_are_read(rt: HostRuntime) -> Result<(), Fail>
     for _ in 0..128 {
         part.push_str("</b>")?;
     }
-    let text = repeated(rt.alloc(), "", part.as_str(), "")?;
+    let text = repeated(rt.alloc(), LARGE, "", part.as_str(), "")?;
     let shown = shown(rt.alloc(), text.as_str())?;
     assert!(rt; shown.as_str() == "4194176", "{shown}");
     Ok(())

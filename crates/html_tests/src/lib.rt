@@ -4,11 +4,17 @@
 #[cfg(test)]
 mod attack_tables;
 #[cfg(test)]
+mod cleaning;
+#[cfg(test)]
 mod cleaning_rows;
 #[cfg(test)]
 mod cleaning_tables;
 #[cfg(test)]
 mod large_rows;
+#[cfg(test)]
+mod link_rows;
+#[cfg(test)]
+mod link_tables;
 #[cfg(test)]
 mod page_tables;
 #[cfg(test)]

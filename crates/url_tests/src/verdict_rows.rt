@@ -1,10 +1,11 @@
 //! What tables answer to asks.
 
-use crate::rules::{AskRow, TableRow, rule_of};
+use crate::rules::AskRow;
 use crate::verdict_tables as tables;
 use std::alloc::Global;
 use std::test::Fail;
 use url_rule::{UriAsk, UriVerdict};
+use url_tables::{TableRow, rule_of};
 
 fn check(alloc: Global, rows: &[TableRow], asks: &[AskRow]) -> Result<(), Fail> {
     let rule = rule_of(alloc, rows)?;

@@ -1,7 +1,8 @@
 //! Tables of rows, asks, and whether they are allowed.
 
-use crate::rules::{AskRow, TableRow};
+use crate::rules::AskRow;
 use url_rule::UriKind::{Image, Link, Style};
+use url_tables::TableRow;
 
 /// Links to a host and to those below it.
 pub static BELOW_TABLE: [TableRow; 1] = [(Some(Link), "https", Some("e.example"), true)];

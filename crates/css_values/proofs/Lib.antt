@@ -1,0 +1,3 @@
+mod Slices
+mod Trimmed
+mod Quoted
