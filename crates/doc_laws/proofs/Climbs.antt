@@ -85,6 +85,24 @@ below d n q f less (goes_up _ p h e) is =
 short : (d : Doc) (n : ℕ) → Ways d → n < length d.rows → (e : Ends d n) → length (chain d n e) ≤ length d.rows
 short d n f less e = length-le_from_distinct_below (chain d n e) (length d.rows) (distinct d n e) (λ q. below d n q f less e)
 
+-- so many steps go up from a node
+abbrev pub Steps : ℕ → Doc → ℕ → Type 0
+Steps zero d n = Unit {0}
+Steps (suc k) d n = (p : ℕ) × (◌≡◌ {A = Option ℕ} (parent_of d n) (Some p)) × Steps k d p
+
+steps_in : (k : ℕ) (d : Doc) (n : ℕ) (e : Ends d n) → Steps k d n → k < length (chain d n e)
+unfolding chain
+steps_in zero d n (at_top _ h) s = omega arith
+steps_in zero d n (goes_up _ p h e) s = omega arith
+steps_in (suc k) d n (at_top _ h) s = let both : ◌≡◌ {A = Option ℕ} None (Some s.0) = sym h ∙ s.1 in cc (both)
+steps_in (suc k) d n (goes_up _ p h e) s =
+    let same : s.0 ≡ p = let both : ◌≡◌ {A = Option ℕ} (Some s.0) (Some p) = sym s.1 ∙ h in cc (both) in
+    omega (arith, steps_in k d p e (subst (Steps k d) same s.2))
+
+-- fewer than the rows are many
+pub steps_are_few : (k : ℕ) (d : Doc) (n : ℕ) → Ways d → n < length d.rows → Steps k d n → k < length d.rows
+steps_are_few k d n f less s = omega (arith, steps_in k d n (f.ends n) s, short d n f less (f.ends n))
+
 or_true : (b : Bool) → (b || true) ≡ true
 or_true true = refl
 or_true false = refl

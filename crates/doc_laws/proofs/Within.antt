@@ -21,19 +21,19 @@ use Rattle.doc_laws.proofs.Ownership.{new-owner, next-root, other_root}
 use Rattle.doc_laws.proofs.Changed.{append-tested, allowed, passed, third, child-at}
 
 -- a root that is told twice
-same_of : (a b : Option (ℕ × ℕ)) (r : ℕ) → same_root a b ≡ true → root_in a ≡ Some r → root_in b ≡ Some r
+pub same_of : (a b : Option (ℕ × ℕ)) (r : ℕ) → same_root a b ≡ true → root_in a ≡ Some r → root_in b ≡ Some r
 same_of None b r h is = cc
 same_of (Some a) None r h is = cc
 same_of (Some a) (Some b) r h is = let one : a.0 ≡ b.0 = eqb-true a.0 b.0 h in ap (λ x. Some x) (sym one) ∙ is
 
-back_of : (a b : Option (ℕ × ℕ)) (r : ℕ) → same_root a b ≡ true → root_in b ≡ Some r → root_in a ≡ Some r
+pub back_of : (a b : Option (ℕ × ℕ)) (r : ℕ) → same_root a b ≡ true → root_in b ≡ Some r → root_in a ≡ Some r
 back_of None None r h is = is
 back_of None (Some b) r h is = cc
 back_of (Some a) None r h is = cc
 back_of (Some a) (Some b) r h is = let one : a.0 ≡ b.0 = eqb-true a.0 b.0 h in ap (λ x. Some x) one ∙ is
 
 -- what stands under a node of a root is of the root
-under-of : (d : Doc) (m n r : ℕ) → Reached d → parent_in (row_at d m) ≡ Node n → root_in (owner_of d n) ≡ Some r → root_in (owner_of d m) ≡ Some r
+pub under-of : (d : Doc) (m n r : ℕ) → Reached d → parent_in (row_at d m) ≡ Node n → root_in (owner_of d n) ≡ Some r → root_in (owner_of d m) ≡ Some r
 under-of d m n r a under is = elim (a.roots.under m n (ap node_in under)) [
   | inl same ↦ back_of (owner_of d m) (owner_of d n) r same is
   | inr alone ↦ absurd (none_of (owner_of d n) alone.1 is)
@@ -44,7 +44,7 @@ under-of d m n r a under is = elim (a.roots.under m n (ap node_in under)) [
     none_of (Some o) h is = cc
 
 -- what a node of a root stands under, where the root doesn't begin with it, is of the root
-above-of : (d : Doc) (m n r : ℕ) → Reached d → parent_in (row_at d m) ≡ Node n → is_granted (owner_of d m) ≡ false → root_in (owner_of d m) ≡ Some r → root_in (owner_of d n) ≡ Some r
+pub above-of : (d : Doc) (m n r : ℕ) → Reached d → parent_in (row_at d m) ≡ Node n → is_granted (owner_of d m) ≡ false → root_in (owner_of d m) ≡ Some r → root_in (owner_of d n) ≡ Some r
 above-of d m n r a under lent is = elim (a.roots.under m n (ap node_in under)) [
   | inl same ↦ same_of (owner_of d m) (owner_of d n) r same is
   | inr alone ↦ absurd (both (is_granted (owner_of d m)) alone.0 lent)

@@ -1,12 +1,14 @@
 //! Deeds on nodes are done, and tell what they are to tell.
 
 use crate::deed_tables::{Ask, CHANGED, Deeds, READ};
-use crate::steps::{document, units};
+use crate::link_tables::{BY_TABLE, LINKS};
+use crate::steps::{BASE, SECURE, document, units};
 use caja_units::{Memory, Units};
 use doc_tree::NodeId;
 use node_deeds::{Asked, Change, Done, Told, perform};
 use std::alloc::Global;
 use std::test::Fail;
+use url_tables::{TableRow, base_of, rule_of};
 
 fn asked(alloc: Global, ask: Ask) -> Result<Asked, Memory> {
     let asked = match ask {
@@ -100,7 +102,10 @@ fn shown(alloc: Global, done: &Done) -> Result<Vec<u8>, Fail> {
     Ok(out)
 }
 
-fn check_deeds(alloc: Global, rows: &[Deeds]) -> Result<(), Fail> {
+/// Does deeds, with a table for URLs and a base, which is none where it is empty.
+fn check_deeds(alloc: Global, rows: &[Deeds], table: &[TableRow], base: &str) -> Result<(), Fail> {
+    let urls = rule_of(alloc, table)?;
+    let base = base_of(alloc, base)?;
     for row in rows {
         let mut document = document(alloc, row.html, row.roots)?;
         for (node, ask, wanted) in row.deeds {
@@ -109,6 +114,8 @@ fn check_deeds(alloc: Global, rows: &[Deeds]) -> Result<(), Fail> {
                 &mut document,
                 NodeId::new(*node),
                 asked(alloc, *ask)?,
+                &urls,
+                base.as_ref(),
             )?;
             let told = shown(alloc, &done)?;
             if told.as_slice() != wanted.as_bytes() {
@@ -122,10 +129,19 @@ fn check_deeds(alloc: Global, rows: &[Deeds]) -> Result<(), Fail> {
 
 #[test]
 fn deeds_tell_what_is_there(rt: HostRuntime) -> Result<(), Fail> {
-    check_deeds(rt.alloc(), &READ)
+    check_deeds(rt.alloc(), &READ, &SECURE, "")
 }
 
 #[test]
 fn deeds_change_what_is_lent(rt: HostRuntime) -> Result<(), Fail> {
-    check_deeds(rt.alloc(), &CHANGED)
+    check_deeds(rt.alloc(), &CHANGED, &SECURE, "")
+}
+
+#[test]
+fn each_link_and_image_is_asked(rt: HostRuntime) -> Result<(), Fail> {
+    check_deeds(rt.alloc(), &LINKS, &SECURE, BASE)?;
+    for row in &BY_TABLE {
+        check_deeds(rt.alloc(), row.deeds, row.table, row.base)?;
+    }
+    Ok(())
 }

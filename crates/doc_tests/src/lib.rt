@@ -12,6 +12,8 @@ mod document_rows;
 #[cfg(test)]
 mod large_documents;
 #[cfg(test)]
+mod link_tables;
+#[cfg(test)]
 mod reading_tables;
 #[cfg(test)]
 mod steps;

@@ -2,10 +2,11 @@
 
 use caja_units::{Memory, Units};
 use doc_tree::{DocError, Document, NewNode, NodeId};
-use html_cajoler::clean_html;
+use html_cajoler::{Clean, clean_html};
 use html_reader::read_html;
 use std::alloc::Global;
 use std::test::Fail;
+use url_tables::{TableRow, base_of, rule_of};
 
 /// A question or a change. Nodes are named by their numbers.
 #[derive(Debug, Clone, Copy)]
@@ -44,11 +45,23 @@ pub fn units(alloc: Global, text: &str) -> Result<Units, Memory> {
     Units::from_ascii(alloc, text.as_bytes())
 }
 
-/// The document that a text of HTML gives.
-pub fn document(alloc: Global, html: &str, roots: &[&str]) -> Result<Document, Fail> {
+/// The base of documents.
+pub static BASE: &str = "https://e.example/a/";
+
+/// Any host by `https`.
+pub static SECURE: [TableRow; 1] = [(None, "https", None, false)];
+
+/// What is kept of a text of HTML.
+pub fn cleaned(alloc: Global, html: &str) -> Result<Clean, Fail> {
     u32::try_from(html.len())?;
     let read = read_html(alloc, html.as_bytes())?;
-    let clean = clean_html(alloc, &read)?;
+    let base = base_of(alloc, BASE)?;
+    Ok(clean_html(alloc, &read, &rule_of(alloc, &SECURE)?, base.as_ref())?)
+}
+
+/// The document that a text of HTML gives.
+pub fn document(alloc: Global, html: &str, roots: &[&str]) -> Result<Document, Fail> {
+    let clean = cleaned(alloc, html)?;
     let mut ids = Vec::new(alloc);
     for id in roots {
         ids.push(units(alloc, id)?)?;

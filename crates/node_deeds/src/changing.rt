@@ -1,7 +1,8 @@
 //! Deeds that change the document.
 
-ghost use Rattle.std.specs.Prelude.{◌≡◌, IfOk, OnOk, Some, None};
-ghost use Rattle.html_kept.specs.Table.{no_urls};
+ghost use Rattle.std.specs.Prelude.{◌≡◌, option_copied, IfOk, OnOk, Some, None};
+ghost use Rattle.url_rule.specs.Table.{rows_of};
+ghost use Rattle.html_urls.specs.Answers.{for_documents};
 ghost use Rattle.doc_nodes.specs.Rows.{row_at, owner_of, tag_in, is_granted};
 ghost use Rattle.doc_nodes.specs.Changes.{moved, taken, set_attr as attr_set, set_text as text_set, root_in};
 ghost use Rattle.node_deeds.specs.Told.{as_deed, as_told, told_error};
@@ -14,6 +15,8 @@ use doc_tree::{Document, NewNode, NodeId};
 use html_cajoler::{attr_value, is_listed};
 use html_tokens::spells;
 use std::alloc::Global;
+use url::Url;
+use url_rule::{Asks, UriRule};
 
 /// A refusal, which changes nothing.
 fn refuses(refusal: Refusal) -> Done
@@ -58,21 +61,23 @@ fn attribute_set(
 }
 
 /// The value that an attribute of a node is given, if it may be given one: an element's, and no `id`.
-fn value_for(
+fn value_for<F: Asks>(
     alloc: Global,
     document: &Document,
     n: NodeId,
     name: &Units,
     value: &Units,
+    urls: &UriRule<F>,
+    base: Option<&Url>,
 ) -> Result<Option<Units>, Memory>
-    ensures { IfOk result (λ kept. kept ≡ value_for no_urls name.now value.now (tag_in (row_at document.now n))) }
+    ensures { IfOk result (λ kept. kept ≡ value_for (for_documents (rows_of urls.now.table.items) (option_copied base.entry)) name.now value.now (tag_in (row_at document.now n))) }
 {
     match document.tag_of(n) {
         Some(tag) => {
             if spells(name, b"id") {
                 return Ok(None);
             }
-            attr_value(alloc, tag, name, value)
+            attr_value(alloc, tag, name, value, urls, base)
         }
         None => Ok(None),
     }
@@ -80,17 +85,20 @@ fn value_for(
 
 /// `setAttribute(name, value)`.
 ///
-/// `NotAllowed` where the node is a text, the name is `id`, or the table doesn't let the element have it. The value that is set is the table's.
-pub fn set_attribute(
+/// `NotAllowed` where the node is a text, the name is `id`, or the table doesn't let the element have it. The value that is set is the table's: of a link or an image
+/// what the rule for URLs answers, joined to the base where there is one.
+pub fn set_attribute<F: Asks>(
     alloc: Global,
     document: &mut Document,
     n: NodeId,
     name: &Units,
     value: &Units,
+    urls: &UriRule<F>,
+    base: Option<&Url>,
 ) -> Result<Done, Memory>
-    ensures { IfOk result (λ x. as_deed x document.new ≡ set_attribute no_urls name.now value.now n document.old) }
+    ensures { IfOk result (λ x. as_deed x document.new ≡ set_attribute (for_documents (rows_of urls.now.table.items) (option_copied base.entry)) name.now value.now n document.old) }
 {
-    match value_for(alloc, document, n, name, value)? {
+    match value_for(alloc, document, n, name, value, urls, base)? {
         Some(value) => attribute_set(alloc, document, n, name, value),
         None => Ok(refuses(Refusal::NotAllowed)),
     }

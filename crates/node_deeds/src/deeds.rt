@@ -1,7 +1,8 @@
 //! What is asked of a node, and what is done then.
 
-ghost use Rattle.std.specs.Prelude.{◌≡◌, IfOk};
-ghost use Rattle.html_kept.specs.Table.{no_urls};
+ghost use Rattle.std.specs.Prelude.{◌≡◌, option_copied, IfOk};
+ghost use Rattle.url_rule.specs.Table.{rows_of};
+ghost use Rattle.html_urls.specs.Answers.{for_documents};
 ghost use Rattle.node_deeds.specs.Told.{as_deed};
 ghost use Rattle.node_deeds.specs.Deeds.{deed};
 
@@ -10,6 +11,8 @@ use crate::{changing, reading};
 use caja_units::{Memory, Units};
 use doc_tree::{Document, NodeId};
 use std::alloc::Global;
+use url::Url;
+use url_rule::{Asks, UriRule};
 
 /// A method of nodes, with what it takes of its arguments.
 #[derive(Debug, Drop)]
@@ -34,14 +37,16 @@ pub enum Asked {
     RemoveChild(NodeId),
 }
 
-/// Does what is asked of a node. URLs are dropped for now.
-pub fn perform(
+/// Does what is asked of a node. The rule says which URLs an attribute may be given, joined to the base where there is one, and what stands in their place.
+pub fn perform<F: Asks>(
     alloc: Global,
     document: &mut Document,
     n: NodeId,
     asked: Asked,
+    urls: &UriRule<F>,
+    base: Option<&Url>,
 ) -> Result<Done, Memory>
-    ensures { IfOk result (λ x. as_deed x document.new ≡ deed no_urls asked n document.old) }
+    ensures { IfOk result (λ x. as_deed x document.new ≡ deed (for_documents (rows_of urls.now.table.items) (option_copied base.entry)) asked n document.old) }
 {
     match asked {
         Asked::TagName => reading::get_tag_name(alloc, document, n),
@@ -50,7 +55,7 @@ pub fn perform(
         Asked::ElementById(id) => reading::get_element_by_id(alloc, document, n, &id),
         Asked::Attribute(name) => reading::get_attribute(alloc, document, n, &name),
         Asked::SetAttribute(name, value) => {
-            changing::set_attribute(alloc, document, n, &name, &value)
+            changing::set_attribute(alloc, document, n, &name, &value, urls, base)
         }
         Asked::Text => reading::get_text(alloc, document, n),
         Asked::SetText(text) => changing::set_text(alloc, document, n, text),
