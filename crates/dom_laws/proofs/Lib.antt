@@ -1,0 +1,4 @@
+pub mod Store
+pub mod Fits
+pub mod Turns
+pub mod Roots

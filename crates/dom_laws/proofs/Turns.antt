@@ -1,0 +1,297 @@
+-- A call of a method of a node keeps what holds between the store and what is lent.
+use Rattle.std.proofs.Common.{◌≡◌, ◌≢◌, ℕ, ◌<◌, Bool, true, false, List, [], ◌∷◌, ◌++◌, Option, Some, None, Result, Ok, Err, length, cond, refl, sym, ap, ◌∙◌, subst}
+use Rattle.std.specs.Prelude.{nat_lt, codes, option_map, is_some}
+use Rattle.std.proofs.Math.Dec.{eqb}
+use Rattle.std.proofs.lemmas.Bool.{eqb-true}
+use Rattle.plans.specs.Plans.{Fault}
+use Rattle.es3_objects.specs.declared.value.Value.{Value}
+use Rattle.es3_objects.specs.declared.value.Value.TheVariants as v
+use Rattle.es3_objects.specs.declared.value.Class.{Class}
+use Rattle.es3_objects.specs.declared.value.Class.TheVariants as class
+use Rattle.es3_objects.specs.declared.value.FuncKind.{FuncKind}
+use Rattle.es3_objects.specs.declared.value.FuncKind.TheVariants as kind
+use Rattle.es3_objects.specs.declared.value.Tag.{Tag}
+use Rattle.es3_objects.specs.declared.value.Tag.TheVariants as tag
+use Rattle.es3_objects.specs.declared.value.Proto.TheVariants as proto
+use Rattle.es3_objects.specs.Reading.{kind_of as kind_in}
+use Rattle.es3_heap.specs.Objects.{Object, Objects, object_at, class_of, callable_of, with_object}
+use Rattle.es3_heap.specs.Properties.{own}
+use Rattle.es3_heap.specs.Making.{array_object, error_object, named}
+use Rattle.es3_convert.specs.Conversions.{and_then, text_of}
+use Rattle.es3_language.specs.Natives.{value_reply}
+use Rattle.rows.specs.Rows.{most_items}
+use Rattle.heap_rows.specs.Marks.{simple_mark}
+use Rattle.heap_rows.specs.Doing.{makes, too_long}
+use Rattle.row_outcomes.specs.Comes.{throws}
+use Rattle.row_outcomes.specs.Arguments.{argument}
+use Rattle.row_outcomes.specs.Arrays.{new_array}
+use Rattle.html_kept.specs.Table.{Answers}
+use Rattle.doc_nodes.specs.Rows.{Doc, owner_of}
+use Rattle.doc_nodes.specs.Changes.{root_in}
+use Rattle.doc_laws.specs.Owned.{Owned, Grows}
+use Rattle.doc_laws.specs.Reached.{Reached}
+use Rattle.doc_laws.proofs.Lists.{apart}
+use Rattle.node_deeds.specs.declared.told.Change.{Change}
+use Rattle.node_deeds.specs.declared.deeds.Asked.{Asked}
+use Rattle.node_deeds.specs.declared.deeds.Asked.TheVariants as asked
+use Rattle.node_deeds.specs.Told.{Told, told_undefined, told_null, told_argument, told_text, told_node, told_nodes, told_error, message_of}
+use Rattle.node_deeds.specs.Deeds.{deed}
+use Rattle.deed_laws.specs.Deeds.{children_given, AreThere, AreOf, IsToldOf}
+use Rattle.deed_laws.proofs.Deeds.{deed_is_of_root, owner_there}
+use Rattle.dom_facets.specs.Facets as facets
+use Rattle.dom_facets.specs.Facets.{node_in_tag, node_of}
+use Rattle.dom_facets.proofs.Padded.{put_there, put_elsewhere}
+use Rattle.dom_handlers.specs.declared.kinds.EventKind.{EventKind}
+use Rattle.dom_handlers.specs.declared.kinds.Handler.{Handler}
+use Rattle.dom_handlers.specs.Handlers.{kind_of, listening, registered}
+use Rattle.dom_handlers.specs.Closures.{is_closure, object_may_listen, may_listen}
+use Rattle.tamed_dom.specs.declared.methods.NodeMethod.{NodeMethod}
+use Rattle.tamed_dom.specs.declared.methods.NodeMethod.TheVariants as m
+use Rattle.tamed_dom.specs.Lent.{Lent, told, with_facets, with_deed, with_handler, facet}
+use Rattle.tamed_dom.specs.Ends.{threw}
+use Rattle.tamed_dom.specs.Methods.{told_turn, with_text, given, asked_turn, listens, on_turn, is_on, method_turn, received, node_turn}
+use Rattle.dom_laws.specs.Store.{tag_at, is_code, runs_code, IsOfText, Keeps}
+use Rattle.dom_laws.specs.Fits.{AreOfTexts, Fits}
+use Rattle.dom_laws.proofs.Store.{keeps-same, keeps-then, keeps-new, keeps-named}
+use Rattle.dom_laws.proofs.Fits.{facet_keeps, others_keep}
+
+-- a new object that is no node, made by a module
+pub keeps-made : (h : Objects) (x : Object) (by : ℕ) → x.tag ≡ tag.None → (x.class ≡ class.Node → ⊥) → Keeps h (named (with_object h x) (length h.list) by)
+keeps-made h x by untagged no_node = keeps-then h (with_object h x) (named (with_object h x) (length h.list) by) (keeps-new h x untagged no_node) (keeps-named (with_object h x) (length h.list) by)
+
+pub keeps-thrown : (message : List ℕ) (by : ℕ) (h : Objects) → Keeps h (throws message by h).heap
+keeps-thrown message by h = keeps-made h (error_object proto.TypeError (codes "TypeError") message) by refl (λ e. cc)
+
+pub keeps-array : (by : ℕ) (h : Objects) (xs : List Value) → Keeps h (new_array by h xs).heap
+keeps-array by h xs = elim (nat_lt (length xs) most_items) as (λ b. Keeps h (cond b (makes value_reply by (array_object xs) h []) (too_long h [])).heap) [
+  | true ↦ keeps-made h (array_object xs) by refl (λ e. cc)
+  | false ↦ keeps-same h
+]
+
+-- the line is another
+line_fits : (h : Objects) (z : Lent) (c : Option Change) → Fits h z → Fits h (record { doc = z.doc; facets = z.facets; handlers = z.handlers; change = c })
+line_fits h z c f = record { doc = f.doc; kept = f.kept; named = f.named; nodes = f.nodes; handlers = f.handlers }
+
+-- the document is another, with all owners that there were
+pub deed_fits : (h : Objects) (z : Lent) (d : Doc) (c : Option Change) → Fits h z → Reached d → Grows z.doc d → Fits h (record { doc = d; facets = z.facets; handlers = z.handlers; change = c })
+deed_fits h z d c f a grows =
+    let on = λ (n r k : ℕ) (is : owner_of z.doc n ≡ Some (r, k)). grows.owners n (owner_there z.doc n r f.doc.owned (ap root_in is)) ∙ is in
+    record {
+      doc = a;
+      kept = λ n o is. let q = f.kept n o is in (q.0, q.1, on n q.0 q.1 q.2, q.3);
+      named = λ o r k is. let q = f.named o r k is in (q.0, on q.0 r k q.1, q.2);
+      nodes = f.nodes;
+      handlers = f.handlers;
+    }
+
+-- a node of a root has a number there
+pub rooted : (o : Option (ℕ × ℕ)) (r : ℕ) → root_in o ≡ Some r → (k : ℕ) × (o ≡ Some (r, k))
+rooted None r is = cc
+rooted (Some o) r is = let one : o.0 ≡ r = cc in (o.1, ap (λ x. Some (x, o.1)) one)
+
+pub facets_keep : (r : ℕ) (ns : List ℕ) (h : Objects) (z : Lent) → Fits h z → AreOf r z.doc ns → let f = facets.facets ns z.doc h z.facets in Fits f.heap (with_facets f.facets z)
+unfolding facets.facets
+facets_keep r [] h z f of = f
+facets_keep r (n ∷ ns) h z f of =
+    let own = rooted (owner_of z.doc n) r of.0 in
+    let g = facet n h z in
+    facets_keep r ns g.heap g.lent (facet_keeps n r own.0 h z f own.1) of.1
+
+threw_fits : (message : List ℕ) (by : ℕ) (h : Objects) (z : Lent) → Fits h z → Fits (threw message by h z).heap (threw message by h z).state
+threw_fits message by h z f = others_keep h (throws message by h).heap z f (keeps-thrown message by h)
+
+-- what is told, as a value
+told_fits : (r : ℕ) (q : Asked) (t : Told) (x : Value) (by : ℕ) (h : Objects) (z : Lent) → Fits h z → IsToldOf r q z.doc t → Fits (told_turn t x by h z).heap (told_turn t x by h z).state
+told_fits r q told_undefined x by h z f of = f
+told_fits r q told_null x by h z f of = f
+told_fits r q told_argument x by h z f of = f
+told_fits r q (told_text us) x by h z f of = f
+told_fits r q (told_node n) x by h z f of = let own = rooted (owner_of z.doc n) r of in facet_keeps n r own.0 h z f own.1
+told_fits r q (told_nodes ns) x by h z f of =
+    let g = facets.facets ns z.doc h z.facets in
+    others_keep g.heap (new_array by g.heap g.values).heap (with_facets g.facets z) (facets_keep r ns h z f of) (keeps-array by g.heap g.values)
+told_fits r q (told_error e) x by h z f of = threw_fits (message_of e) by h z f
+
+-- a value that stands for a node
+tag_owner : (d : Doc) (t : Tag) (n : ℕ) → Owned d → node_in_tag d t ≡ Some n → (r : ℕ) × (k : ℕ) × (owner_of d n ≡ Some (r, k)) × (t ≡ tag.Facet r k)
+tag_owner d (tag.Facet r k) n o is = (r, k, o.back n r k is, refl)
+tag_owner d t n o is = cc
+
+pub node_owner : (h : Objects) (d : Doc) (x : Value) (n : ℕ) → Owned d → node_of h d x ≡ Some n → (r : ℕ) × (k : ℕ) × (owner_of d n ≡ Some (r, k))
+node_owner h d (v.Obj o) n own is = let a = tag_owner d (tag_at h o) n own is in (a.0, a.1, a.2)
+node_owner h d v.Undefined n own is = cc
+node_owner h d v.Null n own is = cc
+node_owner h d (v.Bool b) n own is = cc
+node_owner h d (v.Num i) n own is = cc
+node_owner h d (v.Text us) n own is = cc
+
+-- the owner of the node that an object stands for is told by its name
+pub node_tag : (h : Objects) (d : Doc) (x : Value) (n o s k : ℕ) → Owned d → node_of h d x ≡ Some n → x ≡ v.Obj o → tag_at h o ≡ tag.Facet s k → owner_of d n ≡ Some (s, k)
+node_tag h d x n o s k own is at name =
+    let there : node_of h d (v.Obj o) ≡ Some n = ap (node_of h d) (sym at) ∙ is in
+    own.back n s k (ap (node_in_tag d) (sym name) ∙ there)
+
+-- a child that is given is a node of the document
+
+abbrev pub Gives : Result (Option Asked) Fault → Asked → Type 0
+Gives g q = ◌≡◌ {A = Result (Option Asked) Fault} g (Ok (Some q))
+
+of_same : (d : Doc) (p q : Asked) → Gives (Ok (Some p)) q → AreThere d (children_given p) → AreThere d (children_given q)
+of_same d p q is there = let same : p ≡ q = cc in subst (λ x. AreThere d (children_given x)) same there
+
+of_text : (d : Doc) (f : List ℕ → Asked) (t : Result (List ℕ) Fault) (q : Asked) → ((us : List ℕ) → AreThere d (children_given (f us))) → Gives (with_text f t) q → AreThere d (children_given q)
+of_text d f (Ok us) q there is = of_same d (f us) q is (there us)
+of_text d f (Err e) q there is = cc
+
+of_texts : (d : Doc) (t u : Result (List ℕ) Fault) (q : Asked) → Gives (and_then t (λ name. with_text (asked.SetAttribute name) u)) q → AreThere d (children_given q)
+of_texts d (Ok name) u q is = of_text d (asked.SetAttribute name) u q (λ us. tt) is
+of_texts d (Err e) u q is = cc
+
+of_node : (h : Objects) (d : Doc) (x : Value) (f : ℕ → Asked) (o : Option ℕ) (q : Asked) → Owned d → node_of h d x ≡ o → ((c : ℕ) → c < length d.rows → AreThere d (children_given (f c))) → Gives (Ok (option_map f o)) q → AreThere d (children_given q)
+of_node h d x f None q own at there is = cc
+of_node h d x f (Some c) q own at there is =
+    let a = node_owner h d x c own at in
+    of_same d (f c) q is (there c (owner_there d c a.0 own (ap root_in a.2)))
+
+pub given_there : (method : NodeMethod) (args : List Value) (h : Objects) (d : Doc) (q : Asked) → Owned d → Gives (given method args h d) q → AreThere d (children_given q)
+given_there m.GetTagName args h d q own is = of_same d asked.TagName q is tt
+given_there m.GetParentNode args h d q own is = of_same d asked.ParentNode q is tt
+given_there m.GetChildNodes args h d q own is = of_same d asked.ChildNodes q is tt
+given_there m.GetElementById args h d q own is = of_text d asked.ElementById (text_of h (argument 0 args)) q (λ us. tt) is
+given_there m.GetAttribute args h d q own is = of_text d asked.Attribute (text_of h (argument 0 args)) q (λ us. tt) is
+given_there m.SetAttribute args h d q own is = of_texts d (text_of h (argument 0 args)) (text_of h (argument 1 args)) q is
+given_there m.GetText args h d q own is = of_same d asked.Text q is tt
+given_there m.SetText args h d q own is = of_text d asked.SetText (text_of h (argument 0 args)) q (λ us. tt) is
+given_there m.CreateElement args h d q own is = of_text d asked.CreateElement (text_of h (argument 0 args)) q (λ us. tt) is
+given_there m.CreateTextNode args h d q own is = of_text d asked.CreateTextNode (text_of h (argument 0 args)) q (λ us. tt) is
+given_there m.AppendChild args h d q own is = of_node h d (argument 0 args) asked.AppendChild (node_of h d (argument 0 args)) q own refl (λ c less. (less, tt)) is
+given_there m.RemoveChild args h d q own is = of_node h d (argument 0 args) asked.RemoveChild (node_of h d (argument 0 args)) q own refl (λ c less. (less, tt)) is
+given_there m.On args h d q own is = cc
+
+-- a child is the node that the first argument stands for
+
+given_of : (p q : Asked) (c : ℕ) → Gives (Ok (Some p)) q → children_given q ≡ c ∷ [] → children_given p ≡ c ∷ []
+given_of p q c is child = let same : p ≡ q = cc (is) in ap children_given same ∙ child
+
+no_child : (p q : Asked) (c : ℕ) (A : Type 0) → children_given p ≡ [] → Gives (Ok (Some p)) q → children_given q ≡ c ∷ [] → A
+no_child p q c A none is child = let one = given_of p q c is child in cc (none, one)
+
+no_text_child : (f : List ℕ → Asked) (t : Result (List ℕ) Fault) (q : Asked) (c : ℕ) (A : Type 0) → ((us : List ℕ) → children_given (f us) ≡ []) → Gives (with_text f t) q → children_given q ≡ c ∷ [] → A
+no_text_child f (Ok us) q c A none is child = no_child (f us) q c A (none us) is child
+no_text_child f (Err e) q c A none is child = cc (is)
+
+no_texts_child : (t u : Result (List ℕ) Fault) (q : Asked) (c : ℕ) (A : Type 0) → Gives (and_then t (λ name. with_text (asked.SetAttribute name) u)) q → children_given q ≡ c ∷ [] → A
+no_texts_child (Ok name) u q c A is child = no_text_child (asked.SetAttribute name) u q c A (λ us. refl) is child
+no_texts_child (Err e) u q c A is child = cc (is)
+
+node_child : (f : ℕ → Asked) (o : Option ℕ) (q : Asked) (c : ℕ) → ((i : ℕ) → children_given (f i) ≡ i ∷ []) → Gives (Ok (option_map f o)) q → children_given q ≡ c ∷ [] → o ≡ Some c
+node_child f None q c of is child = cc (is)
+node_child f (Some i) q c of is child =
+    let both : i ∷ [] ≡ c ∷ [] = sym (of i) ∙ given_of (f i) q c is child in
+    let same : i ≡ c = cc (both) in
+    ap (λ j. Some j) same
+
+pub given_node : (method : NodeMethod) (args : List Value) (h : Objects) (d : Doc) (q : Asked) (c : ℕ) → Gives (given method args h d) q → children_given q ≡ c ∷ [] → node_of h d (argument 0 args) ≡ Some c
+given_node m.GetTagName args h d q c is child = no_child asked.TagName q c _ refl is child
+given_node m.GetParentNode args h d q c is child = no_child asked.ParentNode q c _ refl is child
+given_node m.GetChildNodes args h d q c is child = no_child asked.ChildNodes q c _ refl is child
+given_node m.GetElementById args h d q c is child = no_text_child asked.ElementById (text_of h (argument 0 args)) q c _ (λ us. refl) is child
+given_node m.GetAttribute args h d q c is child = no_text_child asked.Attribute (text_of h (argument 0 args)) q c _ (λ us. refl) is child
+given_node m.SetAttribute args h d q c is child = no_texts_child (text_of h (argument 0 args)) (text_of h (argument 1 args)) q c _ is child
+given_node m.GetText args h d q c is child = no_child asked.Text q c _ refl is child
+given_node m.SetText args h d q c is child = no_text_child asked.SetText (text_of h (argument 0 args)) q c _ (λ us. refl) is child
+given_node m.CreateElement args h d q c is child = no_text_child asked.CreateElement (text_of h (argument 0 args)) q c _ (λ us. refl) is child
+given_node m.CreateTextNode args h d q c is child = no_text_child asked.CreateTextNode (text_of h (argument 0 args)) q c _ (λ us. refl) is child
+given_node m.AppendChild args h d q c is child = node_child asked.AppendChild (node_of h d (argument 0 args)) q c (λ i. refl) is child
+given_node m.RemoveChild args h d q c is child = node_child asked.RemoveChild (node_of h d (argument 0 args)) q c (λ i. refl) is child
+given_node m.On args h d q c is child = cc (is)
+
+-- what is asked of a node
+asked_fits : (a : Answers) (g : Result (Option Asked) Fault) (n r : ℕ) (x : Value) (by : ℕ) (h : Objects) (z : Lent) → Fits h z → root_in (owner_of z.doc n) ≡ Some r → ((q : Asked) → Gives g q → AreThere z.doc (children_given q))
+    → Fits (asked_turn a g n x by h z).heap (asked_turn a g n x by h z).state
+asked_fits a (Ok (Some q)) n r x by h z f is there =
+    let e = deed a q n z.doc in
+    let of = deed_is_of_root a q n r z.doc f.doc is (there q refl) in
+    told_fits r q e.told x by h (with_deed e z) (deed_fits h z e.doc e.change f of.reached of.grows) of.told
+asked_fits a (Ok None) n r x by h z f is there = threw_fits (codes "bad argument") by h z f
+asked_fits a (Err e) n r x by h z f is there = f
+
+-- a function that may listen is one of a text
+code_of : (b : Bool) (k : Option FuncKind) → is_closure b k ≡ true → is_code k ≡ true
+code_of b (Some (kind.Code n)) is = refl
+code_of b (Some (kind.Simple n)) is = cc
+code_of b (Some (kind.Constructor n)) is = cc
+code_of b (Some (kind.Exophoric n w)) is = cc
+code_of b None is = cc
+
+object_of_text : (h : Objects) (o : ℕ) (c : Class) → object_may_listen c h o ≡ true → runs_code (object_at h o) ≡ true
+object_of_text h o class.Function is = code_of (is_some (own h o simple_mark)) (kind_in (callable_of (object_at h o))) is
+object_of_text h o class.Object is = cc
+object_of_text h o class.Array is = cc
+object_of_text h o class.Error is = cc
+object_of_text h o class.Node is = cc
+
+of_a_text : (h : Objects) (x : Value) → may_listen h x ≡ true → IsOfText h x
+of_a_text h (v.Obj o) is = object_of_text h o (class_of (object_at h o)) is
+of_a_text h v.Undefined is = cc
+of_a_text h v.Null is = cc
+of_a_text h (v.Bool b) is = cc
+of_a_text h (v.Num n) is = cc
+of_a_text h (v.Text us) is = cc
+
+texts-append : (h : Objects) (xs : List Handler) (x : Handler) → AreOfTexts h xs → IsOfText h x.function → AreOfTexts h (xs ++ x ∷ [])
+texts-append h [] x are is = (is, tt)
+texts-append h (y ∷ ys) x are is = (are.0, texts-append h ys x are.1 is)
+
+-- the handlers of a node, and of another one
+pub own_listening : (n : ℕ) (x : Handler) (hs : List (List Handler)) → listening n (registered n x hs) ≡ listening n hs ++ x ∷ []
+own_listening n x hs = put_there [] n (listening n hs ++ x ∷ []) hs
+
+pub other_listening : (n j : ℕ) (x : Handler) (hs : List (List Handler)) → j ≢ n → listening j (registered n x hs) ≡ listening j hs
+other_listening n j x hs ne = put_elsewhere [] n j (listening n hs ++ x ∷ []) hs ne
+
+handler_fits : (k : EventKind) (x : Value) (n : ℕ) (h : Objects) (z : Lent) → Fits h z → IsOfText h x → Fits h (with_handler k x n z)
+handler_fits k x n h z f is =
+    let new : Handler = record { kind = k; function = x } in
+    record {
+      doc = f.doc;
+      kept = f.kept;
+      named = f.named;
+      nodes = f.nodes;
+      handlers = λ j.
+          let cases = elim (eqb j n) as (λ b. eqb j n ≡ b → AreOfTexts h (listening j (registered n new z.handlers))) [
+            | true ↦ λ yes.
+                let same : j ≡ n = eqb-true j n yes in
+                subst (AreOfTexts h) (sym (ap (λ i. listening i (registered n new z.handlers)) same ∙ own_listening n new z.handlers)) (texts-append h (listening n z.handlers) new (f.handlers n) is)
+            | false ↦ λ other. subst (AreOfTexts h) (sym (other_listening n j new z.handlers (apart j n other))) (f.handlers j)
+          ] in cases refl;
+    }
+
+listens_fits : (o : Option EventKind) (b : Bool) (x : Value) (n by : ℕ) (h : Objects) (z : Lent) → Fits h z → may_listen h x ≡ b → Fits (listens o b x n by h z).heap (listens o b x n by h z).state
+listens_fits (Some k) true x n by h z f is = handler_fits k x n h z f (of_a_text h x is)
+listens_fits (Some k) false x n by h z f is = threw_fits (codes "bad argument") by h z f
+listens_fits None true x n by h z f is = threw_fits (codes "bad argument") by h z f
+listens_fits None false x n by h z f is = threw_fits (codes "bad argument") by h z f
+
+on_fits : (t : Result (List ℕ) Fault) (x : Value) (n by : ℕ) (h : Objects) (z : Lent) → Fits h z → Fits (on_turn t x n by h z).heap (on_turn t x n by h z).state
+on_fits (Ok us) x n by h z f = listens_fits (kind_of us) (may_listen h x) x n by h z f refl
+on_fits (Err e) x n by h z f = f
+
+at_node : (a : Answers) (method : NodeMethod) (n r : ℕ) (args : List Value) (by : ℕ) (h : Objects) (z : Lent) → Fits h z → root_in (owner_of z.doc n) ≡ Some r
+    → Fits (method_turn a method n args by h z).heap (method_turn a method n args by h z).state
+at_node a method n r args by h z f is =
+    let on = on_turn (text_of h (argument 0 args)) (argument 1 args) n by h z in
+    let other = asked_turn a (given method args h z.doc) n (argument 0 args) by h z in
+    elim (is_on method) as (λ b. Fits (cond b on other).heap (cond b on other).state) [
+      | true ↦ on_fits (text_of h (argument 0 args)) (argument 1 args) n by h z f
+      | false ↦ asked_fits a (given method args h z.doc) n r (argument 0 args) by h z f is (λ q g. given_there method args h z.doc q f.doc.owned g)
+    ]
+
+pub method_keeps : (a : Answers) (method : NodeMethod) (by : ℕ) (this : Value) (args : List Value) (h : Objects) (z : Lent) → Fits h z → Fits (node_turn a method by this args h z).heap (node_turn a method by this args h z).state
+method_keeps a method by this args h z f = at (node_of h z.doc this) refl
+  where
+    at : (o : Option ℕ) → node_of h z.doc this ≡ o → Fits (received a method o args by h (told z)).heap (received a method o args by h (told z)).state
+    at None is = threw_fits (codes "bad receiver") by h (told z) (line_fits h z None f)
+    at (Some n) is =
+        let own = node_owner h z.doc this n f.doc.owned is in
+        at_node a method n own.0 args by h (told z) (line_fits h z None f) (ap root_in own.2)
