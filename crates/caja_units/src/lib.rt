@@ -6,7 +6,7 @@ ghost use Rattle.std.specs.List.{slice_range};
 ghost use Rattle.caja_units.specs.Units.{IsText, same_units, comes_before, first_place, is_hidden};
 ghost use Rattle.caja_units.specs.Utf8.{decoded, Decodes, utf8_of};
 ghost use Rattle.caja_units.specs.Literal.{literal};
-ghost use Rattle.caja_units.specs.Index.{array_index};
+ghost use Rattle.caja_units.specs.Index.{array_index, number_units};
 
 mod compare;
 mod decode;
@@ -129,6 +129,23 @@ impl Units {
         Ok(Units::new(Text::of(alloc, units)?))
     }
 
+    /// The text of a number (ES3 9.8.1), which is kept with it.
+    pub fn of_index(alloc: Global, n: u32) -> Result<Units, Memory>
+        ensures { IfOk result (λ text. text ≡ number_units n) }
+    {
+        Ok(Units::new(Text::of_index(alloc, n)?))
+    }
+
+    /// The same text, and where it is short, its number is kept from now on, in this one and all that share it: a table finds
+    /// it then without a look at its units, and two such texts of different numbers are told apart by these.
+    pub fn keyed(&self, alloc: Global) -> Result<Units, Memory>
+        ensures { IfOk result (λ text. text ≡ self.now) }
+    {
+        Ok(Units {
+            text: self.text.keyed(alloc)?,
+        })
+    }
+
     /// The text of these units.
     fn new(text: Text) -> Units
         requires { IsText text }
@@ -189,6 +206,9 @@ impl Units {
         ensures is { result ≡ same_units self.now o.now }
         ensures equal { IsTrue result ↔ (self.now ≡ o.now) }
     {
+        if self.text.is_known_to_differ(&o.text) {
+            return false;
+        }
         match (self.text.flat(), o.text.flat()) {
             (Some(units), Some(others)) => units == others,
             _ => compare::are_same(&self.text, &o.text),
@@ -254,7 +274,10 @@ impl Units {
     pub fn canonical_index(&self) -> Option<u32>
         ensures { result ≡ array_index self.now }
     {
-        search::array_index(self.text.flat()?)
+        match self.text.index() {
+            Some(index) => below_max(index),
+            None => search::array_index(self.text.flat()?),
+        }
     }
 
     /// Whether the text ends in two underscores, as the names do that no script may name.
@@ -266,4 +289,11 @@ impl Units {
             None => compare::ends_hidden(&self.text),
         }
     }
+}
+
+/// An index, unless it is the one number that is none (ES3 15.4).
+fn below_max(index: u32) -> Option<u32>
+    ensures { result ≡ array_index (number_units index) }
+{
+    if index == u32::MAX { None } else { Some(index) }
 }

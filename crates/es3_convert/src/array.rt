@@ -24,8 +24,7 @@ pub fn own_value(alloc: Global, h: &Heap, o: ObjId, k: &Units) -> Result<Value, 
 pub fn array_len(alloc: Global, h: &Heap, o: ObjId) -> Result<u64, Memory>
     ensures { IfOk result (λ n. n ≡ length_of (value_of (own h.now o length_key))) }
 {
-    let key = Units::from_ascii(alloc, b"length")?;
-    match own_value(alloc, h, o, &key)? {
+    match own_value(alloc, h, o, h.length_key())? {
         Value::Num(n) => Ok(n.get().unsigned_abs()),
         _other => Ok(0),
     }

@@ -29,6 +29,9 @@ pub fn number_text(alloc: Global, n: Whole) -> Result<Units, Memory>
     ensures { IfOk result (λ text. text ≡ number_text n) }
 {
     let number = n.get();
+    if let Ok(index) = u32::try_from(number) {
+        return Units::of_index(alloc, index);
+    }
     let text = format!(in alloc; "{number}")?;
     Units::from_ascii(alloc, text.as_bytes())
 }
@@ -37,6 +40,9 @@ pub fn number_text(alloc: Global, n: Whole) -> Result<Units, Memory>
 pub fn index_key(alloc: Global, index: u64) -> Result<Units, Memory>
     ensures { IfOk result (λ text. text ≡ number_units index) }
 {
+    if let Ok(index) = u32::try_from(index) {
+        return Units::of_index(alloc, index);
+    }
     let text = format!(in alloc; "{index}")?;
     Units::from_ascii(alloc, text.as_bytes())
 }

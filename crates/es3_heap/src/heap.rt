@@ -1,6 +1,6 @@
 //! The store: all objects of a run, each named by its number (ES3 8.6).
 
-ghost use Rattle.std.specs.Prelude.{◌≡◌, ◌<◌, ◌≤◌, IfOk, OnOk, OnErr, ◌++◌, option_map, is_some, length, slice_get, slice_set};
+ghost use Rattle.std.specs.Prelude.{◌≡◌, ◌<◌, ◌≤◌, IfOk, OnOk, OnErr, ◌++◌, option_map, is_some, length, slice_get, slice_set, codes};
 ghost use Rattle.std.specs.Option.{option_copied};
 ghost use Rattle.es3_heap.specs.Objects.{object_at, props_of, proto_of, callable_of, tag_of, class_of, with_object};
 ghost use Rattle.es3_heap.specs.Properties.{own, lookup, get, can_put, put, define, can_delete, delete, with_props, lengthened, written};
@@ -13,7 +13,6 @@ ghost use Rattle.caja_units.specs.Index.{number_units};
 
 use caja_units::{Memory, Units};
 use es3_objects::{Attrs, Callable, Class, FuncKind, Held, Name, ObjId, Object, Proto, Tag, Value};
-use property_tables::index_key;
 use std::alloc::Global;
 use std::marker::Model;
 
@@ -68,7 +67,7 @@ impl Heap {
     {
         Ok(Heap {
             alloc,
-            length_key: Units::from_ascii(alloc, b"length")?,
+            length_key: Units::from_ascii(alloc, b"length")?.keyed(alloc)?,
             undefined: Value::Undefined,
             objects: first_objects(alloc)?,
             counts: vec![in alloc; 0; MODULES]?,
@@ -81,6 +80,13 @@ impl Heap {
         ensures bound { result ≤ 4294967294 }
     {
         self.objects.len()
+    }
+
+    /// The name `length`.
+    pub fn length_key(&self) -> &Units
+        ensures { result.now ≡ codes "length" }
+    {
+        &self.length_key
     }
 
     /// A prototype that the store began with.
@@ -275,7 +281,7 @@ impl Heap {
         ensures { IfOk result (λ r. own self.now o (number_units i) ≡ option_map (λ f. property (number_units i) f.value f.attrs) (option_copied r)) }
     {
         if i == u32::MAX {
-            let key = index_key(self.alloc, i)?;
+            let key = Units::of_index(self.alloc, i)?;
             return Ok(self.find(o, &key));
         }
         match self.object(o) {
@@ -330,7 +336,7 @@ impl Heap {
         ensures live { length self.new.list ≡ length self.old.list }
     {
         if i == u32::MAX {
-            let key = index_key(self.alloc, i)?;
+            let key = Units::of_index(self.alloc, i)?;
             return self.put(o, &key, v);
         }
         if !self.can_put_at(o, i)? {
@@ -373,7 +379,7 @@ impl Heap {
         ensures live { length self.new.list ≡ length self.old.list }
     {
         if i == u32::MAX {
-            let key = index_key(self.alloc, i)?;
+            let key = Units::of_index(self.alloc, i)?;
             return Ok(self.delete(o, &key));
         }
         let at = o.number() as usize;

@@ -23,7 +23,7 @@ pub(crate) fn shared<T: Drop>(alloc: Global, value: T) -> Result<Rc<T>, Memory>
 pub(crate) fn load_name(alloc: Global, name: &Name) -> Result<Rc<Units>, Memory>
     ensures { IfOk result (λ r. r.value ≡ name.now.text) }
 {
-    shared(alloc, name.text.copy(alloc)?)
+    shared(alloc, name.text.keyed(alloc)?)
 }
 
 /// A name that may be absent.
@@ -60,7 +60,7 @@ pub(crate) fn load_leaf(alloc: Global, e: &Expr) -> Result<Rc<ExprCode>, Memory>
         Expr::Null => shared(alloc, ExprCode::Null),
         Expr::Bool(value) => shared(alloc, ExprCode::Bool(*value)),
         Expr::Num(n) => shared(alloc, ExprCode::Num(*n)),
-        Expr::Text(text) => shared(alloc, ExprCode::Text(text.copy(alloc)?)),
+        Expr::Text(text) => shared(alloc, ExprCode::Text(text.keyed(alloc)?)),
         Expr::Name(x) => {
             let name = load_name(alloc, x)?;
             shared(alloc, ExprCode::Name(name))

@@ -19,7 +19,7 @@ ghost use Rattle.es3_objects.specs.Held.{attrs_found, attrs_held, taken, listed,
 use crate::value::{Attrs, Value};
 use caja_num::Whole;
 use caja_units::{Memory, Units};
-use property_tables::{Field, IndexedProps, TableProps, index_key};
+use property_tables::{Field, IndexedProps, TableProps};
 use std::alloc::Global;
 use std::marker::Model;
 
@@ -413,7 +413,7 @@ fn push_slot(
     let Some(held) = slot else {
         return Ok(());
     };
-    let key = index_key(alloc, i)?;
+    let key = Units::of_index(alloc, i)?;
     let attrs = held.attrs;
     names.push(Name { key, attrs })?;
     Ok(())

@@ -43,8 +43,7 @@ pub fn get_member(alloc: Global, base: &Value, key: &Units, h: &Heap) -> Result<
 fn text_member(alloc: Global, text: &Units, key: &Units, h: &Heap) -> Result<Value, Memory>
     ensures { IfOk result (λ v. v ≡ r.get_member h.now (Value.Text text.now) key.now) }
 {
-    let length = Units::from_ascii(alloc, b"length")?;
-    if key.same(&length) {
+    if key.same(h.length_key()) {
         return Ok(Value::Num(whole(text.len())));
     }
     h.get(h.proto(Proto::String), key).copy(alloc)

@@ -2,3 +2,4 @@ pub mod Entries
 pub mod Present
 pub mod Slots
 pub mod Running
+mod Numbers

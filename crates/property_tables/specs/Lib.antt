@@ -1,3 +1,4 @@
 pub mod Fields
 pub mod Indexed
 pub mod Running
+pub mod Numbers

@@ -36,14 +36,6 @@ impl<P> Model for IndexedProps<P> {
     ghost invariant = { λ t. IsIndexed t.slots.items t.others t.mixed };
 }
 
-/// The text of an index (ES3 9.8.1).
-pub fn index_key(alloc: Global, i: u32) -> Result<Units, Memory>
-    ensures { IfOk result (λ text. text ≡ number_units i) }
-{
-    let text = format!(in alloc; "{i}")?;
-    Units::from_ascii(alloc, text.as_bytes())
-}
-
 impl<P: Copied> IndexedProps<P> {
     /// No property.
     pub fn new(alloc: Global) -> IndexedProps<P>
@@ -161,7 +153,7 @@ impl<P: Copied> IndexedProps<P> {
         if i < u32::MAX && !self.mixed {
             return Ok(None);
         }
-        let key = index_key(self.alloc, i)?;
+        let key = Units::of_index(self.alloc, i)?;
         Ok(self.get(&key))
     }
 
@@ -189,7 +181,7 @@ impl<P: Copied> IndexedProps<P> {
             self.mixed = false;
             return Ok(());
         }
-        let key = index_key(self.alloc, i)?;
+        let key = Units::of_index(self.alloc, i)?;
         self.insert(&key, p)
     }
 
@@ -206,7 +198,7 @@ impl<P: Copied> IndexedProps<P> {
         if i < u32::MAX && !self.mixed {
             return Ok(false);
         }
-        let key = index_key(self.alloc, i)?;
+        let key = Units::of_index(self.alloc, i)?;
         Ok(self.remove(&key))
     }
 
@@ -266,7 +258,7 @@ fn add_slot<P: Copied>(
     let Some(p) = slot else {
         return Ok(());
     };
-    let key = index_key(alloc, i)?;
+    let key = Units::of_index(alloc, i)?;
     let held = p.copied(alloc)?;
     all.insert(&key, held)
 }

@@ -4,13 +4,14 @@
 
 mod field;
 mod indexed;
+mod key_numbers;
 mod list;
 mod props;
 mod run;
 mod table;
 
 pub use field::{Copied, Field};
-pub use indexed::{IndexedProps, index_key};
+pub use indexed::IndexedProps;
 pub use list::ListProps;
 pub use props::{Keys, Props};
 pub use run::{PropCall, PropReply, props_run};

@@ -4,36 +4,21 @@ ghost use Rattle.std.specs.Prelude.{◌≡◌, ◌↔◌, ℕ, ◌++◌, [], Lis
 ghost use Rattle.std.specs.List.{IsDistinct};
 ghost use Rattle.std.specs.Option.{option_copied, option_map};
 ghost use Rattle.std.specs.Map.{lookup, remove_entry, set_value, keys_of};
-ghost use Rattle.std.specs.Hash.DefaultHasher as sip;
 ghost use Rattle.indexmap.specs.IndexMap.{insert_entry};
 ghost use Rattle.caja_units.specs.Units.{same_units};
 ghost use Rattle.property_tables.specs.Indexed.{is_index_from};
 
+use crate::key_numbers::KeyNumbers;
 use caja_units::{Memory, Units};
 use indexmap::IndexMap;
 use std::alloc::Global;
-use std::hash::{BuildHasher, DefaultHasher};
 use std::marker::Model;
-
-/// How keys are hashed: by SipHash with a seed that never changes, since the store is given no source of chance.
-#[derive(Debug, Clone, Copy)]
-struct KeyHashes;
-
-impl BuildHasher for KeyHashes {
-    type Hasher = DefaultHasher;
-
-    ghost build_hasher = { λ _. sip.initial };
-
-    fn build_hasher(&self) -> DefaultHasher {
-        DefaultHasher::new()
-    }
-}
 
 /// Properties as a table: each key with what stands there. A key is found by its hash; a removal moves the properties behind it.
 #[derive(Debug, Drop)]
 pub struct TableProps<P> {
     alloc: Global,
-    entries: IndexMap<Units, P, KeyHashes>,
+    entries: IndexMap<Units, P, KeyNumbers>,
 }
 
 impl<P> Model for TableProps<P> {
@@ -65,7 +50,7 @@ impl<P: Drop> TableProps<P> {
     {
         TableProps {
             alloc,
-            entries: IndexMap::with_hasher(alloc, KeyHashes),
+            entries: IndexMap::with_hasher(alloc, KeyNumbers),
         }
     }
 

@@ -1,1 +1,2 @@
 pub mod Concat
+mod Feeding

@@ -2,13 +2,19 @@
 //! long text is not.
 #![tactic(auto)]
 
-ghost use Rattle.std.specs.Prelude.{◌≡◌, ◌+◌, ◌<◌, ◌≤◌, ◌^◌, ◌⊎◌, ◌++◌, length, slice_get, vec_len, IsTrue, IfOk, IfSome, IfNone, OnOk, All};
+ghost use Rattle.std.specs.Prelude.{◌≡◌, ◌≢◌, ◌+◌, ◌<◌, ◌≤◌, ◌^◌, ◌⊎◌, ◌++◌, length, slice_get, vec_len, IsTrue, IfOk, IfSome, IfNone, OnOk, All};
+ghost use Rattle.std.specs.Fmt.{decimal};
 ghost use Rattle.std.specs.List.{slice_range};
 ghost use Rattle.text_storage.specs.Kept.{kept_units};
+ghost use Rattle.text_storage.specs.Number.{number_of};
 
+mod known;
+mod number;
 mod pieces;
 mod short;
 
+use known::{Index, Key};
+use number::{number_of_pieces, number_of_units};
 use pieces::Pieces;
 use short::{MOST_SHORT, Short};
 use std::alloc::{AllocError, Global};
@@ -21,8 +27,12 @@ const MOST_COPIED: usize = 256;
 /// Where the units are.
 #[derive(Debug, Drop)]
 enum Kept {
-    /// In place: at most 44.
+    /// In place: at most 40.
     Short(Short),
+    /// In place, with the number of the text.
+    Key(Key),
+    /// In place: the decimal digits of a number that is kept too.
+    Index(Index),
     /// In one list.
     Flat(Vec<u16>),
     /// In pieces.
@@ -94,9 +104,75 @@ impl Text {
         Text::of_list(alloc, units)
     }
 
+    /// The decimal digits of a number, which is kept with them.
+    pub fn of_index(alloc: Global, index: u32) -> Result<Text, AllocError>
+        ensures { IfOk result (λ text. text ≡ decimal index) }
+    {
+        Ok(Text {
+            kept: Rc::new(alloc, Kept::Index(Index::new(index)))?,
+        })
+    }
+
+    /// The same text, and where it is short, its number is kept from now on, in this one and all that share it.
+    pub fn keyed(&self, alloc: Global) -> Result<Text, AllocError>
+        ensures { IfOk result (λ text. text ≡ self.now) }
+    {
+        match self.flat() {
+            Some(units) if units.len() <= MOST_SHORT => Text::key(alloc, units),
+            _ => self.share(),
+        }
+    }
+
+    /// A short text that is kept with its number.
+    fn key(alloc: Global, units: &[u16]) -> Result<Text, AllocError>
+        requires { length units.now ≤ 40 }
+        ensures { IfOk result (λ text. text ≡ units.now) }
+    {
+        let mut short = Short::new();
+        short.push_units(units);
+        let key = Key::new(short, number_of_units(units));
+        Ok(Text {
+            kept: Rc::new(alloc, Kept::Key(key))?,
+        })
+    }
+
+    /// The number that is kept with the text: the one whose decimal digits it is.
+    pub fn index(&self) -> Option<u32>
+        ensures { IfSome result (λ index. self.now ≡ decimal index) }
+    {
+        match &*self.kept {
+            Kept::Index(index) => Some(index.index()),
+            _ => None,
+        }
+    }
+
+    /// Its number, which equal texts have in common. It is at hand where it is kept, and else made of the units.
+    pub fn number(&self) -> u64
+        requires { length self.now < 2 ^ 32 }
+        ensures { result ≡ number_of self.now }
+    {
+        if let Kept::Key(key) = &*self.kept {
+            return key.number();
+        }
+        match self.flat() {
+            Some(units) => number_of_units(units),
+            None => number_of_pieces(self),
+        }
+    }
+
+    /// Whether the texts are known to be different without a look at their units.
+    pub fn is_known_to_differ(&self, other: &Text) -> bool
+        ensures { IsTrue result → self.now ≢ other.now }
+    {
+        match (&*self.kept, &*other.kept) {
+            (Kept::Key(key), Kept::Key(other)) => key.number() != other.number(),
+            _ => false,
+        }
+    }
+
     /// The short text of the first units, and behind them the second. They are written where they stay.
     fn short(alloc: Global, first: &[u16], second: &[u16]) -> Result<Text, AllocError>
-        requires { length first.now + length second.now ≤ 44 }
+        requires { length first.now + length second.now ≤ 40 }
         ensures { IfOk result (λ text. text ≡ first.now ++ second.now) }
     {
         let mut kept = Rc::new(alloc, Kept::Short(Short::new()))?;
@@ -122,18 +198,22 @@ impl Text {
     {
         match &*self.kept {
             Kept::Short(short) => short.units().len(),
+            Kept::Key(key) => key.units().len(),
+            Kept::Index(index) => index.units().len(),
             Kept::Flat(units) => units.len(),
             Kept::Joined(pieces) => pieces.len(),
         }
     }
 
-    /// The units, where they stand in one list. Where they don't, there are more than 44.
+    /// The units, where they stand in one list. Where they don't, there are more than 40.
     pub fn flat(&self) -> Option<&[u16]>
         ensures flat { IfSome result (λ units. units.now ≡ self.now) }
-        ensures long { IfNone result (44 < length self.now) }
+        ensures long { IfNone result (40 < length self.now) }
     {
         match &*self.kept {
             Kept::Short(short) => Some(short.units()),
+            Kept::Key(key) => Some(key.units()),
+            Kept::Index(index) => Some(index.units()),
             Kept::Flat(units) => Some(units),
             Kept::Joined(pieces) => pieces.flat(),
         }
@@ -145,6 +225,8 @@ impl Text {
     {
         match &*self.kept {
             Kept::Short(short) => short.units().get(i).copied(),
+            Kept::Key(key) => key.units().get(i).copied(),
+            Kept::Index(index) => index.units().get(i).copied(),
             Kept::Flat(units) => units.get(i).copied(),
             Kept::Joined(pieces) => pieces.at(i),
         }
@@ -170,9 +252,8 @@ impl Text {
         ensures { IfOk result (λ text. text ≡ slice_range self.now from to) }
     {
         match &*self.kept {
-            Kept::Short(short) => Text::of(alloc, &short.units()[from..to]),
-            Kept::Flat(units) => Text::of(alloc, &units[from..to]),
             Kept::Joined(pieces) => Text::of_list(alloc, pieces.part(alloc, from, to)?),
+            _ => Text::of(alloc, &self.all(alloc)?[from..to]),
         }
     }
 
@@ -182,6 +263,8 @@ impl Text {
     {
         match &*self.kept {
             Kept::Short(short) => units.extend_from_slice(short.units()),
+            Kept::Key(key) => units.extend_from_slice(key.units()),
+            Kept::Index(index) => units.extend_from_slice(index.units()),
             Kept::Flat(own) => units.extend_from_slice(own),
             Kept::Joined(pieces) => pieces.push_to(units),
         }
@@ -230,7 +313,7 @@ impl Text {
     /// The longer text with this one behind it.
     #[inline(never)]
     fn behind_longer(&self, alloc: Global, longer: &Text) -> Result<Text, AllocError>
-        requires long { 44 < length longer.now }
+        requires long { 40 < length longer.now }
         requires fits { length longer.now + length self.now < 2 ^ 32 }
         ensures { IfOk result (λ text. text ≡ longer.now ++ self.now) }
     {
@@ -244,7 +327,7 @@ impl Text {
     /// The longer text with this one before it.
     #[inline(never)]
     fn before_longer(&self, alloc: Global, longer: &Text) -> Result<Text, AllocError>
-        requires long { 44 < length longer.now }
+        requires long { 40 < length longer.now }
         requires fits { length self.now + length longer.now < 2 ^ 32 }
         ensures { IfOk result (λ text. text ≡ self.now ++ longer.now) }
     {
@@ -266,7 +349,7 @@ impl Text {
 
     /// This text in pieces, with the units behind it.
     fn appended_pieces(&self, alloc: Global, units: &[u16]) -> Result<Pieces, AllocError>
-        requires long { 44 < length self.now }
+        requires long { 40 < length self.now }
         requires fits { length self.now + length units.now < 2 ^ 32 }
         ensures { IfOk result (λ pieces. pieces ≡ self.now ++ units.now) }
     {
@@ -278,7 +361,7 @@ impl Text {
 
     /// This text in pieces, with the units before it.
     fn prepended_pieces(&self, alloc: Global, units: &[u16]) -> Result<Pieces, AllocError>
-        requires long { 44 < length self.now }
+        requires long { 40 < length self.now }
         requires fits { length units.now + length self.now < 2 ^ 32 }
         ensures { IfOk result (λ pieces. pieces ≡ units.now ++ self.now) }
     {
@@ -301,7 +384,7 @@ fn is_copied(first: usize, second: usize) -> bool
 impl Kept {
     /// Puts units behind a short text, and answers whether it is one.
     fn has_pushed(&mut self, units: &[u16]) -> bool
-        requires { length (kept_units self.old) + length units.now ≤ 44 }
+        requires { length (kept_units self.old) + length units.now ≤ 40 }
         ensures { IsTrue result → kept_units self.new ≡ kept_units self.old ++ units.now }
     {
         match self {
@@ -315,7 +398,7 @@ impl Kept {
 
     /// Puts the numbers of the bytes behind a short text, and answers whether it is one.
     fn has_pushed_ascii(&mut self, bytes: &[u8]) -> bool
-        requires { length (kept_units self.old) + length bytes.now ≤ 44 }
+        requires { length (kept_units self.old) + length bytes.now ≤ 40 }
         ensures { IsTrue result → kept_units self.new ≡ kept_units self.old ++ bytes.now }
     {
         match self {
@@ -330,7 +413,7 @@ impl Kept {
 
 /// Puts the first units and then the second behind a short text that has one owner, and answers whether it is one.
 fn has_written(kept: &mut Rc<Kept>, first: &[u16], second: &[u16]) -> bool
-    requires { length (kept_units kept.old.value) + length first.now + length second.now ≤ 44 }
+    requires { length (kept_units kept.old.value) + length first.now + length second.now ≤ 40 }
     ensures { IsTrue result → kept_units kept.new.value ≡ kept_units kept.old.value ++ first.now ++ second.now }
 {
     match Rc::get_mut(kept) {
@@ -341,7 +424,7 @@ fn has_written(kept: &mut Rc<Kept>, first: &[u16], second: &[u16]) -> bool
 
 /// Puts the numbers of the bytes behind a short text that has one owner, and answers whether it is one.
 fn has_written_ascii(kept: &mut Rc<Kept>, bytes: &[u8]) -> bool
-    requires { length (kept_units kept.old.value) + length bytes.now ≤ 44 }
+    requires { length (kept_units kept.old.value) + length bytes.now ≤ 40 }
     ensures { IsTrue result → kept_units kept.new.value ≡ kept_units kept.old.value ++ bytes.now }
 {
     match Rc::get_mut(kept) {

@@ -67,7 +67,7 @@ impl Model for Pieces {
 
     ghost view = { λ pieces. concat pieces.list.items };
 
-    ghost invariant = { λ pieces. (pieces.len ≡ length (concat pieces.list.items)) × (44 < pieces.len) };
+    ghost invariant = { λ pieces. (pieces.len ≡ length (concat pieces.list.items)) × (40 < pieces.len) };
 }
 
 impl Pieces {
@@ -97,7 +97,7 @@ impl Pieces {
     /// The units, where there is only one piece.
     pub fn flat(&self) -> Option<&[u16]>
         ensures flat { IfSome result (λ units. units.now ≡ self.now) }
-        ensures long { IfNone result (44 < length self.now) }
+        ensures long { IfNone result (40 < length self.now) }
     {
         match self.list.as_slice() {
             [piece] => Some(piece.units()),
@@ -114,7 +114,7 @@ impl Pieces {
 
     /// A long text in one piece.
     pub fn of(alloc: Global, units: Vec<u16>) -> Result<Pieces, AllocError>
-        requires { 44 < vec_len units }
+        requires { 40 < vec_len units }
         ensures { IfOk result (λ pieces. pieces ≡ units.items) }
     {
         let len = units.len();

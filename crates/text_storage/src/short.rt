@@ -5,9 +5,9 @@ ghost use Rattle.std.specs.Prelude.{◌≡◌, ◌+◌, ◌≤◌, [], ◌++◌,
 use std::marker::Model;
 
 /// The most units that are kept in place.
-pub const MOST_SHORT: usize = 44;
+pub const MOST_SHORT: usize = 40;
 
-/// A text of at most 44 units.
+/// A text of at most 40 units.
 #[derive(Debug, Drop)]
 pub struct Short {
     len: usize,
@@ -21,7 +21,7 @@ impl Model for Short {
 
     ghost view = { λ short. take short.len short.units };
 
-    ghost invariant = { λ short. short.len ≤ 44 };
+    ghost invariant = { λ short. short.len ≤ 40 };
 }
 
 impl Short {
@@ -44,7 +44,7 @@ impl Short {
 
     /// Puts the units behind it.
     pub fn push_units(&mut self, units: &[u16])
-        requires { length self.old + length units.now ≤ 44 }
+        requires { length self.old + length units.now ≤ 40 }
         ensures { self.new ≡ self.old ++ units.now }
     {
         let end = self.len + units.len();
@@ -54,7 +54,7 @@ impl Short {
 
     /// Puts the numbers of the bytes behind it.
     pub fn push_ascii(&mut self, bytes: &[u8])
-        requires { length self.old + length bytes.now ≤ 44 }
+        requires { length self.old + length bytes.now ≤ 40 }
         ensures { self.new ≡ self.old ++ bytes.now }
     {
         let start = self.len;
