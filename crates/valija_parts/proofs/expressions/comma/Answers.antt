@@ -1,0 +1,9 @@
+use Rattle.es3_tree.specs.Placed as placed
+use Rattle.valija_parts.specs.Held as held
+use Rattle.valija_parts.proofs.Made.{made_both}
+use Rattle.valija_parts.proofs.expressions.comma.Goals as goal
+
+pub returns : goal.returns
+returns c x y n m k g i =
+    made_both held.expr held.expr held.expr placed.comma c.args.left c.args.right x y n m k c.joined.result (c.in_ok-left.left, c.in_ok-left.right) c.in_ok-then.field-0 g i c.joined.ensures c.in_ok-left.was
+    (c.in_ok-then.ensures)

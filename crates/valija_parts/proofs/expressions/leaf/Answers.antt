@@ -1,0 +1,8 @@
+use Rattle.std.proofs.Common.{ap}
+use Rattle.es3_tree.specs.PlacedView as source
+use Rattle.valija_parts.specs.Held as held
+use Rattle.valija_parts.proofs.Made.{made_plain}
+use Rattle.valija_parts.proofs.expressions.leaf.Goals as goal
+
+pub returns : goal.returns
+returns c n = made_plain held.expr (source.expr c.args.e) n c.in_ok-boxed.field-0 (ap source.expr c.in_ok-boxed.ensures)

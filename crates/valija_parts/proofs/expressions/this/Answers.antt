@@ -1,0 +1,8 @@
+use Rattle.cajita_names.specs.Views.{scope_of}
+use Rattle.valija_parts.specs.Held as held
+use Rattle.valija_parts.specs.Names as names_of
+use Rattle.valija_parts.proofs.Made.{made_plain}
+use Rattle.valija_parts.proofs.expressions.this.Goals as goal
+
+pub returns : goal.returns
+returns c n = made_plain held.expr (names_of.receiver (scope_of c.args.scope.now)) n c.in_ok-receiver.field-0 (c.in_ok-receiver.ensures)

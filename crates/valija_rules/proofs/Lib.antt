@@ -1,0 +1,4 @@
+pub mod Misplaced
+pub mod Parts
+mod Among
+pub mod ShortNames
