@@ -1,5 +1,5 @@
--- The objects that stand for the nodes of a document: one for a node, made when it is asked for first.
-use Rattle.std.specs.Prelude.{ℕ, List, [], ◌∷◌, Option, Some, None, length, slice_index_or}
+-- The objects that stand for the nodes of a document: one for a node, made with the page or with the node.
+use Rattle.std.specs.Prelude.{ℕ, zero, suc, List, [], ◌∷◌, Option, Some, None, length, slice_index_or}
 use Rattle.es3_objects.specs.declared.value.Value.{Value}
 use Rattle.es3_objects.specs.declared.value.Value.TheVariants as v
 use Rattle.es3_objects.specs.declared.value.Class.TheVariants as class
@@ -8,7 +8,7 @@ use Rattle.es3_objects.specs.declared.value.Tag.TheVariants as tag
 use Rattle.es3_objects.specs.declared.value.Proto.TheVariants as proto
 use Rattle.es3_heap.specs.Objects.{Objects, object_at, tag_of}
 use Rattle.es3_heap.specs.Making.{proto_id, made, tagged}
-use Rattle.doc_nodes.specs.Rows.{Doc, owner_of, node_with}
+use Rattle.doc_nodes.specs.Rows.{Doc, owner_of, nodes_of, node_with}
 use Rattle.dom_facets.specs.Places.{put_at}
 
 -- the object of a node, by the node's number
@@ -57,6 +57,28 @@ facets (n ∷ ns) d h fs =
     let f = facet n d h fs in
     let rest = facets ns d f.heap f.facets in
     record { values = v.Obj f.object ∷ rest.values; heap = rest.heap; facets = rest.facets }
+
+-- the store with the objects of nodes that there are then
+pub record Made : Type 0 where
+  pub heap : Objects
+  pub facets : List (Option ℕ)
+
+abbrev pub made_with : Objects → List (Option ℕ) → Made
+made_with h fs = record { heap = h; facets = fs }
+
+abbrev pub with_new : Option ℕ → Doc → Made → Made
+with_new None d m = m
+with_new (Some n) d m = let f = new_facet n d m.heap m.facets in record { heap = f.heap; facets = f.facets }
+
+-- new objects for so many first nodes of a root, in the order of their numbers
+unfoldable pub node_facets : ℕ → ℕ → Doc → Made → Made
+node_facets root zero d m = m
+node_facets root (suc k) d m = with_new (node_with d root k) d (node_facets root k d m)
+
+-- for the nodes of so many first roots, one root after another
+unfoldable pub root_facets : ℕ → Doc → Made → Made
+root_facets zero d m = m
+root_facets (suc r) d m = node_facets r (length (nodes_of d.roots r)) d (root_facets r d m)
 
 -- the node that a name stands for, and that a value does
 abbrev pub node_in_tag : Doc → Tag → Option ℕ

@@ -1,9 +1,10 @@
 //! Objects of nodes.
 
-ghost use Rattle.std.specs.Prelude.{◌≡◌, ◌≤◌, [], Some, None, length, IfOk, OnOk};
+ghost use Rattle.std.specs.Prelude.{◌≡◌, ◌≤◌, suc, [], Some, None, length, IfOk, OnOk};
 ghost use Rattle.es3_heap.specs.Objects.{object_at, tag_of};
+ghost use Rattle.doc_nodes.specs.Rows.{nodes_of};
 ghost use Rattle.dom_facets.specs.Places.{padded};
-ghost use Rattle.dom_facets.specs.Facets.{facet_at, with_facet, facet_tag, new_facet, facet, facets, node_in_tag, node_of};
+ghost use Rattle.dom_facets.specs.Facets.{facet_at, with_facet, facet_tag, new_facet, facet, facets, made_with, node_facets, root_facets, node_in_tag, node_of};
 
 use caja_units::Memory;
 use doc_tree::{Document, NodeId};
@@ -59,7 +60,7 @@ impl Facets {
     {
         match self.object_of(n) {
             Some(o) => Ok(o),
-            None => new_facet(h, document, self, n),
+            None => self.make(h, document, n),
         }
     }
 
@@ -86,6 +87,53 @@ impl Facets {
             values.push(Value::Obj(object))?;
         }
         Ok(values)
+    }
+
+    /// A new object for a node: of class Node, with the name of the node. It stands for the node from then on.
+    ///
+    /// # Errors
+    ///
+    /// As `facet`.
+    pub fn make(&mut self, h: &mut Heap, document: &Document, n: NodeId) -> Result<ObjId, Memory>
+        ensures object { IfOk result (λ o. o ≡ (new_facet n document.now h.old self.old).object) }
+        ensures heap { OnOk result (h.new ≡ (new_facet n document.now h.old self.old).heap) }
+        ensures kept { OnOk result (self.new ≡ (new_facet n document.now h.old self.old).facets) }
+        ensures live { length h.old.list ≤ length h.new.list }
+    {
+        let tag = facet_tag(document.root_of(n));
+        let proto = h.proto(Proto::Node);
+        let object = h.make(Class::Node, Some(proto))?;
+        h.set_tag(object, tag);
+        self.keep(n, object)?;
+        Ok(object)
+    }
+
+    /// Makes an object for each node of a root, in the order of their numbers.
+    fn make_nodes(&mut self, h: &mut Heap, document: &Document, root: u32) -> Result<(), Memory>
+        ensures made { OnOk result (made_with h.new self.new ≡ node_facets root (length (nodes_of document.now.roots root)) document.now (made_with h.old self.old)) }
+        ensures live { length h.old.list ≤ length h.new.list }
+    {
+        let mut number = 0;
+        'nodes: while let Some(n) = document.node_with(root, number) {
+            self.make(h, document, n)?;
+            number = next(number)?;
+        }
+        Ok(())
+    }
+
+    /// Makes an object for each node of so many first roots: of one root after another, in the order of the nodes' numbers there.
+    ///
+    /// # Errors
+    ///
+    /// As `facet`.
+    pub fn make_all(&mut self, h: &mut Heap, document: &Document, roots: u32) -> Result<(), Memory>
+        ensures made { OnOk result (made_with h.new self.new ≡ root_facets roots document.now (made_with h.old self.old)) }
+        ensures live { length h.old.list ≤ length h.new.list }
+    {
+        for root in 0..roots {
+            self.make_nodes(h, document, root)?;
+        }
+        Ok(())
     }
 
     /// Keeps the object that stands for a node.
@@ -127,24 +175,14 @@ fn facet_tag(owner: Option<(u32, u32)>) -> Tag
     }
 }
 
-/// A new object for a node.
-fn new_facet(
-    h: &mut Heap,
-    document: &Document,
-    kept: &mut Facets,
-    n: NodeId,
-) -> Result<ObjId, Memory>
-    ensures object { IfOk result (λ o. o ≡ (new_facet n document.now h.old kept.old).object) }
-    ensures heap { OnOk result (h.new ≡ (new_facet n document.now h.old kept.old).heap) }
-    ensures kept { OnOk result (kept.new ≡ (new_facet n document.now h.old kept.old).facets) }
-    ensures live { length h.old.list ≤ length h.new.list }
+/// The number behind one; there is no memory for 2^32 nodes of a root.
+fn next(number: u32) -> Result<u32, Memory>
+    ensures { IfOk result (λ k. k ≡ suc number) }
 {
-    let tag = facet_tag(document.root_of(n));
-    let proto = h.proto(Proto::Node);
-    let object = h.make(Class::Node, Some(proto))?;
-    h.set_tag(object, tag);
-    kept.keep(n, object)?;
-    Ok(object)
+    match number.checked_add(1) {
+        Some(next) => Ok(next),
+        None => Err(Memory),
+    }
 }
 
 /// The node that a name stands for.

@@ -1,121 +1,135 @@
--- What stands in a slab stays where something more is put into it.
-use Rattle.std.proofs.Common.{◌≡◌, ℕ, zero, suc, ◌+◌, ◌<◌, Bool, true, false, ◌&&◌, List, [], ◌∷◌, ◌++◌, append_assoc, length, map, get_or, set, Some, None, is_some, refl, sym, ap, ◌∙◌, arith}
-use Rattle.std.specs.List.{list_all}
+-- The places that are kept for a node stay those of its handlers where another handler is registered, and what stands at them is what listens.
+use Rattle.std.proofs.Common.{◌≡◌, ◌≢◌, ℕ, zero, suc, ◌+◌, ◌<◌, ◌≤◌, true, false, List, [], ◌∷◌, ◌++◌, append_assoc, length, length-append, drop, map, get_or, set, Option, Some, cond, refl, sym, ap, ◌∙◌, arith}
+use Rattle.std.specs.Prelude.{nat_eq, slice_get}
 use Rattle.std.specs.Option.{option_to_list}
-use Rattle.std.proofs.lemmas.List.{map-set, get_or-map, map-append, length-map}
-use Rattle.slab.specs.Slab.{Slab, get, Updates}
-use Rattle.dom_facets.specs.Places.{padded}
-use Rattle.dom_facets.proofs.Padded.{padded_more, padded_same}
-use Rattle.dom_handlers.specs.Kept.{found, are_taken}
+use Rattle.std.proofs.Math.Dec.{eqb}
+use Rattle.std.proofs.lemmas.Bool.{eqb-true, eq-eqb}
+use Rattle.std.proofs.lemmas.List.{map-set, get_or-map, map-append, length-map, get_or-set_same, get_or-set_other, get_or_past, drop_more}
+use Rattle.es3_objects.specs.declared.value.Value.{Value}
+use Rattle.dom_handlers.specs.declared.kinds.EventKind.{EventKind}
+use Rattle.dom_handlers.specs.declared.kinds.Handler.{Handler}
+use Rattle.dom_handlers.specs.Handlers.{same_kind, listening, of_kind}
+use Rattle.dom_handlers.specs.Kept.{found, places_from, places_of, AreKept}
 
-and_first : (a b : Bool) → a && b ≡ true → a ≡ true
-and_first true b both = refl
-and_first false b both = absurd (cc)
+-- what stands behind others
 
-and_second : (a b : Bool) → a && b ≡ true → b ≡ true
-and_second true b both = both
-and_second false b both = absurd (cc)
+behind : (before : List Handler) (x : Handler) (xs : List Handler) (at : ℕ) → length before ≡ at → slice_get (before ++ x ∷ xs) at ≡ Some x
+behind [] x xs zero is = refl
+behind [] x xs (suc at) is = absurd (omega (arith, is))
+behind (y ∷ before) x xs zero is = absurd (omega (arith, is))
+behind (y ∷ before) x xs (suc at) is = behind before x xs at (omega (arith, is))
 
-and_both : (a b : Bool) → a ≡ true → b ≡ true → a && b ≡ true
-and_both true b one other = other
-and_both false b one other = absurd (cc)
+found_behind : (before xs : List Handler) (n at : ℕ) → length before ≡ at → found (before ++ xs) (places_from at n xs) ≡ listening n xs
+found_behind before [] n at is = refl
+found_behind before (x ∷ xs) n at is =
+    let l = before ++ x ∷ xs in
+    let ps = places_from (suc at) n xs in
+    let more : length (before ++ x ∷ []) ≡ suc at = omega (arith, is, length-append before (x ∷ [])) in
+    let rest : found l ps ≡ listening n xs = ap (λ hs. found hs ps) (sym (append_assoc before (x ∷ []) xs)) ∙ found_behind (before ++ x ∷ []) xs n (suc at) more in
+    elim (nat_eq x.node n) as (λ b. found l (cond b (at ∷ ps) ps) ≡ cond b (x ∷ listening n xs) (listening n xs)) [
+      | true ↦ ap (λ o. option_to_list o ++ found l ps) (behind before x xs at is) ∙ ap (λ hs. x ∷ hs) rest
+      | false ↦ rest
+    ]
 
-module _ {T : Type 0} where
-  pub found-append : (s : Slab T) (ks js : List ℕ) → found s (ks ++ js) ≡ found s ks ++ found s js
-  found-append s [] js = refl
-  found-append s (k ∷ ks) js = ap (λ xs. option_to_list (get s k) ++ xs) (found-append s ks js) ∙ sym (append_assoc (option_to_list (get s k)) (found s ks) (found s js))
+-- what stands at the places of a node's handlers are its handlers
+pub found_are : (hs : List Handler) (n : ℕ) → found hs (places_from 0 n hs) ≡ listening n hs
+found_are hs n = found_behind [] hs n 0 refl
 
-  taken-append : (s : Slab T) (ks js : List ℕ) → are_taken s ks ≡ true → are_taken s js ≡ true → are_taken s (ks ++ js) ≡ true
-  taken-append s [] js a b = b
-  taken-append s (k ∷ ks) js a b =
-      let first = and_first (is_some (get s k)) (are_taken s ks) a in
-      let second = and_second (is_some (get s k)) (are_taken s ks) a in
-      and_both (is_some (get s k)) (are_taken s (ks ++ js)) first (taken-append s ks js second b)
+-- one more handler
 
-  -- a new list of keys without keys
-  pub one_more : {A : Type 0} (items : A → List ℕ) (s : Slab T) (n : ℕ) (kss : List A) (q : A) → length kss < n → items q ≡ [] → padded [] n (map (λ ks. found s (items ks)) (kss ++ q ∷ [])) ≡ padded [] n (map (λ ks. found s (items ks)) kss)
-  one_more items s n kss q fewer none =
-      let long = length-map kss (λ ks. found s (items ks)) in
-      ap (padded [] n) (map-append (λ ks. found s (items ks)) kss (q ∷ []) ∙ ap (λ l. map (λ ks. found s (items ks)) kss ++ found s l ∷ []) none)
-      ∙ padded_more [] n (map (λ ks. found s (items ks)) kss) (omega (arith, long))
+own_more : (at n to : ℕ) (hs : List Handler) (x : Handler) → x.node ≡ n → at + length hs ≡ to → places_from at n (hs ++ x ∷ []) ≡ places_from at n hs ++ to ∷ []
+own_more at n to [] x own is =
+    let same : nat_eq x.node n ≡ true = eq-eqb x.node n own in
+    let here : at ≡ to = omega (arith, is) in
+    ap (λ b. cond b (at ∷ []) []) same ∙ ap (λ i. i ∷ []) here
+own_more at n to (h ∷ hs) x own is =
+    let rest = own_more (suc at) n to hs x own (omega (arith, is)) in
+    elim (nat_eq h.node n) as (λ b. cond b (at ∷ places_from (suc at) n (hs ++ x ∷ [])) (places_from (suc at) n (hs ++ x ∷ [])) ≡ cond b (at ∷ places_from (suc at) n hs) (places_from (suc at) n hs) ++ to ∷ []) [
+      | true ↦ ap (λ ps. at ∷ ps) rest
+      | false ↦ rest
+    ]
 
-  pub none_more : {A : Type 0} (items : A → List ℕ) (s : Slab T) (kss : List A) (q : A) → items q ≡ [] → list_all (λ ks. are_taken s (items ks)) (kss ++ q ∷ []) ≡ list_all (λ ks. are_taken s (items ks)) kss
-  none_more items s [] q none = ap (λ l. are_taken s l && true) none
-  none_more items s (ks ∷ kss) q none = ap (λ b. are_taken s (items ks) && b) (none_more items s kss q none)
+other_more : (at n : ℕ) (hs : List Handler) (x : Handler) → nat_eq x.node n ≡ false → places_from at n (hs ++ x ∷ []) ≡ places_from at n hs
+other_more at n [] x other = ap (λ b. cond b (at ∷ []) []) other
+other_more at n (h ∷ hs) x other =
+    let rest = other_more (suc at) n hs x other in
+    elim (nat_eq h.node n) as (λ b. cond b (at ∷ places_from (suc at) n (hs ++ x ∷ [])) (places_from (suc at) n (hs ++ x ∷ [])) ≡ cond b (at ∷ places_from (suc at) n hs) (places_from (suc at) n hs)) [
+      | true ↦ ap (λ ps. at ∷ ps) rest
+      | false ↦ rest
+    ]
 
-  module _ (old new : Slab T) (key : ℕ) (x : T) (vacant : get old key ≡ None) (put : Updates old new key (Some x)) where
-    same_there : (k : ℕ) → is_some (get old k) ≡ true → get new k ≡ get old k
-    same_there k taken = put.others k (λ same. let none : get old k ≡ None = ap (get old) same ∙ vacant in let both : is_some (get old k) ≡ false = ap is_some none in cc (both, taken))
+none_behind : (pss : List (List ℕ)) (n : ℕ) → get_or (pss ++ [] ∷ []) n [] ≡ get_or pss n []
+none_behind [] zero = refl
+none_behind [] (suc n) = refl
+none_behind (ps ∷ pss) zero = refl
+none_behind (ps ∷ pss) (suc n) = none_behind pss n
 
-    pub found_stays : (ks : List ℕ) → are_taken old ks ≡ true → found new ks ≡ found old ks
-    found_stays [] taken = refl
-    found_stays (k ∷ ks) taken =
-        let first = and_first (is_some (get old k)) (are_taken old ks) taken in
-        let second = and_second (is_some (get old k)) (are_taken old ks) taken in
-        ap (λ o. option_to_list o ++ found new ks) (same_there k first) ∙ ap (λ xs. option_to_list (get old k) ++ xs) (found_stays ks second)
+module _ {A : Type 0} (items : A → List ℕ) where
+  -- a new list without places
+  pub none_more : (pss : List A) (q : A) (n : ℕ) → items q ≡ [] → places_of items (pss ++ q ∷ []) n ≡ places_of items pss n
+  none_more pss q n none =
+      ap (λ l. get_or l n []) (map-append items pss (q ∷ [])) ∙ ap (λ ps. get_or (map items pss ++ ps ∷ []) n []) none ∙ none_behind (map items pss) n
 
-    pub taken_stay : (ks : List ℕ) → are_taken old ks ≡ true → are_taken new ks ≡ true
-    taken_stay [] taken = refl
-    taken_stay (k ∷ ks) taken =
-        let first = and_first (is_some (get old k)) (are_taken old ks) taken in
-        let second = and_second (is_some (get old k)) (are_taken old ks) taken in
-        and_both (is_some (get new k)) (are_taken new ks) (ap is_some (same_there k first) ∙ first) (taken_stay ks second)
+  -- a list that has the places that it had
+  pub kept_unpushed : (pss : List A) (hs : List Handler) (k : ℕ) (q left : A) → AreKept items pss hs → k < length pss → q ≡ get_or pss k q → items left ≡ items q → AreKept items (set pss k left) hs
+  kept_unpushed pss hs k q left kept there is same n =
+      let long : k < length (map items pss) = omega (arith, there, length-map pss items) in
+      let at : items left ≡ get_or (map items pss) k [] = same ∙ ap items is ∙ sym (get_or-map items pss k q [] there) in
+      let cases = elim (eqb n k) as (λ b. eqb n k ≡ b → get_or (set (map items pss) k (items left)) n [] ≡ get_or (map items pss) n []) [
+        | true ↦ λ yes.
+            let e : n ≡ k = eqb-true n k yes in
+            ap (λ i. get_or (set (map items pss) k (items left)) i []) e ∙ get_or-set_same (map items pss) k (items left) [] long ∙ at ∙ ap (λ i. get_or (map items pss) i []) (sym e)
+        | false ↦ λ other. get_or-set_other (map items pss) k n (items left) [] (λ e. let yes : eqb n k ≡ true = eq-eqb n k e in cc (yes, other))
+      ] in
+      ap (λ l. get_or l n []) (map-set items pss k left) ∙ cases refl ∙ kept n
 
-    here : found new (key ∷ []) ≡ x ∷ []
-    here = ap (λ o. option_to_list o ++ []) put.changed
+  -- a list that has one place more
+  pub kept_registered : (pss : List A) (hs : List Handler) (k to : ℕ) (x : Handler) (q after : A) → AreKept items pss hs → k < length pss → q ≡ get_or pss k q → items after ≡ items q ++ to ∷ [] → x.node ≡ k → to ≡ length hs
+      → AreKept items (set pss k after) (hs ++ x ∷ [])
+  kept_registered pss hs k to x q after kept there is more own last n =
+      let long : k < length (map items pss) = omega (arith, there, length-map pss items) in
+      let at : items q ≡ get_or (map items pss) k [] = ap items is ∙ sym (get_or-map items pss k q [] there) in
+      let cases = elim (eqb n k) as (λ b. eqb n k ≡ b → get_or (set (map items pss) k (items after)) n [] ≡ places_from 0 n (hs ++ x ∷ [])) [
+        | true ↦ λ yes.
+            let e : n ≡ k = eqb-true n k yes in
+            ap (λ i. get_or (set (map items pss) k (items after)) i []) e ∙ get_or-set_same (map items pss) k (items after) [] long ∙ more ∙ ap (λ ps. ps ++ to ∷ []) (at ∙ kept k)
+            ∙ sym (own_more 0 k to hs x own (omega (arith, last))) ∙ ap (λ i. places_from 0 i (hs ++ x ∷ [])) (sym e)
+        | false ↦ λ other.
+            let ne : n ≢ k = λ e. (let yes : eqb n k ≡ true = eq-eqb n k e in cc (yes, other)) in
+            let apart = elim (nat_eq x.node n) as (λ b. nat_eq x.node n ≡ b → b ≡ false) [
+              | true ↦ λ same. absurd (ne (sym (eqb-true x.node n same) ∙ own))
+              | false ↦ λ no. refl
+            ] in
+            get_or-set_other (map items pss) k n (items after) [] ne ∙ kept n ∙ sym (other_more 0 n hs x (apart refl))
+      ] in
+      ap (λ l. get_or l n []) (map-set items pss k after) ∙ cases refl
 
-    here_taken : are_taken new (key ∷ []) ≡ true
-    here_taken = ap (λ o. is_some o && true) put.changed
+  -- what stands at the places that are kept for a node
+  pub found_kept : (pss : List A) (hs : List Handler) (n : ℕ) (q : A) → AreKept items pss hs → n < length pss → q ≡ get_or pss n q → found hs (items q) ≡ listening n hs
+  found_kept pss hs n q kept there is = ap (found hs) (ap items is ∙ sym (get_or-map items pss n q [] there) ∙ kept n) ∙ found_are hs n
 
-    found_more : (ks : List ℕ) → are_taken old ks ≡ true → found new (ks ++ key ∷ []) ≡ found old ks ++ x ∷ []
-    found_more ks taken = found-append new ks (key ∷ []) ∙ ap (λ xs. xs ++ found new (key ∷ [])) (found_stays ks taken) ∙ ap (λ xs. found old ks ++ xs) here
+  pub none_kept : (pss : List A) (hs : List Handler) (n : ℕ) → AreKept items pss hs → length pss ≤ n → listening n hs ≡ []
+  none_kept pss hs n kept past =
+      let long : length (map items pss) ≤ n = omega (arith, past, length-map pss items) in
+      sym (found_are hs n) ∙ ap (found hs) (sym (kept n) ∙ get_or_past (map items pss) n [] long)
 
-    taken_more : (ks : List ℕ) → are_taken old ks ≡ true → are_taken new (ks ++ key ∷ []) ≡ true
-    taken_more ks taken = taken-append new ks (key ∷ []) (taken_stay ks taken) here_taken
+-- the functions of what stands at some places, one place after another
 
-    module _ {A : Type 0} (items : A → List ℕ) where
-      all_found : (kss : List A) → list_all (λ ks. are_taken old (items ks)) kss ≡ true → map (λ ks. found new (items ks)) kss ≡ map (λ ks. found old (items ks)) kss
-      all_found [] taken = refl
-      all_found (ks ∷ kss) taken =
-          let first = and_first (are_taken old (items ks)) (list_all (λ js. are_taken old (items js)) kss) taken in
-          let second = and_second (are_taken old (items ks)) (list_all (λ js. are_taken old (items js)) kss) taken in
-          ap (λ l. l ∷ map (λ js. found new (items js)) kss) (found_stays (items ks) first) ∙ ap (λ l. found old (items ks) ∷ l) (all_found kss second)
+kind-append : (k : EventKind) (xs ys : List Handler) → of_kind k (xs ++ ys) ≡ of_kind k xs ++ of_kind k ys
+kind-append k [] ys = refl
+kind-append k (x ∷ xs) ys =
+    elim (same_kind k x.kind) as (λ b. cond b (x.function ∷ of_kind k (xs ++ ys)) (of_kind k (xs ++ ys)) ≡ cond b (x.function ∷ of_kind k xs) (of_kind k xs) ++ of_kind k ys) [
+      | true ↦ ap (λ fs. x.function ∷ fs) (kind-append k xs ys)
+      | false ↦ kind-append k xs ys
+    ]
 
-      pub all_taken : (kss : List A) → list_all (λ ks. are_taken old (items ks)) kss ≡ true → list_all (λ ks. are_taken new (items ks)) kss ≡ true
-      all_taken [] taken = refl
-      all_taken (ks ∷ kss) taken =
-          let first = and_first (are_taken old (items ks)) (list_all (λ js. are_taken old (items js)) kss) taken in
-          let second = and_second (are_taken old (items ks)) (list_all (λ js. are_taken old (items js)) kss) taken in
-          and_both (are_taken new (items ks)) (list_all (λ js. are_taken new (items js)) kss) (taken_stay (items ks) first) (all_taken kss second)
-
-      -- the keys of one node
-      taken_at : (kss : List A) (n : ℕ) (d : A) → n < length kss → list_all (λ ks. are_taken old (items ks)) kss ≡ true → are_taken old (items (get_or kss n d)) ≡ true
-      taken_at [] n d within taken = absurd (omega arith)
-      taken_at (ks ∷ kss) zero d within taken = and_first (are_taken old (items ks)) (list_all (λ js. are_taken old (items js)) kss) taken
-      taken_at (ks ∷ kss) (suc n) d within taken = taken_at kss n d (omega arith) (and_second (are_taken old (items ks)) (list_all (λ js. are_taken old (items js)) kss) taken)
-
-      taken_set : (kss : List A) (n : ℕ) (q : A) → list_all (λ ks. are_taken new (items ks)) kss ≡ true → are_taken new (items q) ≡ true → list_all (λ ks. are_taken new (items ks)) (set kss n q) ≡ true
-      taken_set [] n q all one = refl
-      taken_set (ks ∷ kss) zero q all one = and_both (are_taken new (items q)) (list_all (λ js. are_taken new (items js)) kss) one (and_second (are_taken new (items ks)) (list_all (λ js. are_taken new (items js)) kss) all)
-      taken_set (ks ∷ kss) (suc n) q all one =
-          and_both (are_taken new (items ks)) (list_all (λ js. are_taken new (items js)) (set kss n q)) (and_first (are_taken new (items ks)) (list_all (λ js. are_taken new (items js)) kss) all)
-          (taken_set kss n q (and_second (are_taken new (items ks)) (list_all (λ js. are_taken new (items js)) kss) all) one)
-
-      module _ (kss : List A) (all : list_all (λ ks. are_taken old (items ks)) kss ≡ true) (n : ℕ) (there : n < length kss) (q : A) (is : q ≡ get_or kss n q) where
-        own : are_taken old (items q) ≡ true
-        own = ap (λ k. are_taken old (items k)) is ∙ taken_at kss n q there all
-
-        pub taken_unpushed : (left : A) → items left ≡ items q → list_all (λ ks. are_taken new (items ks)) (set kss n left) ≡ true
-        taken_unpushed left same = taken_set kss n left (all_taken kss all) (ap (are_taken new) same ∙ taken_stay (items q) own)
-
-        module _ (after : A) (more : items after ≡ items q ++ key ∷ []) where
-          pub taken_registered : list_all (λ ks. are_taken new (items ks)) (set kss n after) ≡ true
-          taken_registered = taken_set kss n after (all_taken kss all) (ap (are_taken new) more ∙ taken_more (items q) own)
-
-          pub found_registered : (before : List (List T)) → map (λ ks. found old (items ks)) kss ≡ padded [] (n + 1) before → map (λ ks. found new (items ks)) (set kss n after) ≡ set (padded [] (n + 1) before) n (get_or before n [] ++ x ∷ [])
-          found_registered before made =
-              let at : found old (items q) ≡ get_or before n [] =
-              ap (λ k. found old (items k)) is ∙ sym (get_or-map (λ ks. found old (items ks)) kss n q [] there) ∙ ap (λ l. get_or l n []) made ∙ padded_same [] (n + 1) n before in
-              map-set (λ ks. found new (items ks)) kss n after
-              ∙ ap (λ l. set l n (found new (items after))) (all_found kss all ∙ made)
-              ∙ ap (set (padded [] (n + 1) before) n) (ap (found new) more ∙ found_more (items q) own ∙ ap (λ l. l ++ x ∷ []) at)
+pub next_found : (k : EventKind) (hs : List Handler) (ps : List ℕ) (i d : ℕ) (o : Option Handler) (out after whole : List Value) → i < length ps → o ≡ slice_get hs (get_or ps i d) → after ≡ out ++ of_kind k (option_to_list o)
+    → out ++ of_kind k (found hs (drop i ps)) ≡ whole → after ++ of_kind k (found hs (drop (i + 1) ps)) ≡ whole
+next_found k hs ps i d o out after whole less at more is =
+    let rest = found hs (drop (i + 1) ps) in
+    ap (λ l. l ++ of_kind k rest) more
+    ∙ append_assoc out (of_kind k (option_to_list o)) (of_kind k rest)
+    ∙ ap (λ l. out ++ l) (sym (kind-append k (option_to_list o) rest))
+    ∙ ap (λ p. out ++ of_kind k (option_to_list p ++ rest)) at
+    ∙ ap (λ qs. out ++ of_kind k (found hs qs)) (sym (drop_more ps i d less))
+    ∙ is

@@ -1,8 +1,7 @@
 -- What is called when something happens to a node.
-use Rattle.std.specs.Prelude.{ℕ, ◌+◌, List, [], ◌∷◌, ◌++◌, Option, Some, None, Bool, true, false, slice_index_or, codes, if◌then◌else◌}
+use Rattle.std.specs.Prelude.{ℕ, List, [], ◌∷◌, ◌++◌, Option, Some, None, Bool, true, false, nat_eq, codes, if◌then◌else◌}
 use Rattle.caja_units.specs.Units.{same_units}
 use Rattle.es3_objects.specs.declared.value.Value.{Value}
-use Rattle.dom_facets.specs.Places.{put_at}
 use Rattle.dom_handlers.specs.declared.kinds.EventKind.{EventKind}
 use Rattle.dom_handlers.specs.declared.kinds.EventKind.TheVariants.{Click, Input}
 use Rattle.dom_handlers.specs.declared.kinds.Handler.{Handler}
@@ -16,13 +15,14 @@ same_kind Click Click = true
 same_kind Input Input = true
 same_kind a b = false
 
--- the handlers of a node, in the order in which they were registered
-abbrev pub listening : ℕ → List (List Handler) → List Handler
-listening n hs = slice_index_or hs n []
+-- a handler is registered behind all others
+abbrev pub registered : ℕ → EventKind → Value → List Handler → List Handler
+registered n k f hs = hs ++ record { node = n; kind = k; function = f } ∷ []
 
--- a handler is registered behind all others of its node
-abbrev pub registered : ℕ → Handler → List (List Handler) → List (List Handler)
-registered n x hs = put_at [] n (listening n hs ++ x ∷ []) hs
+-- the handlers of a node, in the order in which they were registered
+abbrev pub listening : ℕ → List Handler → List Handler
+listening n [] = []
+listening n (x ∷ xs) = if nat_eq x.node n then x ∷ listening n xs else listening n xs
 
 -- the functions of the handlers of one kind, in their order
 abbrev pub of_kind : EventKind → List Handler → List Value
@@ -30,5 +30,5 @@ of_kind k [] = []
 of_kind k (x ∷ xs) = if same_kind k x.kind then x.function ∷ of_kind k xs else of_kind k xs
 
 -- what is called when this happens to a node, in the order in which it was registered
-abbrev pub functions_of : EventKind → ℕ → List (List Handler) → List Value
+abbrev pub functions_of : EventKind → ℕ → List Handler → List Value
 functions_of k n hs = of_kind k (listening n hs)

@@ -1,15 +1,22 @@
--- How handlers are kept: in a slab, and for each node the keys of its handlers, in the order in which they were registered.
-use Rattle.std.specs.Prelude.{ℕ, Bool, List, [], ◌∷◌, ◌++◌, is_some}
-use Rattle.std.specs.List.{list_all}
+-- How handlers are kept: in one list, and for each node the places of its handlers there, in the order in which they were registered.
+use Rattle.std.specs.Prelude.{◌≡◌, ℕ, suc, List, [], ◌∷◌, ◌++◌, map, nat_eq, slice_get, slice_index_or, if◌then◌else◌}
 use Rattle.std.specs.Option.{option_to_list}
-use Rattle.slab.specs.Slab.{Slab, get}
+use Rattle.dom_handlers.specs.declared.kinds.Handler.{Handler}
 
-module _ {T : Type 0} where
-  -- what stands in a slab under some keys, in their order
-  abbrev pub found : Slab T → List ℕ → List T
-  found s [] = []
-  found s (k ∷ ks) = option_to_list (get s k) ++ found s ks
+-- what stands at some places of a list, in their order
+abbrev pub found : List Handler → List ℕ → List Handler
+found hs [] = []
+found hs (p ∷ ps) = option_to_list (slice_get hs p) ++ found hs ps
 
-  -- whether something stands under each of them
-  abbrev pub are_taken : Slab T → List ℕ → Bool
-  are_taken s ks = list_all (λ k. is_some (get s k)) ks
+-- the places of a node's handlers, where the first of all has a place
+abbrev pub places_from : ℕ → ℕ → List Handler → List ℕ
+places_from at n [] = []
+places_from at n (x ∷ xs) = if nat_eq x.node n then at ∷ places_from (suc at) n xs else places_from (suc at) n xs
+
+-- the places that are kept for a node
+abbrev pub places_of : {A : Type 0} → (A → List ℕ) → List A → ℕ → List ℕ
+places_of items pss n = slice_index_or (map items pss) n []
+
+-- they are those of its handlers
+abbrev pub AreKept : {A : Type 0} → (A → List ℕ) → List A → List Handler → Type 0
+AreKept items pss hs = (n : ℕ) → places_of items pss n ≡ places_from 0 n hs

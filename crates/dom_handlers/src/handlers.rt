@@ -1,42 +1,36 @@
 //! Handlers of nodes.
 
-ghost use Rattle.std.specs.Prelude.{◌≡◌, ◌≤◌, ◌++◌, [], length, map, IfOk, OnOk};
-ghost use Rattle.std.specs.List.{list_all};
+ghost use Rattle.std.specs.Prelude.{◌≡◌, ◌≤◌, ◌++◌, ℕ, [], length, slice_get, IfOk, OnOk};
 ghost use Rattle.std.specs.Option.{option_to_list, option_copied};
-ghost use Rattle.slab.specs.Slab.{Slab as Store};
-ghost use Rattle.dom_facets.specs.Places.{padded};
-ghost use Rattle.dom_handlers.specs.declared.kinds.Handler.{Handler as Entry};
 ghost use Rattle.dom_handlers.specs.Handlers.{registered, of_kind, functions_of};
-ghost use Rattle.dom_handlers.specs.Kept.{found, are_taken};
+ghost use Rattle.dom_handlers.specs.Kept.{found, places_of};
 
 use crate::kinds::{EventKind, Handler};
 use caja_units::Memory;
 use doc_nodes::NodeId;
 use es3_heap::Value;
-use slab::Slab;
 use std::alloc::Global;
 use std::marker::Model;
 
-/// The handlers of each node, in the order in which they were registered. None is ever taken away.
+/// The handlers of all nodes, in the order in which they were registered. None is ever taken away.
 #[derive(Drop)]
 pub struct Handlers {
     alloc: Global,
-    handlers: Slab<Handler>,
-    // By the nodes' numbers: where their handlers stand.
-    keys: Vec<Vec<usize>>,
+    handlers: Vec<Handler>,
+    // By the nodes' numbers: where their handlers stand, so that an event doesn't go through those of other nodes.
+    places: Vec<Vec<usize>>,
 }
 
 impl Model for Handlers {
-    ghost use Rattle.std.specs.Prelude.{◌≡◌, List, map, true};
-    ghost use Rattle.std.specs.List.{list_all};
-    ghost use Rattle.dom_handlers.specs.Kept.{found, are_taken};
+    ghost use Rattle.std.specs.Prelude.{List};
+    ghost use Rattle.dom_handlers.specs.Kept.{AreKept};
     ghost use Rattle.dom_handlers.specs.declared.kinds.Handler.{Handler as Entry};
 
-    ghost Value = { List (List Entry) };
+    ghost Value = { List Entry };
 
-    ghost view = { λ s. map (λ keys. found s.handlers keys.items) s.keys.items };
+    ghost view = { λ s. s.handlers.items };
 
-    ghost invariant = { λ s. list_all (λ keys. are_taken s.handlers keys.items) s.keys.items ≡ true };
+    ghost invariant = { λ s. AreKept (λ ps. ps.items) s.places.items s.handlers.items };
 }
 
 impl Handlers {
@@ -46,8 +40,8 @@ impl Handlers {
     {
         Handlers {
             alloc,
-            handlers: Slab::new(alloc),
-            keys: Vec::new(alloc),
+            handlers: Vec::new(alloc),
+            places: Vec::new(alloc),
         }
     }
 
@@ -57,12 +51,19 @@ impl Handlers {
     ///
     /// `Memory` where memory is wanting.
     pub fn on(&mut self, n: NodeId, kind: EventKind, function: Value) -> Result<(), Memory>
-        ensures { OnOk result (self.new ≡ registered n (record { kind = kind; function = function }) self.old) }
+        ensures { OnOk result (self.new ≡ registered n kind function self.old) }
     {
         let at = n.number() as usize;
-        reach(self.alloc, &mut self.keys, at + 1)?;
-        let key = self.handlers.insert(Handler { kind, function })?;
-        self.keys[at].push(key)?;
+        reach(self.alloc, &mut self.places, at + 1)?;
+        // With the room that is made here the last push can't fail, so that nothing has to be undone.
+        self.handlers.reserve(1)?;
+        let place = self.handlers.len();
+        self.places[at].push(place)?;
+        self.handlers.push(Handler {
+            node: n,
+            kind,
+            function,
+        })?;
         Ok(())
     }
 
@@ -79,23 +80,29 @@ impl Handlers {
     ) -> Result<Vec<Value>, Memory>
         ensures { IfOk result (λ xs. xs.items ≡ functions_of kind n self.now) }
     {
-        match self.keys.get(n.number() as usize) {
-            Some(keys) => functions(alloc, &self.handlers, keys, kind),
+        match self.places.get(n.number() as usize) {
+            Some(places) => functions(alloc, &self.handlers, places, kind),
             None => Ok(Vec::new(alloc)),
         }
     }
 }
 
 /// Makes so many lists at least; new ones are empty.
-fn reach(alloc: Global, keys: &mut Vec<Vec<usize>>, count: usize) -> Result<(), Memory>
-    ensures found { OnOk result ((s : Store Entry) → map (λ ks. found s ks.items) keys.new.items ≡ padded [] count (map (λ ks. found s ks.items) keys.old.items)) }
-    ensures taken { (s : Store Entry) → list_all (λ ks. are_taken s ks.items) keys.new.items ≡ list_all (λ ks. are_taken s ks.items) keys.old.items }
-    ensures long { OnOk result (count ≤ length keys.new.items) }
+fn reach(alloc: Global, places: &mut Vec<Vec<usize>>, count: usize) -> Result<(), Memory>
+    ensures same { (n : ℕ) → places_of (λ ps. ps.items) places.new.items n ≡ places_of (λ ps. ps.items) places.old.items n }
+    ensures long { OnOk result (count ≤ length places.new.items) }
 {
-    'reach: while keys.len() < count {
-        keys.push(Vec::new(alloc))?;
+    'reach: while places.len() < count {
+        places.push(Vec::new(alloc))?;
     }
     Ok(())
+}
+
+/// The handler at a place.
+fn handler_at(handlers: &[Handler], place: usize) -> Option<&Handler>
+    ensures { option_copied result ≡ slice_get handlers.now place }
+{
+    handlers.get(place)
 }
 
 /// Appends the function of a handler, where it is of this kind.
@@ -116,18 +123,18 @@ fn push_function(
     }
 }
 
-/// The functions of the handlers of one kind that stand under some keys, in their order.
+/// The functions of the handlers of one kind that stand at some places, in their order.
 fn functions(
     alloc: Global,
-    handlers: &Slab<Handler>,
-    keys: &[usize],
+    handlers: &[Handler],
+    places: &[usize],
     kind: EventKind,
 ) -> Result<Vec<Value>, Memory>
-    ensures { IfOk result (λ xs. xs.items ≡ of_kind kind (found handlers.now keys.now)) }
+    ensures { IfOk result (λ xs. xs.items ≡ of_kind kind (found handlers.now places.now)) }
 {
     let mut out = Vec::new(alloc);
-    for key in keys {
-        push_function(alloc, &mut out, handlers.get(*key), kind)?;
+    for place in places {
+        push_function(alloc, &mut out, handler_at(handlers, *place), kind)?;
     }
     Ok(out)
 }

@@ -4,6 +4,7 @@ ghost use Rattle.std.specs.Prelude.{◌≡◌};
 ghost use Rattle.dom_handlers.specs.Handlers.{kind_of, same_kind};
 
 use caja_units::Units;
+use doc_nodes::NodeId;
 use es3_heap::Value;
 use html_tokens::spells;
 
@@ -39,9 +40,10 @@ impl EventKind {
     }
 }
 
-/// A function that is called when something happens.
+/// A function that is called when something happens to a node.
 #[derive(Debug, Drop)]
 pub struct Handler {
+    pub node: NodeId,
     pub kind: EventKind,
     pub function: Value,
 }

@@ -1,5 +1,5 @@
--- The store and what is lent fit one another: asking for the object of a node keeps this, and what leaves names and owners.
-use Rattle.std.proofs.Common.{◌≡◌, ◌≢◌, ℕ, zero, suc, ◌<◌, Bool, true, false, List, [], ◌∷◌, Option, Some, None, length, refl, sym, ap, ◌∙◌, subst, arith, length-append}
+-- The store and what is lent fit one another: a new node with its object keeps this, asking for the object of a node, and what leaves names and owners.
+use Rattle.std.proofs.Common.{◌≡◌, ◌≢◌, ℕ, zero, suc, ◌<◌, true, false, List, [], ◌∷◌, Option, Some, None, length, refl, sym, ap, ◌∙◌, subst, arith, length-append}
 use Rattle.std.specs.Prelude.{slice_get}
 use Rattle.std.proofs.Math.Dec.{eqb}
 use Rattle.std.proofs.lemmas.Bool.{eqb-true}
@@ -10,22 +10,21 @@ use Rattle.es3_objects.specs.declared.value.Tag.{Tag}
 use Rattle.es3_objects.specs.declared.value.Tag.TheVariants as tag
 use Rattle.es3_heap.specs.Objects.{Object, Objects, object_at, tag_of, class_of}
 use Rattle.es3_heap.specs.Making.{made, plain_object, tagged}
-use Rattle.doc_nodes.specs.Rows.{Doc, owner_of}
+use Rattle.doc_nodes.specs.Rows.{owner_of}
 use Rattle.doc_nodes.specs.Changes.{root_in}
 use Rattle.node_deeds.specs.Deeds.{number_in}
 use Rattle.doc_laws.specs.Reached.{Reached}
 use Rattle.doc_laws.proofs.Lists.{get_push, get_push_other, get_past, get_set, get_set_other, apart}
 use Rattle.dom_facets.specs.Facets as facets
-use Rattle.dom_facets.specs.Facets.{facet_at, with_facet, facet_tag}
+use Rattle.dom_facets.specs.Facets.{facet_at, with_facet}
 use Rattle.dom_facets.proofs.Padded.{put_there, put_elsewhere}
 use Rattle.dom_handlers.specs.declared.kinds.Handler.{Handler}
-use Rattle.dom_handlers.specs.Handlers.{listening}
-use Rattle.tamed_dom.specs.Lent.{Lent, new_lent, with_facets, facet}
+use Rattle.tamed_dom.specs.Lent.{Lent, with_facets, facet}
 use Rattle.dom_laws.specs.Store.{tag_at, class_at, runs_code, IsOfText, Keeps}
-use Rattle.dom_laws.specs.Fits.{Stands, AreOfTexts, Fits, HasNoNodes}
+use Rattle.dom_laws.specs.Fits.{Stands, AreOfTexts, Fits}
 
 -- a store with a new object for a node, with its name
-abbrev with_node : Objects → Tag → Objects
+abbrev pub with_node : Objects → Tag → Objects
 with_node h t = tagged (made class.Node (Some 9) h) (length h.list) t
 
 at_here : (h : Objects) (t : Tag) → object_at (with_node h t) (length h.list) ≡ Some (record { class = class.Node; proto = Some 9; callable = None; tag = t; props = [] })
@@ -84,9 +83,20 @@ pair a b c d x y = rw (x, y) refl
 same_some : (a b : ℕ) → ◌≡◌ {A = Option ℕ} (Some a) (Some b) → a ≡ b
 same_some a b h = cc
 
+-- all of it but that each node has its object
+pub record Partly (h : Objects) (z : Lent) : Type 0 where
+  pub doc : Reached z.doc
+  pub kept : (n o : ℕ) → facet_at z.facets n ≡ Some o → (r : ℕ) × (k : ℕ) × (owner_of z.doc n ≡ Some (r, k)) × Stands h o r k
+  pub named : (o r k : ℕ) → tag_at h o ≡ tag.Facet r k → (n : ℕ) × (owner_of z.doc n ≡ Some (r, k)) × (facet_at z.facets n ≡ Some o)
+  pub nodes : (o : ℕ) → class_at h o ≡ class.Node → (r : ℕ) × (k : ℕ) × (tag_at h o ≡ tag.Facet r k)
+  pub handlers : AreOfTexts h z.handlers
+
+pub all_there : (h : Objects) (z : Lent) → Partly h z → ((n r k : ℕ) → owner_of z.doc n ≡ Some (r, k) → (o : ℕ) × (facet_at z.facets n ≡ Some o)) → Fits h z
+all_there h z p there = record { doc = p.doc; kept = p.kept; named = p.named; nodes = p.nodes; there = there; handlers = p.handlers }
+
 -- a new object for a node of a root
-new_keeps : (n r k : ℕ) (h : Objects) (z : Lent) → Fits h z → owner_of z.doc n ≡ Some (r, k) → facet_at z.facets n ≡ None
-    → Fits (with_node h (tag.Facet r k)) (with_facets (with_facet n (length h.list) z.facets) z)
+pub new_keeps : (n r k : ℕ) (h : Objects) (z : Lent) → Partly h z → owner_of z.doc n ≡ Some (r, k) → facet_at z.facets n ≡ None
+    → Partly (with_node h (tag.Facet r k)) (with_facets (with_facet n (length h.list) z.facets) z)
 new_keeps n r k h z f own none =
     let o = length h.list in
     let g = with_node h (tag.Facet r k) in
@@ -126,15 +136,19 @@ new_keeps n r k h z f own none =
                 let a = f.nodes q (ap class_of (sym stays) ∙ is) in
                 (a.0, a.1, ap tag_of stays ∙ a.2)
           ] in cases refl;
-      handlers = λ m. texts_stay h g (listening m z.handlers) (text_stays h (tag.Facet r k)) (f.handlers m);
+      handlers = texts_stay h g z.handlers (text_stays h (tag.Facet r k)) f.handlers;
     }
 
+-- the object of a node is there
+
+pub facet_is : (n r k : ℕ) (h : Objects) (z : Lent) → Fits h z → owner_of z.doc n ≡ Some (r, k) → (o : ℕ) × (facet_at z.facets n ≡ Some o) × (facets.facet n z.doc h z.facets ≡ record { object = o; heap = h; facets = z.facets })
+facet_is n r k h z f own = let a = f.there n r k own in (a.0, a.1, ap (λ x. facets.facet_or_new x n z.doc h z.facets) a.1)
+
+pub asking_makes_none : (h : Objects) (z : Lent) (n r k : ℕ) → Fits h z → owner_of z.doc n ≡ Some (r, k) → ((facet n h z).heap ≡ h) × ((facet n h z).lent ≡ z)
+asking_makes_none h z n r k f own = let a = facet_is n r k h z f own in (ap (λ g. g.heap) a.2, ap (λ g. with_facets g.facets z) a.2)
+
 pub facet_keeps : (n r k : ℕ) (h : Objects) (z : Lent) → Fits h z → owner_of z.doc n ≡ Some (r, k) → Fits (facet n h z).heap (facet n h z).lent
-facet_keeps n r k h z f own = at (facet_at z.facets n) refl
-  where
-    at : (o : Option ℕ) → facet_at z.facets n ≡ o → let g = facets.facet_or_new o n z.doc h z.facets in Fits g.heap (with_facets g.facets z)
-    at None none = subst (λ x. Fits (with_node h (facet_tag x)) (with_facets (with_facet n (length h.list) z.facets) z)) (sym own) (new_keeps n r k h z f own none)
-    at (Some o) is = f
+facet_keeps n r k h z f own = subst (λ g. Fits g.heap (with_facets g.facets z)) (sym (facet_is n r k h z f own).2) f
 
 -- what leaves the objects that stand for nodes, and functions of texts
 text_kept : (h g : Objects) → Keeps h g → (x : Value) → IsOfText h x → IsOfText g x
@@ -151,24 +165,8 @@ others_keep h g z f keeps = record {
   kept = λ n o is. let a = f.kept n o is in (a.0, a.1, a.2, record { name = (keeps o).name a.0 a.1 a.3.name; node = (keeps o).node a.3.node });
   named = λ o r k is. f.named o r k ((keeps o).no_name r k is);
   nodes = λ o is. let a = f.nodes o ((keeps o).no_node is) in (a.0, a.1, (keeps o).name a.0 a.1 a.2);
-  handlers = λ n. texts_stay h g (listening n z.handlers) (text_kept h g keeps) (f.handlers n);
-}
-
-none_kept : (n o : ℕ) → ◌≡◌ {A = Option ℕ} (facet_at [] n) (Some o) → ⊥
-none_kept zero o is = cc
-none_kept (suc n) o is = cc
-
-none_listens : (h : Objects) (n : ℕ) → AreOfTexts h (listening n [])
-none_listens h zero = tt
-none_listens h (suc n) = tt
-
-pub begins_fit : (h : Objects) (d : Doc) → Reached d → HasNoNodes h → Fits h (new_lent d)
-begins_fit h d a none = record {
-  doc = a;
-  kept = λ n o is. absurd (none_kept n o is);
-  named = λ o r k is. absurd (none.names o r k is);
-  nodes = λ o is. absurd (none.nodes o is);
-  handlers = none_listens h;
+  there = f.there;
+  handlers = texts_stay h g z.handlers (text_kept h g keeps) f.handlers;
 }
 
 pub one_facet : (h : Objects) (z : Lent) (o p r k : ℕ) → Fits h z → tag_at h o ≡ tag.Facet r k → tag_at h p ≡ tag.Facet r k → o ≡ p
@@ -181,18 +179,11 @@ one_facet h z o p r k f so sp =
 pub facets_are_there : (h : Objects) (z : Lent) (n o : ℕ) → Fits h z → facet_at z.facets n ≡ Some o → o < length h.list
 facets_are_there h z n o f is = node_there h o (f.kept n o is).3.node
 
--- the object of a node, made where there is none, has the node's name
-pub object_named : (n r k : ℕ) (h : Objects) (z : Lent) → Fits h z → owner_of z.doc n ≡ Some (r, k) → tag_at (facet n h z).heap (facet n h z).object ≡ tag.Facet r k
-object_named n r k h z f own = at (facet_at z.facets n) refl
-  where
-    at : (o : Option ℕ) → facet_at z.facets n ≡ o → let g = facets.facet_or_new o n z.doc h z.facets in tag_at g.heap g.object ≡ tag.Facet r k
-    at None none = name_here h (facet_tag (owner_of z.doc n)) ∙ ap facet_tag own
-    at (Some o) is =
-        let a = f.kept n o is in
-        let both : ◌≡◌ {A = Option (ℕ × ℕ)} (Some (a.0, a.1)) (Some (r, k)) = sym a.2 ∙ own in
-        let one : a.0 ≡ r = same_some a.0 r (ap root_in both) in
-        let two : a.1 ≡ k = ap number_in both in
-        a.3.name ∙ ap (λ s. tag.Facet s a.1) one ∙ ap (λ j. tag.Facet r j) two
-
 pub facet_is_named : (h : Objects) (z : Lent) (n r k : ℕ) → Fits h z → owner_of z.doc n ≡ Some (r, k) → tag_at (facet n h z).heap (facet n h z).object ≡ tag.Facet r k
-facet_is_named h z n r k f own = object_named n r k h z f own
+facet_is_named h z n r k f own =
+    let x = facet_is n r k h z f own in
+    let a = f.kept n x.0 x.1 in
+    let both : ◌≡◌ {A = Option (ℕ × ℕ)} (Some (a.0, a.1)) (Some (r, k)) = sym a.2 ∙ own in
+    let one : a.0 ≡ r = same_some a.0 r (ap root_in both) in
+    let two : a.1 ≡ k = ap number_in both in
+    ap (λ g. tag_at g.heap g.object) x.2 ∙ a.3.name ∙ ap (λ s. tag.Facet s a.1) one ∙ ap (λ j. tag.Facet r j) two

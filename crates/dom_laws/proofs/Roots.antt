@@ -1,8 +1,6 @@
 -- A call of a method at a node of a root stays within the root.
-use Rattle.std.proofs.Common.{◌≡◌, ◌⊎◌, inl, inr, ℕ, Bool, true, false, List, [], ◌∷◌, Option, Some, None, Result, Ok, Err, length, cond, refl, sym, ap, ◌∙◌, subst}
+use Rattle.std.proofs.Common.{◌≡◌, inl, inr, ℕ, Bool, true, false, List, [], ◌∷◌, ◌++◌, append-nil, Option, Some, None, Result, Ok, Err, length, cond, refl, sym, ap, ◌∙◌, subst, arith}
 use Rattle.std.specs.Prelude.{nat_lt, codes}
-use Rattle.std.proofs.Math.Dec.{eqb}
-use Rattle.std.proofs.lemmas.Bool.{eqb-true}
 use Rattle.plans.specs.Plans.{Fault}
 use Rattle.es3_objects.specs.declared.value.Value.{Value}
 use Rattle.es3_objects.specs.declared.value.Value.TheVariants as v
@@ -22,70 +20,47 @@ use Rattle.doc_nodes.specs.Changes.{root_in}
 use Rattle.doc_laws.specs.Owned.{Owned, Grows}
 use Rattle.doc_laws.specs.Within.{IsWithin}
 use Rattle.doc_laws.proofs.Joined.{grows-same_doc}
-use Rattle.doc_laws.proofs.Lists.{get_past, apart}
+use Rattle.doc_laws.proofs.Lists.{get_past}
 use Rattle.node_deeds.specs.declared.told.Change.{Change}
 use Rattle.node_deeds.specs.declared.deeds.Asked.{Asked}
 use Rattle.node_deeds.specs.Told.{Told, told_undefined, told_null, told_argument, told_text, told_node, told_nodes, told_error, message_of}
 use Rattle.node_deeds.specs.Deeds.{deed}
-use Rattle.deed_laws.specs.Deeds.{children_given, AreThere, AreOf, IsToldOf}
+use Rattle.deed_laws.specs.Deeds.{children_given, AreThere, IsToldOf}
 use Rattle.deed_laws.proofs.Deeds.{deed_is_of_root, within_same}
 use Rattle.dom_facets.specs.Facets as facets
-use Rattle.dom_facets.specs.Facets.{facet_at, facet_tag, node_of}
+use Rattle.dom_facets.specs.Facets.{node_of}
 use Rattle.dom_handlers.specs.declared.kinds.EventKind.{EventKind}
+use Rattle.dom_handlers.specs.declared.kinds.Handler.{Handler}
 use Rattle.dom_handlers.specs.Handlers.{kind_of, listening}
 use Rattle.dom_handlers.specs.Closures.{may_listen}
 use Rattle.tamed_dom.specs.declared.methods.NodeMethod.{NodeMethod}
-use Rattle.tamed_dom.specs.Lent.{Lent, told, with_facets, with_deed, facet}
+use Rattle.tamed_dom.specs.Lent.{Lent, told, with_facets, with_deed, facet, grown}
 use Rattle.tamed_dom.specs.Methods.{told_turn, given, asked_turn, listens, on_turn, is_on, method_turn, received, node_turn}
 use Rattle.dom_laws.specs.Store.{tag_at, Keeps}
 use Rattle.dom_laws.specs.Fits.{Fits}
 use Rattle.dom_laws.specs.Roots.{StaysWithin}
 use Rattle.dom_laws.proofs.Store.{keeps-same}
-use Rattle.dom_laws.proofs.Fits.{facet_keeps, at_other, name_here, object_named}
-use Rattle.dom_laws.proofs.Turns.{keeps-thrown, keeps-array, rooted, deed_fits, node_tag, Gives, given_there, given_node, other_listening}
+use Rattle.dom_laws.proofs.Fits.{asking_makes_none, facet_is_named}
+use Rattle.dom_laws.proofs.Grown.{rooted, grown_lent, grown_names}
+use Rattle.dom_laws.proofs.Turns.{keeps-thrown, keeps-array, line_fits, facets_same, deed_fits, deed_told, node_tag, Gives, given_there, given_node, other_listening}
 
--- what is seen of the store after a turn: which objects stand for nodes, and what is answered
+-- what is seen of the store after a turn that makes no node: which objects stand for nodes, and what is answered
 record Shows (r : ℕ) (h g : Objects) (reply : Reply) : Type 0 where
-  pub names : (o s k : ℕ) → tag_at g o ≡ tag.Facet s k → (tag_at h o ≡ tag.Facet s k) ⊎ (s ≡ r)
+  pub names : (o s k : ℕ) → tag_at g o ≡ tag.Facet s k → tag_at h o ≡ tag.Facet s k
   pub answer : (o s k : ℕ) → reply ≡ value_reply (v.Obj o) → tag_at g o ≡ tag.Facet s k → s ≡ r
 
 -- nothing new stands for a node, and no object is answered
 quiet : (r : ℕ) (h g : Objects) (reply : Reply) → Keeps h g → ((o : ℕ) → reply ≡ value_reply (v.Obj o) → ⊥) → Shows r h g reply
-quiet r h g reply keeps none = record { names = λ o s k is. inl ((keeps o).no_name s k is); answer = λ o s k e is. absurd (none o e) }
+quiet r h g reply keeps none = record { names = λ o s k is. (keeps o).no_name s k is; answer = λ o s k e is. absurd (none o e) }
 
--- the name of a node's object, which is made where there is none
+-- the root in the name of a node's object
 same_name : (r k s j : ℕ) → tag.Facet r k ≡ tag.Facet s j → s ≡ r
 same_name r k s j h = let one : r ≡ s = cc (h) in sym one
 
-names_of_facet : (n r k : ℕ) (h : Objects) (z : Lent) → owner_of z.doc n ≡ Some (r, k) → (o s j : ℕ) → tag_at (facet n h z).heap o ≡ tag.Facet s j → (tag_at h o ≡ tag.Facet s j) ⊎ (s ≡ r)
-names_of_facet n r k h z own o s j = at (facet_at z.facets n)
-  where
-    at : (p : Option ℕ) → let g = facets.facet_or_new p n z.doc h z.facets in tag_at g.heap o ≡ tag.Facet s j → (tag_at h o ≡ tag.Facet s j) ⊎ (s ≡ r)
-    at None is =
-        let t = facet_tag (owner_of z.doc n) in
-        let cases = elim (eqb o (length h.list)) as (λ b. eqb o (length h.list) ≡ b → (tag_at h o ≡ tag.Facet s j) ⊎ (s ≡ r)) [
-          | true ↦ λ yes.
-              let last : o ≡ length h.list = eqb-true o (length h.list) yes in
-              inr (same_name r k s j (sym (name_here h t ∙ ap facet_tag own) ∙ (ap (λ i. tag_at (facets.facet_or_new None n z.doc h z.facets).heap i) (sym last) ∙ is)))
-          | false ↦ λ other. inl (sym (ap tag_of (at_other h t o (apart o (length h.list) other))) ∙ is)
-        ] in cases refl
-    at (Some p) is = inl is
-
-names_of_facets : (r : ℕ) (ns : List ℕ) (h : Objects) (z : Lent) → Fits h z → AreOf r z.doc ns → (o s j : ℕ) → tag_at (facets.facets ns z.doc h z.facets).heap o ≡ tag.Facet s j → (tag_at h o ≡ tag.Facet s j) ⊎ (s ≡ r)
-unfolding facets.facets
-names_of_facets r [] h z f of o s j is = inl is
-names_of_facets r (n ∷ ns) h z f of o s j is =
-    let own = rooted (owner_of z.doc n) r of.0 in
-    let g = facet n h z in
-    elim (names_of_facets r ns g.heap g.lent (facet_keeps n r own.0 h z f own.1) of.1 o s j is) [
-      | inl before ↦ names_of_facet n r own.0 h z own.1 o s j before
-      | inr mine ↦ inr mine
-    ]
-
 -- a new array stands for no node
-array_shows : (r by : ℕ) (h g : Objects) (xs : List Value) → ((o s j : ℕ) → tag_at g o ≡ tag.Facet s j → (tag_at h o ≡ tag.Facet s j) ⊎ (s ≡ r)) → Shows r h (new_array by g xs).heap (new_array by g xs).reply
-array_shows r by h g xs names = record {
-  names = λ o s k is. names o s k ((keeps-array by g xs o).no_name s k is);
+array_shows : (r by : ℕ) (h g : Objects) (xs : List Value) → g ≡ h → Shows r h (new_array by g xs).heap (new_array by g xs).reply
+array_shows r by h g xs same = record {
+  names = λ o s k is. ap (λ i. tag_at i o) (sym same) ∙ (keeps-array by g xs o).no_name s k is;
   answer = λ o s k e is. absurd (at (nat_lt (length xs) most_items) o s k e ((keeps-array by g xs o).no_name s k is));
 }
   where
@@ -103,29 +78,30 @@ told_shows : (r : ℕ) (q : Asked) (t : Told) (x : Value) (by : ℕ) (h : Object
 told_shows r q told_undefined x by h z f of mine = quiet r h h (value_reply v.Undefined) (keeps-same h) (λ o e. cc)
 told_shows r q told_null x by h z f of mine = quiet r h h (value_reply v.Null) (keeps-same h) (λ o e. cc)
 told_shows r q (told_text us) x by h z f of mine = quiet r h h (value_reply (v.Text us)) (keeps-same h) (λ o e. cc)
-told_shows r q told_argument x by h z f of mine = record { names = λ o s k is. inl is; answer = λ o s k e is. mine of.0 o s k of.1 of.2 (cc (e)) is }
+told_shows r q told_argument x by h z f of mine = record { names = λ o s k is. is; answer = λ o s k e is. mine of.0 o s k of.1 of.2 (cc (e)) is }
 told_shows r q (told_node n) x by h z f of mine =
     let own = rooted (owner_of z.doc n) r of in
     record {
-      names = names_of_facet n r own.0 h z own.1;
+      names = λ o s k is. ap (λ i. tag_at i o) (sym (asking_makes_none h z n r own.0 f own.1).0) ∙ is;
       answer = λ o s k e is.
           let same : (facet n h z).object ≡ o = cc (e) in
-          same_name r own.0 s k (sym (object_named n r own.0 h z f own.1) ∙ (ap (tag_at (facet n h z).heap) same ∙ is));
+          same_name r own.0 s k (sym (facet_is_named h z n r own.0 f own.1) ∙ (ap (tag_at (facet n h z).heap) same ∙ is));
     }
-told_shows r q (told_nodes ns) x by h z f of mine =
-    let g = facets.facets ns z.doc h z.facets in
-    array_shows r by h g.heap g.values (names_of_facets r ns h z f of)
+told_shows r q (told_nodes ns) x by h z f of mine = let g = facets.facets ns z.doc h z.facets in array_shows r by h g.heap g.values (facets_same r ns h z f of).0
 told_shows r q (told_error e) x by h z f of mine = quiet r h (throws (message_of e) by h).heap (throws (message_of e) by h).reply (keeps-thrown (message_of e) by h) (λ o k. cc)
 
--- what is told changes nothing of what is lent but which nodes have objects
-told_state : (t : Told) (x : Value) (by : ℕ) (h : Objects) (z : Lent) → (fs : List (Option ℕ)) × ((told_turn t x by h z).state ≡ with_facets fs z)
-told_state told_undefined x by h z = (z.facets, refl)
-told_state told_null x by h z = (z.facets, refl)
-told_state told_argument x by h z = (z.facets, refl)
-told_state (told_text us) x by h z = (z.facets, refl)
-told_state (told_node n) x by h z = (_, refl)
-told_state (told_nodes ns) x by h z = (_, refl)
-told_state (told_error e) x by h z = (z.facets, refl)
+-- what is told changes nothing of what is lent
+told_state : (r : ℕ) (q : Asked) (t : Told) (x : Value) (by : ℕ) (h : Objects) (z : Lent) → Fits h z → IsToldOf r q z.doc t → (told_turn t x by h z).state ≡ z
+told_state r q told_undefined x by h z f of = refl
+told_state r q told_null x by h z f of = refl
+told_state r q told_argument x by h z f of = refl
+told_state r q (told_text us) x by h z f of = refl
+told_state r q (told_node n) x by h z f of = let own = rooted (owner_of z.doc n) r of in (asking_makes_none h z n r own.0 f own.1).1
+told_state r q (told_nodes ns) x by h z f of = ap (λ fs. with_facets fs z) (facets_same r ns h z f of).1
+told_state r q (told_error e) x by h z f of = refl
+
+no_more : (hs : List Handler) → hs ≡ hs ++ []
+no_more hs = sym (append-nil hs)
 
 -- nothing of what is lent changes
 still : (r : ℕ) (h g : Objects) (z y : Lent) (reply : Reply) → y.doc ≡ z.doc → y.handlers ≡ z.handlers → ◌≡◌ {A = Option Change} y.change None → Shows r h g reply → StaysWithin r h z (record { reply = reply; heap = g; state = y })
@@ -134,7 +110,8 @@ still r h g z y reply doc handlers line shows = record {
   within = subst (IsWithin r z.doc) (sym doc) (within_same r z.doc);
   line = λ c is. cc (line, is);
   handlers = λ j ne. ap (listening j) handlers;
-  names = shows.names;
+  registered = ([], handlers ∙ no_more z.handlers, tt);
+  names = λ o s k is. inl (shows.names o s k is);
   answer = shows.answer;
 }
 
@@ -158,18 +135,31 @@ asked_within a (Ok (Some q)) n r x by h z f is there mine =
     let e = deed a q n z.doc in
     let of = deed_is_of_root a q n r z.doc f.doc is (there q refl) in
     let y = with_deed e (told z) in
-    let fits : Fits h y = deed_fits h z e.doc e.change f of.reached of.grows in
-    let child = λ (c o s k : ℕ) (given : children_given q ≡ c ∷ []) (root : root_in (owner_of e.doc c) ≡ Some r).
+    let new = length z.doc.rows in
+    let g = grown new h y in
+    let left = grown_lent new h y in
+    let fits : Fits g.heap g.lent = deed_fits a q n r h (told z) (line_fits h z None f) of in
+    let tells = deed_told a q n r h (told z) of in
+    let names = grown_names new r h y (λ more. of.within.new new (omega arith) more) in
+    let child : (c o s k : ℕ) → children_given q ≡ c ∷ [] → root_in (owner_of g.lent.doc c) ≡ Some r → x ≡ v.Obj o → tag_at g.heap o ≡ tag.Facet s k → s ≡ r = λ c o s k given root at name.
     let here : AreThere z.doc (c ∷ []) = subst (AreThere z.doc) given (there q refl) in
-    mine q c o s k refl given (ap root_in (sym (of.grows.owners c here.0)) ∙ root) in
-    let shows = told_shows r q e.told x by h y fits of.told child in
-    let left = told_state e.told x by h y in
+    let was : root_in (owner_of z.doc c) ≡ Some r = ap root_in (sym (of.grows.owners c here.0)) ∙ ap (λ (w : Lent). root_in (owner_of w.doc c)) (sym left.1) ∙ root in
+    elim (names o s k name) [
+      | inl before ↦ mine q c o s k refl given was at before
+      | inr next ↦ next.0
+    ] in
+    let shows = told_shows r q e.told x by g.heap g.lent fits tells child in
+    let all = told_state r q e.told x by g.heap g.lent fits tells ∙ left.1 in
     record {
-      grows = subst (λ (w : Lent). Grows z.doc w.doc) (sym left.1) of.grows;
-      within = subst (λ (w : Lent). IsWithin r z.doc w.doc) (sym left.1) of.within;
-      line = λ c l. of.line c (ap (λ (w : Lent). w.change) (sym left.1) ∙ l);
-      handlers = λ j ne. ap (λ (w : Lent). listening j w.handlers) left.1;
-      names = shows.names;
+      grows = subst (λ (w : Lent). Grows z.doc w.doc) (sym all) of.grows;
+      within = subst (λ (w : Lent). IsWithin r z.doc w.doc) (sym all) of.within;
+      line = λ c l. of.line c (ap (λ (w : Lent). w.change) (sym all) ∙ l);
+      handlers = λ j ne. ap (λ (w : Lent). listening j w.handlers) all;
+      registered = ([], ap (λ (w : Lent). w.handlers) all ∙ no_more z.handlers, tt);
+      names = λ o s k named. elim (names o s k (shows.names o s k named)) [
+        | inl before ↦ inl before
+        | inr next ↦ inr (next.0, next.1, ap (λ (w : Lent). owner_of w.doc new) all ∙ next.2)
+      ];
       answer = shows.answer;
     }
 asked_within a (Ok None) n r x by h z f is there mine = thrown_within r (codes "bad argument") by h z
@@ -181,7 +171,8 @@ listens_within (Some k) true x n r by h z is = record {
   grows = grows-same_doc z.doc;
   within = within_same r z.doc;
   line = λ c l. cc;
-  handlers = λ j ne. other_listening n j (record { kind = k; function = x }) z.handlers (λ e. ne (ap (λ i. root_in (owner_of z.doc i)) e ∙ is));
+  handlers = λ j ne. other_listening n j k x z.handlers (λ e. ne (ap (λ i. root_in (owner_of z.doc i)) e ∙ is));
+  registered = (record { node = n; kind = k; function = x } ∷ [], refl, (is, tt));
   names = λ o s i l. inl l;
   answer = λ o s i e l. cc (e);
 }

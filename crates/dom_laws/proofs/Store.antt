@@ -10,9 +10,9 @@ use Rattle.es3_objects.specs.declared.value.Tag.{Tag}
 use Rattle.es3_objects.specs.declared.value.Tag.TheVariants as tag
 use Rattle.es3_objects.specs.Reading.{kind_of}
 use Rattle.es3_heap.specs.Objects.{Property, Object, Objects, object_at, props_of, class_of, with_object, replaced}
-use Rattle.es3_heap.specs.Properties.{can_put, with_props, put, define, delete, lengthened, written}
-use Rattle.es3_heap.specs.Items.{set_items, last_item, left_without, without_last}
-use Rattle.es3_heap.specs.Making.{made, made_function, array_object, error_object, plain_object, bare, is_untagged, awaits_name, with_tag, named, count_at, raised}
+use Rattle.es3_heap.specs.Properties.{can_put, with_props, put, lengthened, written}
+use Rattle.es3_heap.specs.Items.{last_item, left_without}
+use Rattle.es3_heap.specs.Making.{array_object, error_object, plain_object, bare, is_untagged, awaits_name, with_tag, named, count_at, raised}
 use Rattle.doc_laws.proofs.Lists.{get_push, get_push_other, get_past, get_set, get_set_other, apart}
 use Rattle.dom_laws.specs.Store.{is_code, Alike, Keeps, StoreKeeps}
 

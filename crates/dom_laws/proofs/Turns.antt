@@ -1,7 +1,6 @@
 -- A call of a method of a node keeps what holds between the store and what is lent.
-use Rattle.std.proofs.Common.{◌≡◌, ◌≢◌, ℕ, ◌<◌, Bool, true, false, List, [], ◌∷◌, ◌++◌, Option, Some, None, Result, Ok, Err, length, cond, refl, sym, ap, ◌∙◌, subst}
-use Rattle.std.specs.Prelude.{nat_lt, codes, option_map, is_some}
-use Rattle.std.proofs.Math.Dec.{eqb}
+use Rattle.std.proofs.Common.{◌≡◌, ◌≢◌, ℕ, ◌<◌, Bool, true, false, List, [], ◌∷◌, ◌++◌, Option, Some, None, Result, Ok, Err, length, cond, refl, sym, ap, ◌∙◌, subst, arith}
+use Rattle.std.specs.Prelude.{nat_lt, nat_eq, codes, option_map, is_some}
 use Rattle.std.proofs.lemmas.Bool.{eqb-true}
 use Rattle.plans.specs.Plans.{Fault}
 use Rattle.es3_objects.specs.declared.value.Value.{Value}
@@ -28,32 +27,30 @@ use Rattle.row_outcomes.specs.Arrays.{new_array}
 use Rattle.html_kept.specs.Table.{Answers}
 use Rattle.doc_nodes.specs.Rows.{Doc, owner_of}
 use Rattle.doc_nodes.specs.Changes.{root_in}
-use Rattle.doc_laws.specs.Owned.{Owned, Grows}
-use Rattle.doc_laws.specs.Reached.{Reached}
-use Rattle.doc_laws.proofs.Lists.{apart}
+use Rattle.doc_laws.specs.Owned.{Owned}
 use Rattle.node_deeds.specs.declared.told.Change.{Change}
 use Rattle.node_deeds.specs.declared.deeds.Asked.{Asked}
 use Rattle.node_deeds.specs.declared.deeds.Asked.TheVariants as asked
 use Rattle.node_deeds.specs.Told.{Told, told_undefined, told_null, told_argument, told_text, told_node, told_nodes, told_error, message_of}
 use Rattle.node_deeds.specs.Deeds.{deed}
-use Rattle.deed_laws.specs.Deeds.{children_given, AreThere, AreOf, IsToldOf}
+use Rattle.deed_laws.specs.Deeds.{children_given, AreThere, AreOf, IsToldOf, IsOfRoot}
 use Rattle.deed_laws.proofs.Deeds.{deed_is_of_root, owner_there}
 use Rattle.dom_facets.specs.Facets as facets
 use Rattle.dom_facets.specs.Facets.{node_in_tag, node_of}
-use Rattle.dom_facets.proofs.Padded.{put_there, put_elsewhere}
 use Rattle.dom_handlers.specs.declared.kinds.EventKind.{EventKind}
 use Rattle.dom_handlers.specs.declared.kinds.Handler.{Handler}
 use Rattle.dom_handlers.specs.Handlers.{kind_of, listening, registered}
 use Rattle.dom_handlers.specs.Closures.{is_closure, object_may_listen, may_listen}
 use Rattle.tamed_dom.specs.declared.methods.NodeMethod.{NodeMethod}
 use Rattle.tamed_dom.specs.declared.methods.NodeMethod.TheVariants as m
-use Rattle.tamed_dom.specs.Lent.{Lent, told, with_facets, with_deed, with_handler, facet}
+use Rattle.tamed_dom.specs.Lent.{Lent, told, with_facets, with_deed, with_handler, grown}
 use Rattle.tamed_dom.specs.Ends.{threw}
 use Rattle.tamed_dom.specs.Methods.{told_turn, with_text, given, asked_turn, listens, on_turn, is_on, method_turn, received, node_turn}
 use Rattle.dom_laws.specs.Store.{tag_at, is_code, runs_code, IsOfText, Keeps}
 use Rattle.dom_laws.specs.Fits.{AreOfTexts, Fits}
 use Rattle.dom_laws.proofs.Store.{keeps-same, keeps-then, keeps-new, keeps-named}
-use Rattle.dom_laws.proofs.Fits.{facet_keeps, others_keep}
+use Rattle.dom_laws.proofs.Fits.{facet_is, facet_keeps, others_keep}
+use Rattle.dom_laws.proofs.Grown.{deed_makes_one, rooted, grown_lent, grown_fits}
 
 -- a new object that is no node, made by a module
 pub keeps-made : (h : Objects) (x : Object) (by : ℕ) → x.tag ≡ tag.None → (x.class ≡ class.Node → ⊥) → Keeps h (named (with_object h x) (length h.list) by)
@@ -69,33 +66,18 @@ keeps-array by h xs = elim (nat_lt (length xs) most_items) as (λ b. Keeps h (co
 ]
 
 -- the line is another
-line_fits : (h : Objects) (z : Lent) (c : Option Change) → Fits h z → Fits h (record { doc = z.doc; facets = z.facets; handlers = z.handlers; change = c })
-line_fits h z c f = record { doc = f.doc; kept = f.kept; named = f.named; nodes = f.nodes; handlers = f.handlers }
+pub line_fits : (h : Objects) (z : Lent) (c : Option Change) → Fits h z → Fits h (record { doc = z.doc; facets = z.facets; handlers = z.handlers; change = c })
+line_fits h z c f = record { doc = f.doc; kept = f.kept; named = f.named; nodes = f.nodes; there = f.there; handlers = f.handlers }
 
--- the document is another, with all owners that there were
-pub deed_fits : (h : Objects) (z : Lent) (d : Doc) (c : Option Change) → Fits h z → Reached d → Grows z.doc d → Fits h (record { doc = d; facets = z.facets; handlers = z.handlers; change = c })
-deed_fits h z d c f a grows =
-    let on = λ (n r k : ℕ) (is : owner_of z.doc n ≡ Some (r, k)). grows.owners n (owner_there z.doc n r f.doc.owned (ap root_in is)) ∙ is in
-    record {
-      doc = a;
-      kept = λ n o is. let q = f.kept n o is in (q.0, q.1, on n q.0 q.1 q.2, q.3);
-      named = λ o r k is. let q = f.named o r k is in (q.0, on q.0 r k q.1, q.2);
-      nodes = f.nodes;
-      handlers = f.handlers;
-    }
-
--- a node of a root has a number there
-pub rooted : (o : Option (ℕ × ℕ)) (r : ℕ) → root_in o ≡ Some r → (k : ℕ) × (o ≡ Some (r, k))
-rooted None r is = cc
-rooted (Some o) r is = let one : o.0 ≡ r = cc in (o.1, ap (λ x. Some (x, o.1)) one)
-
-pub facets_keep : (r : ℕ) (ns : List ℕ) (h : Objects) (z : Lent) → Fits h z → AreOf r z.doc ns → let f = facets.facets ns z.doc h z.facets in Fits f.heap (with_facets f.facets z)
+-- the objects of some nodes are there
+pub facets_same : (r : ℕ) (ns : List ℕ) (h : Objects) (z : Lent) → Fits h z → AreOf r z.doc ns → ((facets.facets ns z.doc h z.facets).heap ≡ h) × ((facets.facets ns z.doc h z.facets).facets ≡ z.facets)
 unfolding facets.facets
-facets_keep r [] h z f of = f
-facets_keep r (n ∷ ns) h z f of =
+facets_same r [] h z f of = (refl, refl)
+facets_same r (n ∷ ns) h z f of =
     let own = rooted (owner_of z.doc n) r of.0 in
-    let g = facet n h z in
-    facets_keep r ns g.heap g.lent (facet_keeps n r own.0 h z f own.1) of.1
+    let first = facet_is n r own.0 h z f own.1 in
+    let rest = facets_same r ns h z f of.1 in
+    (ap (λ g. (facets.facets ns z.doc g.heap g.facets).heap) first.2 ∙ rest.0, ap (λ g. (facets.facets ns z.doc g.heap g.facets).facets) first.2 ∙ rest.1)
 
 threw_fits : (message : List ℕ) (by : ℕ) (h : Objects) (z : Lent) → Fits h z → Fits (threw message by h z).heap (threw message by h z).state
 threw_fits message by h z f = others_keep h (throws message by h).heap z f (keeps-thrown message by h)
@@ -109,7 +91,9 @@ told_fits r q (told_text us) x by h z f of = f
 told_fits r q (told_node n) x by h z f of = let own = rooted (owner_of z.doc n) r of in facet_keeps n r own.0 h z f own.1
 told_fits r q (told_nodes ns) x by h z f of =
     let g = facets.facets ns z.doc h z.facets in
-    others_keep g.heap (new_array by g.heap g.values).heap (with_facets g.facets z) (facets_keep r ns h z f of) (keeps-array by g.heap g.values)
+    let same = facets_same r ns h z f of in
+    let before : Fits g.heap (with_facets g.facets z) = subst (λ k. Fits k (with_facets g.facets z)) (sym same.0) (subst (λ fs. Fits h (with_facets fs z)) (sym same.1) f) in
+    others_keep g.heap (new_array by g.heap g.values).heap (with_facets g.facets z) before (keeps-array by g.heap g.values)
 told_fits r q (told_error e) x by h z f of = threw_fits (message_of e) by h z f
 
 -- a value that stands for a node
@@ -206,13 +190,28 @@ given_node m.AppendChild args h d q c is child = node_child asked.AppendChild (n
 given_node m.RemoveChild args h d q c is child = node_child asked.RemoveChild (node_of h d (argument 0 args)) q c (λ i. refl) is child
 given_node m.On args h d q c is child = cc (is)
 
+-- a deed at a node of a root, with the object of the node that it makes
+
+pub deed_fits : (a : Answers) (q : Asked) (n r : ℕ) (h : Objects) (z : Lent) → Fits h z → IsOfRoot r q z.doc (deed a q n z.doc) → let g = grown (length z.doc.rows) h (with_deed (deed a q n z.doc) z) in Fits g.heap g.lent
+deed_fits a q n r h z f of =
+    let e = deed a q n z.doc in
+    grown_fits h z e.doc e.change f of.reached of.grows r (deed_makes_one a q n z.doc) (λ more. of.within.new (length z.doc.rows) (omega arith) more)
+
+pub deed_told : (a : Answers) (q : Asked) (n r : ℕ) (h : Objects) (z : Lent) → IsOfRoot r q z.doc (deed a q n z.doc)
+    → IsToldOf r q (grown (length z.doc.rows) h (with_deed (deed a q n z.doc) z)).lent.doc (deed a q n z.doc).told
+deed_told a q n r h z of =
+    let e = deed a q n z.doc in
+    let left = grown_lent (length z.doc.rows) h (with_deed e z) in
+    subst (λ (w : Lent). IsToldOf r q w.doc e.told) (sym left.1) of.told
+
 -- what is asked of a node
 asked_fits : (a : Answers) (g : Result (Option Asked) Fault) (n r : ℕ) (x : Value) (by : ℕ) (h : Objects) (z : Lent) → Fits h z → root_in (owner_of z.doc n) ≡ Some r → ((q : Asked) → Gives g q → AreThere z.doc (children_given q))
     → Fits (asked_turn a g n x by h z).heap (asked_turn a g n x by h z).state
 asked_fits a (Ok (Some q)) n r x by h z f is there =
     let e = deed a q n z.doc in
     let of = deed_is_of_root a q n r z.doc f.doc is (there q refl) in
-    told_fits r q e.told x by h (with_deed e z) (deed_fits h z e.doc e.change f of.reached of.grows) of.told
+    let g = grown (length z.doc.rows) h (with_deed e z) in
+    told_fits r q e.told x by g.heap g.lent (deed_fits a q n r h z f of) (deed_told a q n r h z of)
 asked_fits a (Ok None) n r x by h z f is there = threw_fits (codes "bad argument") by h z f
 asked_fits a (Err e) n r x by h z f is there = f
 
@@ -243,29 +242,27 @@ texts-append : (h : Objects) (xs : List Handler) (x : Handler) → AreOfTexts h 
 texts-append h [] x are is = (is, tt)
 texts-append h (y ∷ ys) x are is = (are.0, texts-append h ys x are.1 is)
 
--- the handlers of a node, and of another one
-pub own_listening : (n : ℕ) (x : Handler) (hs : List (List Handler)) → listening n (registered n x hs) ≡ listening n hs ++ x ∷ []
-own_listening n x hs = put_there [] n (listening n hs ++ x ∷ []) hs
-
-pub other_listening : (n j : ℕ) (x : Handler) (hs : List (List Handler)) → j ≢ n → listening j (registered n x hs) ≡ listening j hs
-other_listening n j x hs ne = put_elsewhere [] n j (listening n hs ++ x ∷ []) hs ne
+-- the handlers of another node
+pub other_listening : (n j : ℕ) (k : EventKind) (x : Value) (hs : List Handler) → j ≢ n → listening j (registered n k x hs) ≡ listening j hs
+other_listening n j k x [] ne =
+    let new : Handler = record { node = n; kind = k; function = x } in
+    let cases = elim (nat_eq n j) as (λ b. nat_eq n j ≡ b → cond b (new ∷ []) [] ≡ []) [
+      | true ↦ λ yes. absurd (ne (sym (eqb-true n j yes)))
+      | false ↦ λ other. refl
+    ] in cases refl
+other_listening n j k x (y ∷ ys) ne =
+    let rest = other_listening n j k x ys ne in
+    elim (nat_eq y.node j) as (λ b. cond b (y ∷ listening j (registered n k x ys)) (listening j (registered n k x ys)) ≡ cond b (y ∷ listening j ys) (listening j ys)) [ true ↦ ap (λ hs. y ∷ hs) rest | false ↦ rest ]
 
 handler_fits : (k : EventKind) (x : Value) (n : ℕ) (h : Objects) (z : Lent) → Fits h z → IsOfText h x → Fits h (with_handler k x n z)
-handler_fits k x n h z f is =
-    let new : Handler = record { kind = k; function = x } in
-    record {
-      doc = f.doc;
-      kept = f.kept;
-      named = f.named;
-      nodes = f.nodes;
-      handlers = λ j.
-          let cases = elim (eqb j n) as (λ b. eqb j n ≡ b → AreOfTexts h (listening j (registered n new z.handlers))) [
-            | true ↦ λ yes.
-                let same : j ≡ n = eqb-true j n yes in
-                subst (AreOfTexts h) (sym (ap (λ i. listening i (registered n new z.handlers)) same ∙ own_listening n new z.handlers)) (texts-append h (listening n z.handlers) new (f.handlers n) is)
-            | false ↦ λ other. subst (AreOfTexts h) (sym (other_listening n j new z.handlers (apart j n other))) (f.handlers j)
-          ] in cases refl;
-    }
+handler_fits k x n h z f is = record {
+  doc = f.doc;
+  kept = f.kept;
+  named = f.named;
+  nodes = f.nodes;
+  there = f.there;
+  handlers = texts-append h z.handlers (record { node = n; kind = k; function = x }) f.handlers is;
+}
 
 listens_fits : (o : Option EventKind) (b : Bool) (x : Value) (n by : ℕ) (h : Objects) (z : Lent) → Fits h z → may_listen h x ≡ b → Fits (listens o b x n by h z).heap (listens o b x n by h z).state
 listens_fits (Some k) true x n by h z f is = handler_fits k x n h z f (of_a_text h x is)

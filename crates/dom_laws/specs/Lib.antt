@@ -1,3 +1,4 @@
 pub mod Store
 pub mod Fits
 pub mod Roots
+pub mod Objects

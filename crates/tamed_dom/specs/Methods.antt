@@ -1,5 +1,5 @@
 -- The methods of nodes among objects: the receiver, then what is taken of the arguments, then the deed on the document, and what is told of it as a value.
-use Rattle.std.specs.Prelude.{ℕ, Bool, true, false, List, Option, Some, None, Result, Ok, Err, option_map, codes, if◌then◌else◌}
+use Rattle.std.specs.Prelude.{ℕ, Bool, true, false, List, Option, Some, None, Result, Ok, Err, length, option_map, codes, if◌then◌else◌}
 use Rattle.plans.specs.Plans.{Fault}
 use Rattle.es3_objects.specs.declared.value.Value.{Value}
 use Rattle.es3_objects.specs.declared.value.Value.TheVariants as v
@@ -21,7 +21,7 @@ use Rattle.dom_handlers.specs.Handlers.{kind_of}
 use Rattle.dom_handlers.specs.Closures.{may_listen}
 use Rattle.tamed_dom.specs.declared.methods.NodeMethod.{NodeMethod}
 use Rattle.tamed_dom.specs.declared.methods.NodeMethod.TheVariants as m
-use Rattle.tamed_dom.specs.Lent.{Lent, told, with_facets, with_deed, with_handler, Facet, facet}
+use Rattle.tamed_dom.specs.Lent.{Lent, told, with_facets, with_deed, with_handler, Facet, facet, grown}
 use Rattle.tamed_dom.specs.Ends.{turn_of, gives, stops, threw}
 
 -- what is told of a deed, as a value; x is the first argument
@@ -42,8 +42,9 @@ told_turn (told_node n) x by h z = shown (facet n h z)
 told_turn (told_nodes ns) x by h z = shown_all by (facets.facets ns z.doc h z.facets) z
 told_turn (told_error e) x by h z = threw (message_of e) by h z
 
+-- the node that a deed makes has its object before anything is told
 abbrev pub deed_turn : Deed → Value → ℕ → Objects → Lent → Turn Lent
-deed_turn e x by h z = told_turn e.told x by h (with_deed e z)
+deed_turn e x by h z = let g = grown (length z.doc.rows) h (with_deed e z) in told_turn e.told x by g.heap g.lent
 
 -- what is taken of the arguments: texts are converted from the left; an argument that is to be a node and isn't gives nothing. `on` asks nothing of the document
 

@@ -99,9 +99,11 @@ fn ask<F: Asks>(
 {
     match given(alloc, h, &d.doc, method, args)? {
         Some(asked) => {
+            let before = d.count();
             let told = d
                 .perform(alloc, n, asked, urls, base)
                 .map_err(out_of_memory)?;
+            d.grow(h, before).map_err(out_of_memory)?;
             tell(alloc, h, d, by, told, value_or(args, 0, &Value::Undefined))
         }
         None => thrown(alloc, h, by, b"bad argument"),

@@ -8,7 +8,7 @@ ghost use Rattle.node_deeds.specs.Told.{as_told};
 ghost use Rattle.node_deeds.specs.Deeds.{deed};
 ghost use Rattle.dom_facets.specs.Facets.{node_of, facets};
 ghost use Rattle.dom_handlers.specs.Handlers.{functions_of};
-ghost use Rattle.tamed_dom.specs.Lent.{new_lent, told, with_facets, with_deed, with_handler, facet as facet_of};
+ghost use Rattle.tamed_dom.specs.Lent.{new_lent, told, with_facets, with_deed, with_handler, begun, grown, facet as facet_of};
 
 use caja_units::Memory;
 use doc_tree::{Document, NodeId};
@@ -21,7 +21,7 @@ use std::marker::Model;
 use url::Url;
 use url_rule::{Asks, UriRule};
 
-/// The document of a page; for each node the object that stands for it, where there is one, and what is called when something happens to it; and the line of the last change.
+/// The document of a page; for each node the object that stands for it; what is called when something happens to nodes; and the line of the last change.
 #[derive(Drop)]
 pub struct Dom {
     pub doc: Document,
@@ -40,7 +40,7 @@ impl Model for Dom {
 
 impl Dom {
     /// A document without objects for its nodes and without handlers.
-    pub fn new(alloc: Global, doc: Document) -> Dom
+    fn new(alloc: Global, doc: Document) -> Dom
         ensures { result ≡ new_lent doc }
     {
         Dom {
@@ -49,6 +49,22 @@ impl Dom {
             handlers: Handlers::new(alloc),
             change: None,
         }
+    }
+
+    /// Where a page begins: each node of so many first granted roots, of all that there are, gets its object in the store, those of one root behind those of the root before, in the order of their
+    /// numbers there. There is no handler.
+    ///
+    /// # Errors
+    ///
+    /// `Memory` where memory is wanting; then each object of the store is still there.
+    pub fn begin(alloc: Global, h: &mut Heap, doc: Document, roots: u32) -> Result<Dom, Memory>
+        ensures dom { IfOk result (λ d. d ≡ (begun roots doc h.old).lent) }
+        ensures heap { OnOk result (h.new ≡ (begun roots doc h.old).heap) }
+        ensures live { length h.old.list ≤ length h.new.list }
+    {
+        let mut dom = Dom::new(alloc, doc);
+        dom.facets.make_all(h, &dom.doc, roots)?;
+        Ok(dom)
     }
 
     /// Takes the line of the change that the last method of a node made. None exactly where none was called yet, the last one made no line, or that line was taken. It takes no memory.
@@ -96,6 +112,30 @@ impl Dom {
         let Done { told, change } = perform(alloc, &mut self.doc, n, asked, urls, base)?;
         self.change = change;
         Ok(told)
+    }
+
+    /// How many nodes there are.
+    pub(crate) fn count(&self) -> usize
+        ensures { result ≡ length self.now.doc.rows }
+    {
+        self.doc.count()
+    }
+
+    /// Makes the object of the node that was made last, where there were so many nodes before it.
+    #[tactic(auto, unfolding(crate::specs::Lent::grown))]
+    pub(crate) fn grow(&mut self, h: &mut Heap, before: usize) -> Result<(), Memory>
+        ensures heap { OnOk result (h.new ≡ (grown before h.old self.old).heap) }
+        ensures kept { OnOk result (self.new ≡ (grown before h.old self.old).lent) }
+        ensures live { length h.old.list ≤ length h.new.list }
+    {
+        if before < self.doc.count() {
+            // A document has fewer than 2^32 nodes.
+            let Ok(number) = u32::try_from(before) else {
+                return Err(Memory);
+            };
+            self.facets.make(h, &self.doc, NodeId::new(number))?;
+        }
+        Ok(())
     }
 
     /// Registers what is called when this happens to a node.

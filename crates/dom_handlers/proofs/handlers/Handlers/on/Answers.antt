@@ -1,37 +1,20 @@
-use Rattle.std.proofs.Common.{◌<◌, ◌+◌, [], length, ap, ◌∙◌, arith}
-use Rattle.std.specs.List.{list_all}
-use Rattle.dom_facets.specs.Places.{padded}
-use Rattle.dom_handlers.specs.Handlers.{registered}
-use Rattle.dom_handlers.specs.Kept.{are_taken}
-use Rattle.dom_handlers.proofs.Kept.{taken_unpushed, taken_registered, found_registered}
+use Rattle.std.proofs.Common.{◌≡◌, ◌<◌, length, sym, ap, ◌∙◌, subst, arith}
+use Rattle.std.specs.Prelude.{slice_set}
+use Rattle.dom_handlers.specs.Kept.{places_from, AreKept}
+use Rattle.dom_handlers.proofs.Kept.{kept_unpushed, kept_registered}
 use Rattle.dom_handlers.proofs.handlers.Handlers.on.Goals as goal
-
-pub invariant_of-self : goal.invariant_of-self
-invariant_of-self c = c.in_err-reach.ensures.taken c.self.inside.handlers ∙ c.self.invariant
-
-pub invariant_of-self-in_err-key : goal.invariant_of-self-in_err-key
-invariant_of-self-in_err-key c =
-    ap (λ s. list_all (λ ks. are_taken s ks.items) c.reach.new.keys.items) c.in_err-key.ensures.err ∙ (c.in_ok-reach.ensures.taken c.self.inside.handlers ∙ c.self.invariant)
 
 pub invariant_of-self-in_err-push : goal.invariant_of-self-in_err-push
 invariant_of-self-in_err-push c =
-    let all = c.in_ok-reach.ensures.taken c.self.inside.handlers ∙ c.self.invariant in
-    let there : c.number-at.result < length c.reach.new.keys.items = omega (arith, c.in_ok-reach.ensures.long) in
-    taken_unpushed c.self.inside.handlers c.insert.new.self c.in_ok-key.key _ c.in_ok-key.ensures.was_vacant c.in_ok-key.ensures.updates (λ ks. ks.items) c.reach.new.keys.items all c.number-at.result there
-    c.index_mut.result.now c.index_mut.ensures.value c.push.new.self c.in_err-push.ensures.items
+    let there : c.number-at.result < length c.reach.new.places.items = omega (arith, c.in_ok-reach.ensures.long) in
+    let kept : AreKept (λ ps. ps.items) c.reach.new.places.items c.reserve.new.self.items = λ n. c.in_ok-reach.ensures.same n ∙ c.self.invariant n ∙ ap (places_from 0 n) (sym c.reserve.ensures.items) in
+    kept_unpushed (λ ps. ps.items) c.reach.new.places.items c.reserve.new.self.items c.number-at.result c.index_mut.result.now c.push.new.self kept there c.index_mut.ensures.value c.in_err-push.ensures.items
 
 pub invariant_of-self-2 : goal.invariant_of-self-2
 invariant_of-self-2 c =
-    let all = c.in_ok-reach.ensures.taken c.self.inside.handlers ∙ c.self.invariant in
-    let there : c.number-at.result < length c.reach.new.keys.items = omega (arith, c.in_ok-reach.ensures.long) in
-    taken_registered c.self.inside.handlers c.insert.new.self c.in_ok-key.key _ c.in_ok-key.ensures.was_vacant c.in_ok-key.ensures.updates (λ ks. ks.items) c.reach.new.keys.items all c.number-at.result there
-    c.index_mut.result.now c.index_mut.ensures.value c.push.new.self c.in_ok-push.ensures.items
-
-pub returns : goal.returns
-returns c =
-    let all = c.in_ok-reach.ensures.taken c.self.inside.handlers ∙ c.self.invariant in
-    let there : c.number-at.result < length c.reach.new.keys.items = omega (arith, c.in_ok-reach.ensures.long) in
-    let made = c.in_ok-reach.ensures.found c.self.inside.handlers ∙ ap (padded [] (c.number-at.result + 1)) c.self.view_is in
-    found_registered c.self.inside.handlers c.insert.new.self c.in_ok-key.key _ c.in_ok-key.ensures.was_vacant c.in_ok-key.ensures.updates (λ ks. ks.items) c.reach.new.keys.items all c.number-at.result there
-    c.index_mut.result.now c.index_mut.ensures.value c.push.new.self c.in_ok-push.ensures.items c.args.self.now made
-    ∙ ap (λ n. registered n (record { kind = c.args.kind; function = c.args.function }) c.args.self.now) c.number-at.ensures
+    let there : c.number-at.result < length c.reach.new.places.items = omega (arith, c.in_ok-reach.ensures.long) in
+    let kept : AreKept (λ ps. ps.items) c.reach.new.places.items c.reserve.new.self.items = λ n. c.in_ok-reach.ensures.same n ∙ c.self.invariant n ∙ ap (places_from 0 n) (sym c.reserve.ensures.items) in
+    let last : c.len-place.result ≡ length c.reserve.new.self.items = omega (arith, c.len-place.ensures) in
+    let pushed = c.in_ok-push-2.ensures.items in
+    subst (AreKept (λ ps. ps.items) (slice_set c.reach.new.places.items c.number-at.result c.push.new.self)) (sym pushed)
+    (kept_registered (λ ps. ps.items) c.reach.new.places.items c.reserve.new.self.items c.number-at.result c.len-place.result _ c.index_mut.result.now c.push.new.self kept there c.index_mut.ensures.value c.in_ok-push.ensures.items (sym c.number-at.ensures) last)

@@ -1,0 +1,17 @@
+pub mod Lists
+pub mod Views
+pub mod Edited
+pub mod Grown
+pub mod Removed
+pub mod Marked
+pub mod Created
+pub mod Appended
+pub mod Texted
+pub mod Ways
+pub mod Below
+pub mod Above
+pub mod Clear
+pub mod Came
+pub mod Clean
+pub mod Rowed
+pub mod Found

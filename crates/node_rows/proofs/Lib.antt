@@ -1,0 +1,13 @@
+pub mod Lists
+pub mod Growth
+pub mod Changed
+pub mod Pages
+pub mod Ends
+pub mod Received
+pub mod Rows
+pub mod Ended
+pub mod Children
+pub mod Listening
+pub mod Methods
+pub mod Events
+pub mod Begun
