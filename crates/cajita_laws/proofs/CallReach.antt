@@ -90,7 +90,7 @@ module _ (rules : Rules) (had : Had) where
       f _ _ (scopes_changed had m _ j (declared_has (Known had (noted (made m (W.next_name m w)) z) m) n (codes "arguments") _ (w.scopes m) h (j.scopes m))))
 
   -- the names of a body are bound to what its module was passed
-  body_kept : (b : c.Tree c.body) (params : List (List ℕ)) (args : Bool) (vs : List Value) (n : ℕ) (a : A.Around) (m by : ℕ) (w : World) (z : List Item) → Invariant had w z → All (Known had z m) vs → Keeps by (A.body_reply b params args vs n a m by w) z
+  pub body_kept : (b : c.Tree c.body) (params : List (List ℕ)) (args : Bool) (vs : List Value) (n : ℕ) (a : A.Around) (m by : ℕ) (w : World) (z : List Item) → Invariant had w z → All (Known had z m) vs → Keeps by (A.body_reply b params args vs n a m by w) z
   body_kept (c.a_body fs vars xs) params args vs n a m by w z i h =
       let names = W.with_vars vars (W.with_params params vs []) in
       let go : World → A.Reply = λ v. A.statements_reply xs a m by v in

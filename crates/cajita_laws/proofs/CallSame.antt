@@ -98,7 +98,7 @@ module _ (rules : Rules) (g : Group) (u : World) (x : List Item) where
       let next : Value → World → A.Reply = λ p q. go (W.declare m n (codes "arguments") p q) in
       making_same (W.an_array true vs) m w z v y next next own run a (λ k mine l. f _ _ _ _ (declared_alike m n (codes "arguments") (object k) mine run l))
 
-  body_same : (b : c.Tree c.body) (params : List (List ℕ)) (args : Bool) (vs : List Value) (n : ℕ) (a : A.Around) (m by : ℕ) (w : World) (z : List Item) (v : World) (y : List Item) → All (Own g) vs → g.modules m ≡ true → Alike g u x w z v y → Same (A.body_reply b params args vs n a m by w) z (A.body_reply b params args vs n a m by v) y
+  pub body_same : (b : c.Tree c.body) (params : List (List ℕ)) (args : Bool) (vs : List Value) (n : ℕ) (a : A.Around) (m by : ℕ) (w : World) (z : List Item) (v : World) (y : List Item) → All (Own g) vs → g.modules m ≡ true → Alike g u x w z v y → Same (A.body_reply b params args vs n a m by w) z (A.body_reply b params args vs n a m by v) y
   body_same (c.a_body fs vars xs) params args vs n a m by w z v y own run al =
       let names = W.with_vars vars (W.with_params params vs []) in
       let go : World → A.Reply = λ q. A.statements_reply xs a m by q in

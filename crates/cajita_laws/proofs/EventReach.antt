@@ -8,6 +8,7 @@ use Rattle.rows.specs.Rows.{Native, Sight}
 use Rattle.rows.specs.Names.{sort_of, is_exophoric}
 use Rattle.rows.specs.Nodes.{Rules}
 use Rattle.rows.specs.Events.{call_key}
+use Rattle.cajita_tree.specs.Tree as c
 use Rattle.cajita_meaning.specs.World as W
 use Rattle.cajita_meaning.specs.World.{Name, made_name, Value, undefined, object, Object, a_closure, World}
 use Rattle.cajita_meaning.specs.Doing as d
@@ -17,10 +18,11 @@ use Rattle.cajita_meaning.specs.Events as e
 use Rattle.cajita_meaning.specs.Events.{the_page}
 use Rattle.cajita_meaning.specs.Direct.{Item, Completion, gave, threw, values_of}
 use Rattle.cajita_laws.specs.Reach.{IsIn, Had, have, Known, Waits, Invariant, HaveTextMethods}
-use Rattle.cajita_laws.proofs.Had.{more_behind}
+use Rattle.cajita_laws.proofs.Had.{gain_new, more_behind, in_noted}
+use Rattle.cajita_laws.proofs.Invariant.{item_told}
 use Rattle.cajita_laws.proofs.Scopes.{picked}
 use Rattle.cajita_laws.proofs.RowReach.{Gained, row_begun, known_waits}
-use Rattle.cajita_laws.proofs.CallReach.{Keeps as KeepsFor, all_more, making_kept, passing_kept, entry_kept}
+use Rattle.cajita_laws.proofs.CallReach.{Keeps as KeepsFor, all_more, making_kept, passing_kept, body_kept, entry_kept}
 use Rattle.cajita_laws.proofs.Reach.{telling_kept}
 use Rattle.cajita_laws.proofs.EventArguments.{OfArguments, key_has}
 
@@ -75,3 +77,17 @@ module _ (rules : Rules) (had : Had) (methods : HaveTextMethods had) where
       let b = row_begun had methods m (call_key k (suc (length vs))) (v ∷ vs) w z i h in
       telling_kept rules had methods the_page a.items (e.event_outcome m a.outcome a.world) z
       (outcome_kept m a.outcome a.world (z ++ a.items) b.inv b.gained (key_has (Known had (z ++ a.items) the_page) m k v vs (all_more rules had the_page vs (more_behind z a.items) g) w))
+
+  -- what happens to a node
+  handler_kept : (m : ℕ) (o : Option Object) (node : Name) (w : World) (z : List Item) → Invariant had w z → Keeps rules had (e.handler_entry m o node w) z
+  handler_kept m (Some (a_closure (c.fun name params args body) chain)) node w z i =
+      let t = d.granted m node in
+      let n = W.next_scope m w in
+      let a : A.Around = record { chain = n ∷ chain; calls = 1 } in
+      telling_kept rules had methods the_page (t ∷ []) (A.body_reply body params args (object node ∷ []) n a m the_page w) z
+      (body_kept rules had body params args (object node ∷ []) n a m the_page w (z ++ t ∷ []) (item_told had t tt i tt) (in_noted had z t m node (gain_new m node (have had z)), tt))
+  handler_kept m o node w z i = (i, (tt, tt))
+
+  pub node_kept : (node : Name) (f : Value) (w : World) (z : List Item) → Invariant had w z → Keeps rules had (e.node_event node f w) z
+  node_kept node (object (made_name m n)) w z i = handler_kept m (slice_get (w.objects m) n) node w z i
+  node_kept node f w z i = (i, (tt, tt))

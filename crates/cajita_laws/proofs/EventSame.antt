@@ -1,5 +1,5 @@
 -- Events of a group's module: they do the same in two worlds that are alike for the group.
-use Rattle.std.proofs.Common.{◌≡◌, ℕ, suc, true, List, [], ◌∷◌, ◌++◌, Option, Some, None, refl, sym, subst}
+use Rattle.std.proofs.Common.{◌≡◌, ℕ, suc, true, List, [], ◌∷◌, ◌++◌, Option, Some, None, refl, sym, ap, subst}
 use Rattle.std.specs.Prelude.{slice_get, codes, length}
 use Rattle.acts.specs.Acts.{answer}
 use Rattle.acts.specs.Laws.{All}
@@ -9,6 +9,7 @@ use Rattle.rows.specs.Rows.{Native}
 use Rattle.rows.specs.Names.{sort_of, is_exophoric}
 use Rattle.rows.specs.Nodes.{Rules}
 use Rattle.rows.specs.Events.{call_key}
+use Rattle.cajita_tree.specs.Tree as c
 use Rattle.cajita_meaning.specs.World as W
 use Rattle.cajita_meaning.specs.World.{Name, made_name, Value, object, Object, a_closure, World}
 use Rattle.cajita_meaning.specs.Doing as d
@@ -20,8 +21,9 @@ use Rattle.cajita_meaning.specs.Direct.{Item, Completion, gave, threw, values_of
 use Rattle.cajita_laws.specs.Parts.{Group, OwnName, Own, Alike}
 use Rattle.cajita_laws.specs.Turns.{IsPlain}
 use Rattle.cajita_laws.proofs.Scopes.{picked}
+use Rattle.cajita_laws.proofs.Alike.{told}
 use Rattle.cajita_laws.proofs.RowSame.{OwnOutcome, row_begun_same}
-use Rattle.cajita_laws.proofs.CallSame.{Same as SameFor, Sends, all_sent, making_same, passing_same, entry_same}
+use Rattle.cajita_laws.proofs.CallSame.{Same as SameFor, Sends, all_sent, making_same, passing_same, body_same, entry_same}
 use Rattle.cajita_laws.proofs.Same.{telling_same}
 use Rattle.cajita_laws.proofs.EventArguments.{OfArguments, key_has}
 
@@ -88,3 +90,20 @@ module _ (rules : Rules) (g : Group) (u : World) (x : List Item) where
       (subst (λ is. Same (e.event_reply m a1) z (A.telling_all is (e.event_outcome m a1.outcome b1.world)) y) h.items
       (telling_same rules g u x a1.items (e.event_outcome m a1.outcome a1.world) (e.event_outcome m a1.outcome b1.world) z y
       (outcome_same m run a1.outcome a1.world (z ++ a1.items) b1.world (y ++ a1.items) h.own (key_has IsPlain m k p vs plain w) (subst (λ is. Alike g u x a1.world (z ++ a1.items) b1.world (y ++ is)) (sym h.items) h.alike))))
+
+  -- what happens to a node of the group
+  handler_same : (m : ℕ) (o : Option Object) (node : Name) (w : World) (z : List Item) (v : World) (y : List Item) → g.modules m ≡ true → OwnName g node → Alike g u x w z v y → Same (e.handler_entry m o node w) z (e.handler_entry m o node v) y
+  handler_same m (Some (a_closure (c.fun name params args body) chain)) node w z v y run own a =
+      let t = d.granted m node in
+      let around : ℕ → A.Around = λ n. record { chain = n ∷ chain; calls = 1 } in
+      let inside : ℕ → World → A.Reply = λ n q. A.body_reply body params args (object node ∷ []) n (around n) m the_page q in
+      let n = W.next_scope m w in
+      subst (λ k. Same (A.telling_all (t ∷ []) (inside n w)) z (A.telling_all (t ∷ []) (inside k v)) y) (ap length (a.same.scopes m run))
+      (telling_same rules g u x (t ∷ []) (inside n w) (inside n v) z y (body_same rules g u x body params args (object node ∷ []) n (around n) m the_page w (z ++ t ∷ []) v (y ++ t ∷ []) (own, tt) run (told g u x t run a)))
+  handler_same m o node w z v y run own a = (refl, refl, (tt, tt), a)
+
+  pub node_same : (node : Name) (f : Value) (w : World) (z : List Item) (v : World) (y : List Item) → OwnName g node → Own g f → Alike g u x w z v y → Same (e.node_event node f w) z (e.node_event node f v) y
+  node_same node (object (made_name m n)) w z v y own mine a =
+      subst (λ l. Same (e.handler_entry m (slice_get (w.objects m) n) node w) z (e.handler_entry m (slice_get l n) node v) y) (a.same.objects m mine)
+      (handler_same m (slice_get (w.objects m) n) node w z v y mine own a)
+  node_same node f w z v y own mine a = (refl, refl, (tt, tt), a)

@@ -2,18 +2,22 @@
 use Rattle.std.proofs.Common.{◌≡◌, Bool, true, false, List, [], ◌∷◌, refl, sym, ap, ◌∙◌}
 use Rattle.std.specs.Prelude.{not, if◌then◌else◌}
 use Rattle.plans.specs.Plans.{over, stopped, out, kept_of}
-use Rattle.page_deeds.specs.Deeds.{labelled}
+use Rattle.page_deeds.specs.Deeds.{Owner, of_module, of_root, labelled}
 use Rattle.cajita_meaning.specs.World.{World}
-use Rattle.cajita_meaning.specs.Events.{key_event, tick_event}
+use Rattle.cajita_meaning.specs.Events.{key_event, tick_event, node_event}
 use Rattle.cajita_meaning.specs.Direct.{Item, made, got, touched, passed, granted, said, was_revoked, changed_node, ended, Run, load_run}
-use Rattle.cajita_laws.specs.Parts.{Group, others, side, tells, items_of, SamePart, Closed, Alike}
-use Rattle.cajita_laws.specs.Turns.{world_of, reply_run, call_run, question_run, SameTurns, LeavesAlone, LoadLeavesAlone, QuestionLeavesAlone, CallLeavesAlone, KeyLeavesAlone, TickLeavesAlone}
+use Rattle.cajita_laws.specs.Parts.{Group, others, owns, side, tells, items_of, SamePart, Closed, Alike}
+use Rattle.cajita_laws.specs.Turns.{world_of, reply_run, call_run, question_run, SameTurns, LeavesAlone, LoadLeavesAlone, QuestionLeavesAlone, CallLeavesAlone, KeyLeavesAlone, TickLeavesAlone, NodeLeavesAlone}
 use Rattle.cajita_laws.proofs.Parts.{same_self, closed_alike}
-use Rattle.cajita_laws.proofs.Turns.{load_isolates, question_isolates, call_isolates, key_isolates, tick_isolates}
+use Rattle.cajita_laws.proofs.Turns.{load_isolates, question_isolates, call_isolates, key_isolates, tick_isolates, node_isolates}
 
 not_not : (b : Bool) → not (not b) ≡ b
 not_not true = refl
 not_not false = refl
+
+others_own : (g : Group) (o : Owner) → not (owns (others g) o) ≡ owns g o
+others_own g (of_module m) = not_not (g.modules m)
+others_own g (of_root root) = not_not (g.roots root)
 
 -- an item tells of the group, or of its others
 others_tell : (g : Group) (i : Item) → side false (tells (others g) i) ≡ tells g i
@@ -25,7 +29,7 @@ others_tell g (granted m o) = not_not (g.modules m)
 others_tell g (said m us) = not_not (g.modules m)
 others_tell g (was_revoked m p) = not_not (g.modules m)
 others_tell g (changed_node r k c) = not_not (g.roots r)
-others_tell g (ended l e) = not_not (g.modules (labelled l))
+others_tell g (ended l e) = others_own g (labelled l)
 
 -- what the others of the others did is what the group did
 others_items : (g : Group) (z : List Item) → items_of false (others g) z ≡ items_of true g z
@@ -71,3 +75,6 @@ key_leaves_alone g rules m other k p own vs plain w z c n = left_alone g w z (re
 
 pub tick_leaves_alone : TickLeavesAlone
 tick_leaves_alone g rules m other f own w z c n = left_alone g w z (reply_run rules (tick_event m f w) z n) (tick_isolates (others g) w z rules m (ap not other) f own w z w z (alike_self (others g) w z c) n)
+
+pub node_leaves_alone : NodeLeavesAlone
+node_leaves_alone g rules node other f own w z c n = left_alone g w z (reply_run rules (node_event node f w) z n) (node_isolates (others g) w z rules node other f own w z w z (alike_self (others g) w z c) n)

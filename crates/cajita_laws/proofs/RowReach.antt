@@ -308,6 +308,12 @@ module _ (had : Had) (methods : HaveTextMethods had) (m : ℕ) where
   converted (Ok a) w z y go i h = h a
   converted (Err f) w z y go i h = record { inv = i; gained = tt }
 
+  -- a node gives those around it, which lie on the way into it
+  around_reached : (n : ℕ) (way : List Name) (v : Value) (w : World) (z y : List Item) (go : d.Around → Done) (other : Done) → OnWay (z ++ y) v way
+      → ((b : d.Around) → Both (OnWay (z ++ y)) b.values (map (λ u. way ++ names_of v) b.values) → IsReached z (go b)) → IsReached z other → IsReached z (d.with_branch (d.around w n v) go other)
+  around_reached n way (object (facet_name root k)) w z y go other h f g = f _ (both_one (OnWay (z ++ y)) (way ++ facet_name root k ∷ []) (λ u. into (z ++ y) way (facet_name root k) u h) _)
+  around_reached n way v w z y go other h f g = g
+
   -- every row
   pub row_reached : (q : Row) (s : Held) (w : World) (z y : List Item) → Invariant had w (z ++ y) → Handed (z ++ y) s → IsReached z (does m q s w y)
   row_reached (r.ends e) s w z y i h = finish_reached e s w z y i h
@@ -316,10 +322,15 @@ module _ (had : Had) (methods : HaveTextMethods had) (m : ℕ) where
   row_reached (r.as_number x go) s w z y i h = converted (d.number_of w (value_of s.values x)) w z y (λ n. does m (go n) s w y) i (λ n. row_reached (go n) s w z y i h)
   row_reached (r.as_joined x sep go) s w z y i h = converted (d.joined_of w (value_of s.values x) sep) w z y (λ us. does m (go us) s w y) i (λ us. row_reached (go us) s w z y i h)
   row_reached (r.as_same x v go) s w z y i h = row_reached (go (d.strictly_equal (value_of s.values x) (value_of s.values v))) s w z y i h
+  row_reached (r.as_same_root x v go) s w z y i h = row_reached (go (d.same_root (value_of s.values x) (value_of s.values v))) s w z y i h
   row_reached (r.looks x go) s w z y i h =
       let seen = d.see w (length s.values) (value_of s.values x) in
       row_reached (go seen.sight) (d.and_seen s (way_into s x) seen.values) w z y i
       (both_append (OnWay (z ++ y)) s.values seen.values s.ways (map (λ u. way_into s x) seen.values) h (seen_in (z ++ y) w (length s.values) (way_of s x) (value_of s.values x) (on_way (z ++ y) s h x)))
+  row_reached (r.branches x go other) s w z y i h =
+      around_reached (length s.values) (way_of s x) (value_of s.values x) w z y _ _ (on_way (z ++ y) s h x)
+      (λ b l. row_reached (go b.branch) (d.and_seen s (way_into s x) b.values) w z y i (both_append (OnWay (z ++ y)) s.values b.values s.ways (map (λ u. way_into s x) b.values) h l))
+      (row_reached other s w z y i h)
   row_reached (r.touches t x k next) s w z y i h =
       let is = d.touching m t (way_of s x) (value_of s.values x) k in
       row_reached next s w z (y ++ is) (subst (Invariant had w) (append_assoc z y is) (touching_kept t (way_of s x) (value_of s.values x) k w (z ++ y) i (on_way (z ++ y) s h x)))

@@ -9,6 +9,7 @@ use Rattle.caja_units.specs.Units.{same_units}
 use Rattle.rows.specs.Rows as r
 use Rattle.rows.specs.Rows.{Handle, Native, Ending, Row}
 use Rattle.rows.specs.Names.{is_of_text, tools}
+use Rattle.rows.specs.Branches.{around as nodes_around}
 use Rattle.rows.specs.Document as doc
 use Rattle.rows.specs.Document.{Node, Change}
 use Rattle.rows.specs.Public.{is_bad}
@@ -88,7 +89,7 @@ module _ (g : Group) (u : World) (x : List Item) (m : ℕ) (run : g.modules m �
   object_own n (made_name k i) w own c = made_own n (slice_get (w.objects k) i) (got_has (OwnObject g) (w.objects k) i (c.objects k own))
   object_own n (built_name f) w own c = tt
   object_own n (tools_name t) w own c = pairs_values (d.tool_pairs (tools t)) (tools_own (tools t))
-  object_own n (facet_name root k) w own c = facets_own root own (d.parents (w.nodes root) k ++ ((doc.node_at (w.nodes root) k).children ++ doc.below (w.nodes root) k))
+  object_own n (facet_name root k) w own c = tt
   object_own n (own_name k i) w own c = tt
   object_own n (cell_name k zero) w own c = (own, (own, tt))
   object_own n (cell_name k (suc i)) w own c = tt
@@ -105,7 +106,7 @@ module _ (g : Group) (u : World) (x : List Item) (m : ℕ) (run : g.modules m �
   object_same n (made_name k i) w v z y own s = ap (λ l. d.see_made n (slice_get l i)) (s.objects k own)
   object_same n (built_name f) w v z y own s = refl
   object_same n (tools_name t) w v z y own s = refl
-  object_same n (facet_name root k) w v z y own s = ap (d.see_node n root k) (s.nodes root own)
+  object_same n (facet_name root k) w v z y own s = refl
   object_same n (own_name k i) w v z y own s = refl
   object_same n (cell_name k zero) w v z y own s = refl
   object_same n (cell_name k (suc i)) w v z y own s = refl
@@ -115,6 +116,15 @@ module _ (g : Group) (u : World) (x : List Item) (m : ℕ) (run : g.modules m �
   pub see_same : (n : ℕ) (a : Value) (w v : World) (z y : List Item) → Own g a → SamePart true g w v z y → d.see w n a ≡ d.see v n a
   see_same n (object o) w v z y own s = object_same n o w v z y own s
   see_same n p w v z y own s = refl
+
+  -- a node of the group gives those around it, which are the group's
+  around_own : (n : ℕ) (a : Value) (w : World) → Own g a → IfThere (λ (b : d.Around). All (Own g) b.values) (d.around w n a)
+  around_own n (object (facet_name root k)) w own = facets_own root own (nodes_around (w.nodes root) k)
+  around_own n a w own = tt
+
+  around_same : (n : ℕ) (a : Value) (w v : World) (z y : List Item) → Own g a → SamePart true g w v z y → d.around w n a ≡ d.around v n a
+  around_same n (object (facet_name root k)) w v z y own s = ap (d.around_node n root k) (s.nodes root own)
+  around_same n a w v z y own s = refl
 
   -- texts and numbers of the group's values are the same
   text_same : (n : ℕ) (a : Value) (w : World) (z : List Item) (v : World) (y : List Item) → Own g a → Alike g u x w z v y → d.text_within n w a ≡ d.text_within n v a
@@ -398,12 +408,22 @@ module _ (g : Group) (u : World) (x : List Item) (m : ℕ) (run : g.modules m �
   row_same (r.as_joined c sep go) s w v z y t h a =
       converted (d.joined_of w (value_of s.values c) sep) (d.joined_of v (value_of s.values c) sep) w v z y t (λ us. does m (go us) s w t) (λ us. does m (go us) s v t) (joined_of_same (value_of s.values c) sep w (z ++ t) v (y ++ t) (value_own s.values h c) a) a (λ us. row_same (go us) s w v z y t h a)
   row_same (r.as_same c e go) s w v z y t h a = row_same (go (d.strictly_equal (value_of s.values c) (value_of s.values e))) s w v z y t h a
+  row_same (r.as_same_root c e go) s w v z y t h a = row_same (go (d.same_root (value_of s.values c) (value_of s.values e))) s w v z y t h a
   row_same (r.looks c go) s w v z y t h a =
       let b = value_of s.values c in
       let seen = d.see w (length s.values) b in
       let own = value_own s.values h c in
       subst (λ e. SameDone z y (does m (go seen.sight) (d.and_seen s (way_into s c) seen.values) w t) (does m (go e.sight) (d.and_seen s (way_into s c) e.values) v t)) (see_same (length s.values) b w v (z ++ t) (y ++ t) own a.same)
       (row_same (go seen.sight) (d.and_seen s (way_into s c) seen.values) w v z y t (all_append (Own g) s.values seen.values h (see_own (length s.values) b w own a.closed)) a)
+  row_same (r.branches c go other) s w v z y t h a =
+      let b = value_of s.values c in
+      let own = value_own s.values h c in
+      subst (λ o. SameDone z y (d.with_branch (d.around w (length s.values) b) (λ e. does m (go e.branch) (d.and_seen s (way_into s c) e.values) w t) (does m other s w t)) (d.with_branch o (λ e. does m (go e.branch) (d.and_seen s (way_into s c) e.values) v t) (does m other s v t))) (around_same (length s.values) b w v (z ++ t) (y ++ t) own a.same)
+      (branched (d.around w (length s.values) b) _ _ _ _ (around_own (length s.values) b w own) (λ e l. row_same (go e.branch) (d.and_seen s (way_into s c) e.values) w v z y t (all_append (Own g) s.values e.values h l) a) (row_same other s w v z y t h a))
+    where
+      branched : (o : Option d.Around) (f f' : d.Around → Done) (e e' : Done) → IfThere (λ (b : d.Around). All (Own g) b.values) o → ((b : d.Around) → All (Own g) b.values → SameDone z y (f b) (f' b)) → SameDone z y e e' → SameDone z y (d.with_branch o f e) (d.with_branch o f' e')
+      branched None f f' e e' l go other = other
+      branched (Some b) f f' e e' l go other = go b l
   row_same (r.touches k c key next) s w v z y t h a =
       let is = d.touching m k (way_of s c) (value_of s.values c) key in
       row_same next s w v z y (t ++ is) h (told_behind g u x t _ _ _ _ is (touching_mine k (way_of s c) (value_of s.values c) key) a)

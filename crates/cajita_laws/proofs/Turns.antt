@@ -9,21 +9,21 @@ use Rattle.acts.proofs.Same.{run_same, reply_same}
 use Rattle.rows.specs.Nodes.{Rules}
 use Rattle.cajita_meaning.specs.World.{made_name, Value, object, World, undefined}
 use Rattle.cajita_meaning.specs.Asking.{Reply, Shape, bad, a_load, reply, call_reply}
-use Rattle.cajita_meaning.specs.Events.{the_page, key_event, tick_event}
+use Rattle.cajita_meaning.specs.Events.{the_page, key_event, tick_event, node_event}
 use Rattle.cajita_meaning.specs.Direct.{Item, Plan, Run, values_of, forms, direct, load_run}
 use Rattle.cajita_laws.specs.Reach.{Had, Known, IsMore, HaveTextMethods, StartsReached}
 use Rattle.cajita_laws.specs.Parts.{Group, Own}
-use Rattle.cajita_laws.specs.Turns.{ended_so, reply_run, Reaches, LoadReaches, QuestionReaches, CallReaches, ClosureReaches, KeyReaches, TickReaches, SameTurns, LoadIsolates, QuestionIsolates, CallIsolates, KeyIsolates, TickIsolates}
+use Rattle.cajita_laws.specs.Turns.{ended_so, reply_run, Reaches, LoadReaches, QuestionReaches, CallReaches, ClosureReaches, KeyReaches, TickReaches, NodeReaches, SameTurns, LoadIsolates, QuestionIsolates, CallIsolates, KeyIsolates, TickIsolates, NodeIsolates}
 use Rattle.cajita_laws.proofs.Had.{no_more, more_behind, more_onward}
 use Rattle.cajita_laws.proofs.Made.{all_first, made_of}
 use Rattle.cajita_laws.proofs.Invariant.{noted, reach}
 use Rattle.cajita_laws.proofs.CallReach.{Keeps, call_kept, unrecorded_kept}
 use Rattle.cajita_laws.proofs.Reach.{answers_reach}
-use Rattle.cajita_laws.proofs.EventReach.{page_call_kept, key_kept}
+use Rattle.cajita_laws.proofs.EventReach.{page_call_kept, key_kept, node_kept}
 use Rattle.cajita_laws.proofs.Alike.{twins}
 use Rattle.cajita_laws.proofs.CallSame.{Same, call_same}
 use Rattle.cajita_laws.proofs.Same.{answers_same}
-use Rattle.cajita_laws.proofs.EventSame.{page_call_same, key_same}
+use Rattle.cajita_laws.proofs.EventSame.{page_call_same, key_same, node_same}
 
 -- where nothing was done the invariant holds
 pub at_the_start : StartsReached
@@ -79,6 +79,9 @@ key_reaches had methods rules m k v vs w z i h g n = reply_reaches rules had met
 pub tick_reaches : TickReaches
 tick_reaches had methods rules m f w z i h n = reply_reaches rules had methods the_page (tick_event m f w) z (page_call_kept rules had m f undefined [] w z i h (tt, tt) tt) n
 
+pub node_reaches : NodeReaches
+node_reaches had methods rules node f w z i n = reply_reaches rules had methods the_page (node_event node f w) z (node_kept rules had methods node f w z i) n
+
 -- isolation
 
 -- runs that are the same are turns that are the same
@@ -107,6 +110,9 @@ key_isolates g u x rules m mine k p own vs plain w z v y a n = reply_isolates ru
 
 pub tick_isolates : TickIsolates
 tick_isolates g u x rules m mine f own w z v y a n = reply_isolates rules g u x (tick_event m f w) (tick_event m f v) z y (page_call_same rules g u x m f undefined [] w z v y mine (own, (tt, tt)) tt a) n
+
+pub node_isolates : NodeIsolates
+node_isolates g u x rules node own f mine w z v y a n = reply_isolates rules g u x (node_event node f w) (node_event node f v) z y (node_same rules g u x node f w z v y own mine a) n
 
 pub call_isolates : CallIsolates
 call_isolates g u x rules calls recorded f t vs m mine own w z v y a n =

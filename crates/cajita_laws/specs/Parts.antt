@@ -1,7 +1,7 @@
 -- A group of modules, what belongs to it, and when its part of two worlds is the same.
 use Rattle.std.specs.Prelude.{◌≡◌, ℕ, Bool, true, false, not, List, [], ◌∷◌, if◌then◌else◌}
 use Rattle.acts.specs.Laws.{All}
-use Rattle.page_deeds.specs.Deeds.{labelled}
+use Rattle.page_deeds.specs.Deeds.{Owner, of_module, of_root, labelled}
 use Rattle.cajita_meaning.specs.World.{Name, made_name, cell_name, own_name, built_name, tools_name, facet_name, forward_name, Value, object, Pairs, Object, a_record, an_array, an_error, a_closure, World, empty_world}
 use Rattle.cajita_meaning.specs.Direct.{Item, made, got, touched, passed, granted, said, was_revoked, changed_node, ended}
 
@@ -10,6 +10,11 @@ pub record Group : Type 0 where
   pub modules : ℕ → Bool
   pub cells : ℕ → Bool
   pub roots : ℕ → Bool
+
+-- whether something is the group's
+abbrev pub owns : Group → Owner → Bool
+owns g (of_module m) = g.modules m
+owns g (of_root root) = g.roots root
 
 -- all others
 abbrev pub others : Group → Group
@@ -48,7 +53,7 @@ tells g (granted m o) = g.modules m
 tells g (said m us) = g.modules m
 tells g (was_revoked m p) = g.modules m
 tells g (changed_node root k c) = g.roots root
-tells g (ended l e) = g.modules (labelled l)
+tells g (ended l e) = owns g (labelled l)
 
 abbrev pub side : Bool → Bool → Bool
 side true own = own

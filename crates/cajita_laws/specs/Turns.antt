@@ -5,12 +5,12 @@ use Rattle.acts.specs.Acts.{replied}
 use Rattle.acts.specs.Laws.{All}
 use Rattle.cajita_tree.specs.Tree as c
 use Rattle.rows.specs.Nodes.{Rules}
-use Rattle.cajita_meaning.specs.World.{made_name, Value, object, World}
+use Rattle.cajita_meaning.specs.World.{Name, made_name, Value, object, World}
 use Rattle.cajita_meaning.specs.Asking.{Question, Reply, Shape, bad, first, reply, call_reply}
-use Rattle.cajita_meaning.specs.Events.{the_page, key_event, tick_event}
+use Rattle.cajita_meaning.specs.Events.{the_page, key_event, tick_event, node_event}
 use Rattle.cajita_meaning.specs.Direct.{Item, Completion, gave, threw, Run, values_of, direct, load_run}
 use Rattle.cajita_laws.specs.Reach.{Had, Known, Waits, IsMore, Invariant, HaveTextMethods}
-use Rattle.cajita_laws.specs.Parts.{Group, others, Own, SamePart, Closed, Alike}
+use Rattle.cajita_laws.specs.Parts.{Group, others, OwnName, Own, SamePart, Closed, Alike}
 
 -- how a turn ends that begins with an answer
 abbrev pub ended_so : Shape → List Value → Completion
@@ -73,6 +73,11 @@ abbrev pub TickReaches : Type 0
 TickReaches = (had : Had) → HaveTextMethods had → (rules : Rules) (m : ℕ) (f : Value) (w : World) (z : List Item) → Invariant had w z → Waits had z m f → (n : ℕ) →
     Reaches had the_page z (reply_run rules (tick_event m f w) z n)
 
+-- of what is called when something happens to a node: its maker is granted the node, and the page has what it answers
+abbrev pub NodeReaches : Type 0
+NodeReaches = (had : Had) → HaveTextMethods had → (rules : Rules) (node : Name) (f : Value) (w : World) (z : List Item) → Invariant had w z → (n : ℕ) →
+    Reaches had the_page z (reply_run rules (node_event node f w) z n)
+
 -- isolation: two turns come to the same for the group, and leave the others' part as it was
 abbrev pub SameTurns : Group → World → List Item → Run → Run → Type 0
 SameTurns g u x (over a w z n) (over b v y k) = (a ≡ b) × (n ≡ k) × All (Own g) (values_of a) × Alike g u x w z v y
@@ -107,6 +112,11 @@ abbrev pub TickIsolates : Type 0
 TickIsolates = (g : Group) (u : World) (x : List Item) (rules : Rules) (m : ℕ) → g.modules m ≡ true → (f : Value) → Own g f → (w : World) (z : List Item) (v : World) (y : List Item) → Alike g u x w z v y → (n : ℕ) →
     SameTurns g u x (reply_run rules (tick_event m f w) z n) (reply_run rules (tick_event m f v) y n)
 
+-- what happens to a node of the group
+abbrev pub NodeIsolates : Type 0
+NodeIsolates = (g : Group) (u : World) (x : List Item) (rules : Rules) (node : Name) → OwnName g node → (f : Value) → Own g f → (w : World) (z : List Item) (v : World) (y : List Item) → Alike g u x w z v y → (n : ℕ) →
+    SameTurns g u x (reply_run rules (node_event node f w) z n) (reply_run rules (node_event node f v) y n)
+
 -- a turn leaves the group's part as it was, and what refers to nothing of the group still does
 pub record LeavesAlone (g : Group) (w : World) (z : List Item) (r : Run) : Type 0 where
   pub part : SamePart true g w (world_of r) z (kept_of r)
@@ -132,3 +142,7 @@ KeyLeavesAlone = (g : Group) (rules : Rules) (m : ℕ) → g.modules m ≡ false
 abbrev pub TickLeavesAlone : Type 0
 TickLeavesAlone = (g : Group) (rules : Rules) (m : ℕ) → g.modules m ≡ false → (f : Value) → Own (others g) f → (w : World) (z : List Item) → Closed (others g) w → (n : ℕ) →
     LeavesAlone g w z (reply_run rules (tick_event m f w) z n)
+
+abbrev pub NodeLeavesAlone : Type 0
+NodeLeavesAlone = (g : Group) (rules : Rules) (node : Name) → OwnName (others g) node → (f : Value) → Own (others g) f → (w : World) (z : List Item) → Closed (others g) w → (n : ℕ) →
+    LeavesAlone g w z (reply_run rules (node_event node f w) z n)

@@ -11,7 +11,7 @@
 ghost use Rattle.cajita_laws.specs.Reach.{EachLies, EachNew, StartsReached, GrantIsHad, HaveTextMethods, from_the_start};
 ghost use Rattle.cajita_laws.specs.Parts.{StartsClosed, ClosedAlike};
 ghost use Rattle.cajita_laws.specs.Makers.{ClosureIsItsMakers};
-ghost use Rattle.cajita_laws.specs.Turns.{LoadReaches, QuestionReaches, CallReaches, ClosureReaches, KeyReaches, TickReaches, LoadIsolates, QuestionIsolates, CallIsolates, KeyIsolates, TickIsolates, LoadLeavesAlone, QuestionLeavesAlone, CallLeavesAlone, KeyLeavesAlone, TickLeavesAlone};
+ghost use Rattle.cajita_laws.specs.Turns.{LoadReaches, QuestionReaches, CallReaches, ClosureReaches, KeyReaches, TickReaches, NodeReaches, LoadIsolates, QuestionIsolates, CallIsolates, KeyIsolates, TickIsolates, NodeIsolates, LoadLeavesAlone, QuestionLeavesAlone, CallLeavesAlone, KeyLeavesAlone, TickLeavesAlone, NodeLeavesAlone};
 
 /// A turn of a module, wherever it is cut, does nothing but with what the module has: its load, and what begins with a question or with the call of a function;
 /// and what an event begins, where a key is called of what its module has, or a function that waits for the module.
@@ -22,6 +22,7 @@ pub fn a_turn_lies_in_what_its_module_has()
     ensures closure { ClosureReaches }
     ensures key_event { KeyReaches }
     ensures tick { TickReaches }
+    ensures node { NodeReaches }
 {}
 
 /// A closure does what it does as the module that made it, whoever calls it.
@@ -64,6 +65,7 @@ pub fn a_turn_is_the_same_for_its_group()
     ensures call { CallIsolates }
     ensures key_event { KeyIsolates }
     ensures tick { TickIsolates }
+    ensures node { NodeIsolates }
 {}
 
 /// A turn of a module outside of a group leaves the group's part as it was.
@@ -73,6 +75,7 @@ pub fn a_turn_leaves_other_groups_alone()
     ensures call { CallLeavesAlone }
     ensures key_event { KeyLeavesAlone }
     ensures tick { TickLeavesAlone }
+    ensures node { NodeLeavesAlone }
 {}
 
 /// The laws of isolation begin where nothing was done.

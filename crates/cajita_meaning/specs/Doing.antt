@@ -1,5 +1,5 @@
 -- What a row does in a world.
-use Rattle.std.specs.Prelude.{ℕ, zero, suc, ◌+◌, ℤ, pos, Bool, true, false, ◌||◌, List, [], ◌∷◌, ◌++◌, Option, Some, None, Result, Ok, Err, length, nat_lt, slice_get, codes, map, not, if◌then◌else◌}
+use Rattle.std.specs.Prelude.{ℕ, zero, suc, ◌+◌, ℤ, pos, Bool, true, false, ◌||◌, List, [], ◌∷◌, ◌++◌, Option, Some, None, Result, Ok, Err, length, nat_lt, nat_eq, slice_get, codes, map, not, if◌then◌else◌}
 use Rattle.plans.specs.Plans.{Fault, number_fault, depth_fault}
 use Rattle.page_deeds.specs.Deeds.{Label}
 use Rattle.page_deeds.specs.Shown.{Ended}
@@ -9,6 +9,7 @@ use Rattle.rows.specs.Rows as r
 use Rattle.rows.specs.Rows.{Handle, Sight, Native, Ending, Touch, Row, handles, keyed_handles}
 use Rattle.rows.specs.Names.{tools, sort_of, is_of_text}
 use Rattle.rows.specs.Public.{is_bad}
+use Rattle.rows.specs.Branches.{branch, around as nodes_around}
 use Rattle.rows.specs.Document as doc
 use Rattle.rows.specs.Document.{Node, Change}
 use Rattle.rows.specs.Guards.{maker_name}
@@ -107,29 +108,16 @@ abbrev pub tool_pairs : List (List ℕ × Native) → Pairs
 tool_pairs [] = []
 tool_pairs ((k, f) ∷ rest) = (k, object (built_name f)) ∷ tool_pairs rest
 
--- a node, with its parent, its children and all that is at or below it, which are facets of its root
+-- nodes of a root
 abbrev pub facets : ℕ → List ℕ → List Value
 facets root [] = []
 facets root (k ∷ ks) = object (facet_name root k) ∷ facets root ks
-
-abbrev pub parents : List Node → ℕ → List ℕ
-parents ns k = doc.of_parent (λ p. p ∷ []) (doc.node_at ns k).parent
-
-abbrev pub with_ids : List Node → ℕ → List ℕ → List (Option (List ℕ) × Handle)
-with_ids ns n [] = []
-with_ids ns n (k ∷ ks) = (doc.attribute (codes "id") (doc.node_at ns k).attributes, r.held n) ∷ with_ids ns (n + 1) ks
-
-abbrev pub see_node : ℕ → ℕ → ℕ → List Node → Seen
-see_node n root k ns = let o = doc.node_at ns k in let ps = parents ns k in let p = n + length ps in let c = p + length o.children in record {
-  sight = r.a_node (record { root = root; number = k; tag = o.tag; text = doc.text_of ns k; attributes = o.attributes; parent = handles n ps; children = handles p o.children; below = with_ids ns c (doc.below ns k); above = doc.at_and_above (length ns) ns k; numbers = o.children });
-  values = facets root (ps ++ (o.children ++ doc.below ns k));
-}
 
 abbrev pub see_object : World → ℕ → Name → Seen
 see_object w n (made_name m i) = see_made n (slice_get (w.objects m) i)
 see_object w n (built_name f) = only (r.a_function (sort_of f))
 see_object w n (tools_name t) = see_record true n (tool_pairs (tools t))
-see_object w n (facet_name root k) = see_node n root k (w.nodes root)
+see_object w n (facet_name root k) = only r.a_node
 see_object w n (own_name m i) = only (r.a_function r.simple)
 see_object w n (cell_name c zero) = see_record true n (get_and_set (cell_name c 1) (cell_name c 2))
 see_object w n (cell_name c (suc i)) = only (r.a_function r.simple)
@@ -143,6 +131,24 @@ see w n (truth b) = only (r.a_truth b)
 see w n (number i) = only (r.a_number i)
 see w n (text us) = only (r.a_text us)
 see w n (object o) = see_object w n o
+
+-- a node and those around it
+
+pub record Around : Type 0 where
+  pub branch : r.Branch
+  pub values : List Value
+
+abbrev pub around_node : ℕ → ℕ → ℕ → List Node → Option Around
+around_node n root k ns = Some (record { branch = branch n k ns; values = facets root (nodes_around ns k) })
+
+abbrev pub around : World → ℕ → Value → Option Around
+around w n (object (facet_name root k)) = around_node n root k (w.nodes root)
+around w n v = None
+
+-- whether two values are nodes of one root
+abbrev pub same_root : Value → Value → Bool
+same_root (object (facet_name root k)) (object (facet_name other j)) = nat_eq root other
+same_root u v = false
 
 -- texts and numbers
 
@@ -399,6 +405,11 @@ abbrev pub with_result : {A : Type 0} → Result A Fault → World → List Item
 with_result (Ok x) w z go = go x
 with_result (Err f) w z go = record { outcome = stops f; world = w; items = z }
 
+-- what a node and those around it give, or what is done otherwise
+abbrev pub with_branch : Option Around → (Around → Done) → Done → Done
+with_branch (Some b) go other = go b
+with_branch None go other = other
+
 -- what a row comes to: it is done by a module, with these values in hand and these items told
 abbrev pub does : ℕ → Row → Held → World → List Item → Done
 does by (r.ends e) s w z = finish by e s w z
@@ -407,5 +418,7 @@ does by (r.as_text x go) s w z = with_result (text_of w (value_of s.values x)) w
 does by (r.as_number x go) s w z = with_result (number_of w (value_of s.values x)) w z (λ n. does by (go n) s w z)
 does by (r.as_joined x sep go) s w z = with_result (joined_of w (value_of s.values x) sep) w z (λ us. does by (go us) s w z)
 does by (r.as_same x y go) s w z = does by (go (strictly_equal (value_of s.values x) (value_of s.values y))) s w z
+does by (r.as_same_root x y go) s w z = does by (go (same_root (value_of s.values x) (value_of s.values y))) s w z
 does by (r.looks x go) s w z = let seen = see w (length s.values) (value_of s.values x) in does by (go seen.sight) (and_seen s (way_into s x) seen.values) w z
+does by (r.branches x go other) s w z = with_branch (around w (length s.values) (value_of s.values x)) (λ b. does by (go b.branch) (and_seen s (way_into s x) b.values) w z) (does by other s w z)
 does by (r.touches t x k next) s w z = does by next s w (z ++ touching by t (way_of s x) (value_of s.values x) k)

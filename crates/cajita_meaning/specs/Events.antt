@@ -4,9 +4,10 @@ use Rattle.acts.specs.Acts.{answer, fault, calling, task}
 use Rattle.rows.specs.Rows.{Native, type_error}
 use Rattle.rows.specs.Names.{sort_of, is_exophoric}
 use Rattle.rows.specs.Events.{call_key}
-use Rattle.cajita_meaning.specs.World.{Name, made_name, Value, undefined, object, Object, a_closure, an_error, World}
+use Rattle.cajita_tree.specs.Tree as c
+use Rattle.cajita_meaning.specs.World.{Name, made_name, Value, undefined, object, Object, a_closure, an_error, World, next_scope}
 use Rattle.cajita_meaning.specs.Doing as d
-use Rattle.cajita_meaning.specs.Asking.{Completion, gave, threw, Reply, bad, a_native, making, passing, good_value, entry_reply, native_at, telling_all}
+use Rattle.cajita_meaning.specs.Asking.{Completion, gave, threw, Reply, bad, a_native, making, passing, good_value, entry_reply, body_reply, native_at, telling_all}
 
 -- the page, in the place of a module that an object goes to: no module has its number
 abbrev pub the_page : ℕ
@@ -57,6 +58,16 @@ event_reply m e = telling_all e.items (event_outcome m e.outcome e.world)
 -- the key of a value is called, for a module: the value stands first, and the arguments behind it
 abbrev pub key_event : ℕ → List ℕ → List Value → World → Reply
 key_event m k vs w = event_reply m (d.does m (call_key k (length vs)) (d.given vs) w [])
+
+-- what is called when something happens to a node: a closure, whose maker is granted the node; nothing else is registered
+abbrev pub handler_entry : ℕ → Option Object → Name → World → Reply
+handler_entry m (Some (a_closure (c.fun name params args body) chain)) node w =
+    telling_all (d.granted m node ∷ []) (body_reply body params args (object node ∷ []) (next_scope m w) (record { chain = next_scope m w ∷ chain; calls = 1 }) m the_page w)
+handler_entry m o node w = good_value undefined w
+
+abbrev pub node_event : Name → Value → World → Reply
+node_event node (object (made_name m n)) w = handler_entry m (slice_get (w.objects m) n) node w
+node_event node f w = good_value undefined w
 
 -- a function that waited is called, for the module in whose queue it stood
 abbrev pub tick_event : ℕ → Value → World → Reply

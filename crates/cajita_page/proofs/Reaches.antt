@@ -1,34 +1,34 @@
 -- The reach of a page, from the laws of turns: the invariant holds between deeds and in their midst.
 use Rattle.std.proofs.Common.{◌≡◌, inl, inr, ℕ, Bool, true, false, List, [], ◌∷◌, ◌++◌, Option, Some, None, refl, sym, ap, subst}
-use Rattle.std.specs.Prelude.{nat_eq, map, if◌then◌else◌}
+use Rattle.std.specs.Prelude.{nat_eq, map, codes, if◌then◌else◌}
 use Rattle.std.proofs.Math.Path.{fun_ext}
 use Rattle.plans.specs.Plans.{ends, enter, over, stopped, out, run}
 use Rattle.acts.specs.Acts.{task, replied}
 use Rattle.acts.specs.Laws.{All, IfThere}
 use Rattle.acts.proofs.Keeps.{all_append}
-use Rattle.page_deeds.specs.Deeds.{Plain, Grants, to_load, to_call, to_tick, label_of}
+use Rattle.page_deeds.specs.Deeds.{Plain, Grants, to_load, to_call, to_tick, to_click, to_input, label_of}
 use Rattle.page_deeds.specs.Deeds as deed
 use Rattle.page_deeds.specs.Shown.{by_nothing}
-use Rattle.pages.specs.Keeping.{Wherever, Keeping, TurnsOrNoneKeep, DeedKeeps, DeedsKeep}
+use Rattle.pages.specs.Keeping.{Wherever, Keeping, TurnsKeep, TurnsOrNoneKeep, DeedKeeps, DeedsKeep}
 use Rattle.pages.proofs.Kept.{page_keeps_cut}
 use Rattle.rows.specs.Nodes.{Rules}
 use Rattle.cajita_tree.specs.Tree as c
-use Rattle.cajita_meaning.specs.World.{Name, Value, object, Pairs, World, empty_world, value_at, with_queue}
+use Rattle.cajita_meaning.specs.World.{Name, facet_name, Value, object, Pairs, World, value_at, with_queue}
 use Rattle.cajita_meaning.specs.Doing.{or_nothing}
 use Rattle.cajita_meaning.specs.Imports.{fixed_imports, imports_among}
 use Rattle.cajita_meaning.specs.Asking.{Reply, Shape, bad}
-use Rattle.cajita_meaning.specs.Events.{the_page, key_event, tick_event}
+use Rattle.cajita_meaning.specs.Events.{the_page, key_event, tick_event, node_event}
 use Rattle.cajita_meaning.specs.Direct.{Item, passed, granted, ended, Completion, gave, Task, Run, a_load, values_of, direct}
 use Rattle.cajita_laws.specs.Reach.{IsIn, have, from_the_start, Known, Waits, IsMore, Invariant, HaveTextMethods}
 use Rattle.cajita_laws.specs.Turns.{ended_so, reply_run, Reaches}
 use Rattle.cajita_laws.proofs.Had.{gain_new, have_keeps, no_more, more_behind, more_onward, known_more, in_noted}
 use Rattle.cajita_laws.proofs.Scopes.{value_at_has}
 use Rattle.cajita_laws.proofs.Everybody.{everybody_has}
-use Rattle.cajita_laws.proofs.Invariant.{item_told, queue_changed}
+use Rattle.cajita_laws.proofs.Invariant.{item_told, queue_changed, elsewhere_changed}
 use Rattle.cajita_laws.specs.Reach.{Reached, Numbered}
 use Rattle.cajita_laws.proofs.Told.{each_lies, each_new}
-use Rattle.cajita_laws.proofs.Turns.{at_the_start, load_reaches, key_reaches, tick_reaches}
-use Rattle.cajita_page.specs.DirectPage.{Deed, Results, no_results, plain_value, granted_pairs, import_values, imports_of, Plan, granting, ends_so, answers, tick_begun, passed_out, value_given, result, evaluator}
+use Rattle.cajita_laws.proofs.Turns.{at_the_start, load_reaches, key_reaches, tick_reaches, node_reaches}
+use Rattle.cajita_page.specs.DirectPage.{Deed, Results, no_results, plain_value, granted_pairs, import_values, imports_of, Plan, granting, ends_so, answers, tick_begun, listeners, node_turns, with_input, first_world, passed_out, value_given, result, evaluator}
 use Rattle.cajita_page.specs.Shown.{end_in}
 use Rattle.cajita_page.specs.Promises.{objects_in, had_at_first, PagesReach, PageItemsLie, PageNamesAreNew}
 
@@ -180,24 +180,54 @@ tick_keeps rules k m (f ∷ fs) r w z h g = λ n.
     answered_wherever rules (deed.of_tick k m) r (tick_event m f (with_queue m fs w)) z n h.results
     (tick_reaches had_at_first text_methods rules m f (with_queue m fs w) z (queue_changed had_at_first m fs h.invariant g.1) g.0 n)
 
+-- after a turn of a handler the others follow
+handler_wherever : (rules : Rules) (d : Deed) (l : deed.Label) (node : Name) (fs : List Value) (r : Results) (z : List Item)
+    → ((e : Completion) (x : World) (y : List Item) → (evaluator rules).ended d e x y ≡ y ++ ended l (end_in x e) ∷ []) → ((e : Completion) (q : Results) → result d e q ≡ q)
+    → ((w1 : World) (z1 : List Item) → Holds r w1 z1 → TurnsKeep (keeping rules) d (node_turns node fs) r w1 z1)
+    → (q : Run) → Wherever (λ e x y. Holds r x (y ++ ended l (end_in x e) ∷ [])) Cut q → Wherever (λ e x y. TurnsKeep (keeping rules) d (node_turns node fs) (result d e r) x ((evaluator rules).ended d e x y)) Cut q
+handler_wherever rules d l node fs r z told same go (over e w y n) h =
+    subst (λ q. TurnsKeep (keeping rules) d (node_turns node fs) q w ((evaluator rules).ended d e w y)) (sym (same e r)) (subst (λ u. TurnsKeep (keeping rules) d (node_turns node fs) r w u) (sym (told e w y)) (go w (y ++ ended l (end_in w e) ∷ []) h))
+handler_wherever rules d l node fs r z told same go (stopped f w y n) h = h
+handler_wherever rules d l node fs r z told same go (out w y n) h = h
+
+-- what happens to a node is told each handler in turn
+handlers_keep : (rules : Rules) (d : Deed) (l : deed.Label) (node : Name) (fs : List Value) (r : Results) (w : World) (z : List Item)
+    → ((e : Completion) (x : World) (y : List Item) → (evaluator rules).ended d e x y ≡ y ++ ended l (end_in x e) ∷ []) → ((e : Completion) (q : Results) → result d e q ≡ q) → Holds r w z → TurnsKeep (keeping rules) d (node_turns node fs) r w z
+handlers_keep rules d l node [] r w z told same h = h
+handlers_keep rules d l node (f ∷ fs) r w z told same h = λ n.
+    handler_wherever rules d l node fs r z told same (λ w1 z1 h1. handlers_keep rules d l node fs r w1 z1 told same h1)
+    (run (direct rules) n (answers (node_event node f w)) z) (answered_wherever rules l r (node_event node f w) z n h.results (node_reaches had_at_first text_methods rules node f w z h.invariant n))
+
+node_keeps : (rules : Rules) (d : Deed) (l : deed.Label) (node : Name) (fs : List Value) (r : Results) (w : World) (z : List Item)
+    → ((e : Completion) (x : World) (y : List Item) → (evaluator rules).ended d e x y ≡ y ++ ended l (end_in x e) ∷ []) → ((e : Completion) (q : Results) → result d e q ≡ q) → label_of d ≡ l → Holds r w z → TurnsOrNoneKeep (keeping rules) d (node_turns node fs) r w z
+node_keeps rules d l node [] r w z told same is h =
+    let t = ended (label_of d) by_nothing in
+    record { invariant = item_told had_at_first t tt h.invariant tt; results = results_more r (more_behind z (t ∷ [])) h.results }
+node_keeps rules d l node (f ∷ fs) r w z told same is h = handlers_keep rules d l node (f ∷ fs) r w z told same h
+
+input_holds : (root n : ℕ) (us : List ℕ) (r : Results) (w : World) (z : List Item) → Holds r w z → Holds r (with_input root n us w) z
+input_holds root n us r w z h = record { invariant = elsewhere_changed had_at_first refl refl refl h.invariant; results = h.results }
+
 -- pages
 
 deed_keeps : (rules : Rules) (d : Deed) → DeedKeeps (keeping rules) d
 deed_keeps rules (to_load m p gs) = load_keeps rules m p gs
 deed_keeps rules (to_call k m key args) = call_keeps rules k m key args
 deed_keeps rules (to_tick k m) = λ r w z h. tick_keeps rules k m (w.queues m) r w z h (h.invariant.queues m)
+deed_keeps rules (to_click k id root n) = λ r w z h. node_keeps rules (to_click k id root n) (deed.of_click k id root) (facet_name root n) (listeners n (codes "click") (w.handlers root)) r w z (λ e x y. refl) (λ e q. refl) refl h
+deed_keeps rules (to_input k id root n us) = λ r w z h. node_keeps rules (to_input k id root n us) (deed.of_input k id root) (facet_name root n) (listeners n (codes "input") (w.handlers root)) r (with_input root n us w) z (λ e x y. refl) (λ e q. refl) refl (input_holds root n us r w z h)
 
 deeds_keep : (rules : Rules) (ds : List Deed) → DeedsKeep (keeping rules) ds
 deeds_keep rules [] = tt
 deeds_keep rules (d ∷ ds) = (deed_keeps rules d, deeds_keep rules ds)
 
 pub pages_reach : PagesReach
-pages_reach rules ds n =
-    let i = page_keeps_cut (keeping rules) ds (deeds_keep rules ds) n no_results empty_world [] (record { invariant = at_the_start had_at_first; results = λ m. tt }) in
+pages_reach rules nodes ds n =
+    let i = page_keeps_cut (keeping rules) ds (deeds_keep rules ds) n no_results (first_world nodes) [] (record { invariant = elsewhere_changed had_at_first refl refl refl (at_the_start had_at_first); results = λ m. tt }) in
     record { reached = i.reached; numbered = i.names.numbered }
 
 pub page_items_lie : PageItemsLie
-page_items_lie rules ds n a i b is = each_lies had_at_first a i b (subst (Reached had_at_first) is (pages_reach rules ds n).reached)
+page_items_lie rules nodes ds n a i b is = each_lies had_at_first a i b (subst (Reached had_at_first) is (pages_reach rules nodes ds n).reached)
 
 pub page_names_are_new : PageNamesAreNew
-page_names_are_new rules ds n a b c m k o p is = each_new a b c m k o p (subst (Numbered (λ j. 0)) is (pages_reach rules ds n).numbered)
+page_names_are_new rules nodes ds n a b c m k o p is = each_new a b c m k o p (subst (Numbered (λ j. 0)) is (pages_reach rules nodes ds n).numbered)

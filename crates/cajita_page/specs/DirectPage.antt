@@ -1,17 +1,20 @@
--- What a page does, directly: modules are loaded with what they are granted, keys of their results are called, and functions that wait are called.
-use Rattle.std.specs.Prelude.{ℕ, List, [], ◌∷◌, ◌++◌, map, nat_eq, if◌then◌else◌}
+-- What a page does, directly: modules are loaded with what they are granted, keys of their results are called, functions that wait are called, and nodes are told what
+-- happens to them.
+use Rattle.std.specs.Prelude.{ℕ, List, [], ◌∷◌, ◌++◌, ◌&&◌, map, nat_eq, codes, if◌then◌else◌}
 use Rattle.plans.specs.Plans.{ends, enter, told, Plan as PlanOf, Run as RunOf}
 use Rattle.acts.specs.Acts.{replied, task}
 use Rattle.page_deeds.specs.Deeds as deed
-use Rattle.page_deeds.specs.Deeds.{Plain, Grant, a_cell, a_result, a_plain, Grants, Deed as DeedOf, to_load, to_call, to_tick, label_of}
+use Rattle.page_deeds.specs.Deeds.{Plain, Grant, a_cell, a_result, a_plain, a_root, Grants, Deed as DeedOf, to_load, to_call, to_tick, to_click, to_input, label_of}
 use Rattle.page_deeds.specs.Shown.{by_nothing}
 use Rattle.pages.specs.Pages.{Turn as TurnOf, Begun as BegunOf, Evaluator, page}
+use Rattle.caja_units.specs.Units.{same_units}
+use Rattle.rows.specs.Document.{Node, changed, sets_attribute}
 use Rattle.rows.specs.Nodes.{Rules}
 use Rattle.cajita_tree.specs.Tree as c
-use Rattle.cajita_meaning.specs.World.{cell_name, Value, undefined, null, truth, number, text, object, Pairs, World, empty_world, with_queue}
+use Rattle.cajita_meaning.specs.World.{Name, cell_name, facet_name, Value, undefined, null, truth, number, text, object, Pairs, Handler, World, with_queue, with_nodes}
 use Rattle.cajita_meaning.specs.Imports.{fixed_imports, imports_among}
 use Rattle.cajita_meaning.specs.Asking.{Reply, Shape, bad, first}
-use Rattle.cajita_meaning.specs.Events.{the_page, key_event, tick_event}
+use Rattle.cajita_meaning.specs.Events.{the_page, key_event, tick_event, node_event}
 use Rattle.cajita_meaning.specs.Direct.{Item, passed, granted, ended, Completion, gave, threw, Task, a_load, values_of, direct}
 use Rattle.cajita_page.specs.Shown.{end_in}
 
@@ -32,6 +35,7 @@ abbrev pub granted_value : Results → Grant → Value
 granted_value r (a_cell c) = object (cell_name c 0)
 granted_value r (a_result m) = r m
 granted_value r (a_plain v) = plain_value v
+granted_value r (a_root root) = object (facet_name root 0)
 
 -- what a module is granted, under its names
 abbrev pub granted_pairs : Results → Grants → Pairs
@@ -77,10 +81,26 @@ abbrev pub tick_begun : ℕ → List Value → World → List Item → Begun
 tick_begun m [] w z = record { store = w; kept = z; turns = [] }
 tick_begun m (f ∷ fs) w z = record { store = with_queue m fs w; kept = z; turns = (λ v y. answers (tick_event m f v)) ∷ [] }
 
+-- what is called when this happens to a node, in the order in which it was registered
+abbrev pub listeners : ℕ → List ℕ → List Handler → List Value
+listeners n what [] = []
+listeners n what (h ∷ hs) = if nat_eq h.on n && same_units h.what what then h.does ∷ listeners n what hs else listeners n what hs
+
+-- a turn for each of them, as they stood at the start
+abbrev pub node_turns : Name → List Value → List Turn
+node_turns node [] = []
+node_turns node (f ∷ fs) = (λ w z. answers (node_event node f w)) ∷ node_turns node fs
+
+-- a text stands in a node; nothing is told of that
+abbrev pub with_input : ℕ → ℕ → List ℕ → World → World
+with_input root n us w = with_nodes root (changed (sets_attribute (codes "value") us) n (w.nodes root)) w
+
 abbrev pub begin : Deed → Results → World → List Item → Begun
 begin (to_load m p gs) r w z = record { store = w; kept = z; turns = load_turn m p (granted_pairs r gs) ∷ [] }
 begin (to_call k m key args) r w z = record { store = w; kept = z; turns = (λ v y. answers (key_event m key (r m ∷ map plain_value args) v)) ∷ [] }
 begin (to_tick k m) r w z = tick_begun m (w.queues m) w z
+begin (to_click k id root n) r w z = record { store = w; kept = z; turns = node_turns (facet_name root n) (listeners n (codes "click") (w.handlers root)) }
+begin (to_input k id root n us) r w z = record { store = with_input root n us w; kept = z; turns = node_turns (facet_name root n) (listeners n (codes "input") (w.handlers root)) }
 
 -- what a load gave or threw goes to the page; of a call its maker has told that
 abbrev pub passed_out : ℕ → List Value → List Item
@@ -117,6 +137,10 @@ Run = RunOf Results World (List Item)
 abbrev pub no_results : Results
 no_results m = undefined
 
--- what the direct meaning says of a page with so many steps
-abbrev pub direct_page : Rules → List Deed → ℕ → Run
-direct_page rules ds n = page (evaluator rules) ds n no_results empty_world []
+-- nothing was done, and each root has its nodes
+abbrev pub first_world : (ℕ → List Node) → World
+first_world nodes = record { objects = λ m. []; scopes = λ m. []; cells = λ c. undefined; queues = λ m. []; revoked = λ m. []; nodes = nodes; handlers = λ root. [] }
+
+-- what the direct meaning says of a page with these nodes and with so many steps
+abbrev pub direct_page : Rules → (ℕ → List Node) → List Deed → ℕ → Run
+direct_page rules nodes ds n = page (evaluator rules) ds n no_results (first_world nodes) []

@@ -1,6 +1,7 @@
 -- What is promised of a page, wherever it is cut: what its modules do lies in what they have, and each name is new.
 use Rattle.std.specs.Prelude.{◌≡◌, ℕ, List, [], ◌∷◌, ◌++◌}
 use Rattle.plans.specs.Plans.{kept_of}
+use Rattle.rows.specs.Document.{Node}
 use Rattle.rows.specs.Nodes.{Rules}
 use Rattle.cajita_meaning.specs.World.{Name, object, Pairs}
 use Rattle.cajita_meaning.specs.Imports.{fixed_imports}
@@ -25,12 +26,12 @@ pub record PageReaches (z : List Item) : Type 0 where
 
 -- of every page, with any number of steps
 abbrev pub PagesReach : Type 0
-PagesReach = (rules : Rules) (ds : List Deed) (n : ℕ) → PageReaches (kept_of (direct_page rules ds n))
+PagesReach = (rules : Rules) (nodes : ℕ → List Node) (ds : List Deed) (n : ℕ) → PageReaches (kept_of (direct_page rules nodes ds n))
 
 -- what that says of each item: it lies in what was had before it
 abbrev pub PageItemsLie : Type 0
-PageItemsLie = (rules : Rules) (ds : List Deed) (n : ℕ) (a : List Item) (i : Item) (b : List Item) → kept_of (direct_page rules ds n) ≡ a ++ i ∷ b → Lies (have had_at_first a) i
+PageItemsLie = (rules : Rules) (nodes : ℕ → List Node) (ds : List Deed) (n : ℕ) (a : List Item) (i : Item) (b : List Item) → kept_of (direct_page rules nodes ds n) ≡ a ++ i ∷ b → Lies (have had_at_first a) i
 
 -- and of two objects that were made: their names are not the same
 abbrev pub PageNamesAreNew : Type 0
-PageNamesAreNew = (rules : Rules) (ds : List Deed) (n : ℕ) (a b c : List Item) (m k : ℕ) (o p : Name) → kept_of (direct_page rules ds n) ≡ a ++ made m o ∷ (b ++ made k p ∷ c) → o ≡ p → ⊥
+PageNamesAreNew = (rules : Rules) (nodes : ℕ → List Node) (ds : List Deed) (n : ℕ) (a b c : List Item) (m k : ℕ) (o p : Name) → kept_of (direct_page rules nodes ds n) ≡ a ++ made m o ∷ (b ++ made k p ∷ c) → o ≡ p → ⊥

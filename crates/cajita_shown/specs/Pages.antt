@@ -1,7 +1,7 @@
 -- What a page of whole sources does: each is read as a module, and the deeds of the page are done, by computation.
 use Rattle.std.specs.Prelude.{ℕ, List, [], ◌∷◌, Option, Some, None, map}
 use Rattle.plans.specs.Plans.{Fault, over, stopped, out}
-use Rattle.page_deeds.specs.Deeds.{Grants, Deed, to_load, to_call, to_tick}
+use Rattle.page_deeds.specs.Deeds.{Grants, Deed, to_load, to_call, to_tick, to_click, to_input}
 use Rattle.cajita_tree.specs.Tree as c
 use Rattle.rows.specs.Nodes.{no_rules}
 use Rattle.cajita_meaning.specs.World.{undefined, Pairs}
@@ -29,6 +29,8 @@ all_read [] = Some []
 all_read (to_load m source gs ∷ ds) = with_source (names gs) source (λ rule at. None) None (λ p. with_first (to_load m p gs) (all_read ds))
 all_read (to_call k m key args ∷ ds) = with_first (to_call k m key args) (all_read ds)
 all_read (to_tick k m ∷ ds) = with_first (to_tick k m) (all_read ds)
+all_read (to_click k id root n ∷ ds) = with_first (to_click k id root n) (all_read ds)
+all_read (to_input k id root n us ∷ ds) = with_first (to_input k id root n us) (all_read ds)
 
 abbrev pub of_page : Run → Page
 of_page (over r w z n) = done z
@@ -37,7 +39,7 @@ of_page (out w z n) = spent z
 
 abbrev pub of_deeds : Option (List (Deed (c.Tree c.program))) → ℕ → Page
 of_deeds None n = unread
-of_deeds (Some ds) n = of_page (direct_page no_rules ds n)
+of_deeds (Some ds) n = of_page (direct_page no_rules (λ root. []) ds n)
 
 -- a page of sources, with n steps
 abbrev pub shown_page : List (Deed (List ℕ)) → ℕ → Page

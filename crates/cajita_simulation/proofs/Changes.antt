@@ -21,8 +21,9 @@ use Rattle.row_simulation.proofs.Changes.{named_within}
 use Rattle.row_simulation.proofs.Relation as row_relation
 use Rattle.cajita_simulation.specs.Alike.{heard_by}
 use Rattle.cajita_simulation.specs.Related.{KnowsPage}
-use Rattle.cajita_simulation.proofs.Relation.{WaitersAre, RelAt, Named, ObjectsAre, Tags, AreScopes, Temps, Slot, unknown, declared, holds, keys, SlotIs, ScopesAre, Here, CodeIs, ClosuresAre, Related, Rel, Closed, Shaped, Stays, optval_keep, list_keep}
-use Rattle.row_simulation.proofs.Quiet.{Quiet, quiet_keeps, objects_quiet}
+use Rattle.cajita_simulation.proofs.Relation.{WaitersAre, RelAt, Named, ObjectsAre, Tags, AreScopes, Temps, Slot, unknown, declared, holds, keys, SlotIs, ScopesAre, Here, CodeIs, ClosuresAre, Related, Closed, Shaped, Stays, optval_keep, list_keep}
+use Rattle.row_simulation.proofs.Quiet.{Quiet, quiet_keeps, quiet_no_node, objects_quiet}
+use Rattle.row_simulation.proofs.Row.{pages_keep}
 use Rattle.cajita_simulation.proofs.Told.{items_told, shown_quiet}
 use Rattle.cajita_simulation.proofs.Shared.{shared_keep}
 use Rattle.cajita_simulation.proofs.Scopes.{stands_stays, captured_stays}
@@ -145,7 +146,7 @@ quiet_changes {w = w} q r =
     let keeps = quiet_keeps q in
     record {
       objects = objects_quiet q r.objects;
-      pages = record { cells = λ c. row_relation.val_keep keeps (w.cells c) _ (r.pages.cells c); queues = λ c. row_relation.vals_keep keeps (w.queues c) _ (r.pages.queues c) };
+      pages = pages_keep w w _ keeps (quiet_no_node q) (refl, refl, refl, refl) r.pages;
       keeps = keeps;
       scopes = refl;
       older = λ m n f chain e. e;

@@ -25,11 +25,10 @@ use Rattle.heap_rows.specs.Opening.{first, place_of, runtime_id}
 use Rattle.guard_runtime.specs.Guards.{func, func_of}
 use Rattle.page_natives.specs.Natives.{Kept, page_table}
 use Rattle.row_simulation.specs.Correspond as rows
-use Rattle.row_simulation.proofs.Relation as row_relation
 use Rattle.row_simulation.proofs.Row as row_laws
 use Rattle.row_simulation.proofs.Keys.{not_true, hidden_read, hidden_set, apart_too, read_frozen, set_frozen}
-use Rattle.row_simulation.proofs.Changes.{IsNew, named_keeps, objects_made, last_kept, room}
-use Rattle.row_simulation.proofs.Added.{awaiting_keeps, objects_with}
+use Rattle.row_simulation.proofs.Changes.{IsNew, named_keeps, named_no_node, objects_made, last_kept, room}
+use Rattle.row_simulation.proofs.Added.{awaiting_keeps, awaiting_no_node, objects_with}
 use Rattle.cajita_simulation.specs.Guest.{Names, Guest}
 use Rattle.cajita_simulation.proofs.Heaps.Lists.{slice_get-push, slice_get-push-cases}
 use Rattle.cajita_simulation.proofs.Heaps.Made.{tagged, next_name as next_tag, with_named}
@@ -143,6 +142,9 @@ module _ (g : Tags) (s : Store) (by : ℕ) (f : c.Tree c.func) (direct chain : L
   pub closure_keeps : count_at (slice_get s.heap.counts by) < 4294967295 → rows.Keeps s.heap after.heap
   closure_keeps few = row_laws.keeps_trans (named_keeps s.heap function by few) (awaiting_keeps (with_named s.heap function by) (prototype_object (length s.heap.list)) refl)
 
+  pub closure_no_node : rows.NoNewNode s.heap after.heap
+  closure_no_node = row_laws.no_node_trans (named_no_node s.heap function by) (awaiting_no_node (with_named s.heap function by) (prototype_object (length s.heap.list)) refl)
+
   pub closure_objects : {objects : ℕ → List Object} {m : ℕ} → by < 64 → suc m ≤ 4294967295 → ObjectsAre first place_of objects s.heap m → ObjectsAre first place_of (with_last by (a_closure f direct) objects) after.heap (suc m)
   closure_objects {objects = objects} below few old =
       objects_with (with_last by (a_closure f direct) objects) (with_named s.heap function by) (prototype_object (length s.heap.list))
@@ -179,7 +181,7 @@ module _ (g : Tags) (s : Store) (by : ℕ) (f : c.Tree c.func) (direct chain : L
         steps = fits;
         items = r.items;
         objects = closure_objects below few r.objects;
-        pages = record { cells = λ a. row_relation.val_keep keeps (w.cells a) _ (r.pages.cells a); queues = λ a. row_relation.vals_keep keeps (w.queues a) _ (r.pages.queues a) };
+        pages = row_laws.pages_keep w (World.with_object by (a_closure f direct) w) _ keeps closure_no_node (refl, refl, refl, refl) r.pages;
         closures = closures_with below few r.scopes.are r.objects captured guest r1.closures;
         waiters = λ j. closures_wait w.objects (World.with_object by (a_closure f direct) w).objects (λ a n q chain' e. last_kept by a n (a_closure f direct) (a_closure q chain') w.objects e) (w.queues j) (r.waiters j);
         scopes = scopes_keep keeps r1.scopes;

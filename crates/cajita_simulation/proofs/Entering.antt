@@ -22,9 +22,11 @@ use Rattle.row_simulation.proofs.Relation as row_relation
 use Rattle.row_simulation.proofs.Keys.{hidden_read, hidden_set, apart_too}
 use Rattle.row_simulation.proofs.First.{first_many, up_few}
 use Rattle.row_simulation.proofs.Changes.{IsNew, by_number}
-use Rattle.row_simulation.proofs.Added.{added_keeps, objects_added}
+use Rattle.row_simulation.proofs.Added.{added_keeps, awaiting_no_node, objects_added}
 use Rattle.cajita_simulation.proofs.Heaps.Lists.{slice_get-push, slice_get-push-other}
 use Rattle.cajita_simulation.proofs.Heaps.Functions.{function_object, prototype_object, function_new}
+use Rattle.row_simulation.proofs.Row as row_laws
+use Rattle.row_simulation.proofs.Row.{no_node_refl, no_node_trans, pages_keep}
 use Rattle.cajita_simulation.proofs.Relation.{EsValue, ScopeTag, tag_of_scope, Tags, Temps, ScopeIs, names_at, OwnNames, IsScope, AreScopes, Slot, unknown, declared, holds, keys, SlotIs, ScopesAre, Related, Shaped, Keeps, keeps_trans, closed_refl}
 use Rattle.cajita_simulation.proofs.Shared.{shared_more}
 use Rattle.cajita_simulation.proofs.Changes.{Changes, related_changed, closures_shaped}
@@ -178,11 +180,11 @@ module _ {T T' : Temps} {pairs : Pairs} {owner : store.Owner} {names : store.Nam
 
 -- the relation with a scope more
 pub related_scope : {T T' : Temps} {k : ℕ} {w : World} {z : List Item} {n : ℕ} {g : Tags} {s : Store} {y : Kept} {i : ℕ} {pairs : Pairs} {owner : store.Owner} {names : store.Names} (m : ℕ) → NewScopes T T' pairs owner names s → Related T k w z n g s y i → Related T' k (with_scope m pairs w) z n (g ++ tag_of_scope m (next_scope m w) ∷ []) (store.with_scope owner names s) y i
-related_scope {w = w} {g = g} {s = s} {owner = owner} {names = names} m new r = record {
+related_scope {w = w} {g = g} {s = s} {pairs = pairs} {owner = owner} {names = names} m new r = record {
   steps = r.steps;
   items = r.items;
   objects = r.objects;
-  pages = record { cells = r.pages.cells; queues = r.pages.queues };
+  pages = pages_keep w (with_scope m pairs w) _ row_laws.keeps_refl no_node_refl (refl, refl, refl, refl) r.pages;
   closures = closures_shaped w.objects {g = g} {s = s} refl (shaped_scope g (tag_of_scope m (next_scope m w)) owner names s) r.scopes.are (scopes_are owner names s new.own r.scopes.are) r.closures;
   waiters = r.waiters;
   scopes = scopes_more m new r.scopes;
@@ -222,6 +224,9 @@ two_keep h a b new new' =
     let two : Keeps (with_object h a) 0 (with_object (with_object h a) b) 0 = record { objects = added_keeps (with_object h a) b (λ m n e. unmade m n (sym new'.bare ∙ e)); more = omega arith } in
     (keeps_trans one two).objects
 
+pub two_no_node : (h : Objects) (a b : heap.Object) → IsNew first a → IsNew first b → row_relation.NoNewNode h (with_object (with_object h a) b)
+two_no_node h a b new new' = no_node_trans (awaiting_no_node h a new.bare) (awaiting_no_node (with_object h a) b new'.bare)
+
 function_changes : {T : Temps} {k : ℕ} {w : World} {z : List Item} {n : ℕ} {g : Tags} {s : Store} {y : Kept} {m : ℕ} (code params maker : ℕ) → Related T k w z n g s y m → Changes (page_of y) w s w (store.new_function code params maker s.heap) (suc (suc m))
 function_changes {w = w} {s = s} {y = y} {m = m} code params maker r =
     let a = function_object code params maker (suc (length s.heap.list)) in
@@ -231,7 +236,7 @@ function_changes {w = w} {s = s} {y = y} {m = m} code params maker r =
     let keeps = two_keep s.heap a b new new' in
     subst (λ h. Changes (page_of y) w s w h (suc (suc m))) (sym (function_new code params maker s.heap)) (record {
       objects = objects_added w.objects (with_object s.heap a) b (objects_added w.objects s.heap a r.objects new) new';
-      pages = record { cells = λ c. row_relation.val_keep keeps (w.cells c) _ (r.pages.cells c); queues = λ c. row_relation.vals_keep keeps (w.queues c) _ (r.pages.queues c) };
+      pages = pages_keep w w _ keeps (two_no_node s.heap a b new new') (refl, refl, refl, refl) r.pages;
       keeps = keeps;
       scopes = refl;
       older = λ m n f chain e. e;

@@ -33,8 +33,9 @@ use Rattle.row_simulation.proofs.Keys.{apart_too, hidden_read, hidden_set}
 use Rattle.row_simulation.proofs.Copies.{empty_props, proto_zero}
 use Rattle.row_simulation.proofs.Props.{props_written}
 use Rattle.row_simulation.proofs.Relation as row_relation
-use Rattle.row_simulation.proofs.Changes.{IsNew, named_keeps, objects_made}
-use Rattle.row_simulation.proofs.Added.{awaiting_keeps, objects_added}
+use Rattle.row_simulation.proofs.Changes.{IsNew, named_keeps, named_no_node, objects_made}
+use Rattle.row_simulation.proofs.Added.{awaiting_keeps, awaiting_no_node, objects_added}
+use Rattle.row_simulation.proofs.Row.{pages_keep}
 use Rattle.row_simulation.proofs.Arrays.{array_new}
 use Rattle.row_simulation.proofs.First.{first_is}
 use Rattle.cajita_simulation.specs.Guest.{GuestKey}
@@ -104,8 +105,8 @@ record_new h ks vs qs p = record {
 }
 
 -- what the page keeps
-pages_still : {h h' : Objects} {w : State} {g : Page} → rows.Keeps h h' → PagesAre h w g → PagesAre h' w g
-pages_still k p = record { cells = λ c. row_relation.val_keep k _ _ (p.cells c); queues = λ m. row_relation.vals_keep k _ _ (p.queues m) }
+pages_still : {h h' : Objects} {w : State} {g : Page} → rows.Keeps h h' → rows.NoNewNode h h' → PagesAre h w g → PagesAre h' w g
+pages_still {w = w} {g = g} k o p = pages_keep w w g k o (refl, refl, refl, refl) p
 
 -- no closure comes or goes
 
@@ -131,7 +132,7 @@ array_changes vs {w = w} {s = s} page few o p =
     let k = awaiting_keeps s.heap (array_object vs) refl in
     record {
       objects = record { each = a.each; once = a.once; natives = a.natives; reads = a.reads; sets = a.sets; above = a.above; count = a.count; few = o.few; opened = a.opened; unnamed = a.unnamed; large = a.large };
-      pages = pages_still k p;
+      pages = pages_still k (awaiting_no_node s.heap (array_object vs) refl) p;
       keeps = k;
       scopes = refl;
       older = λ m n f chain e. e;
@@ -147,10 +148,9 @@ record_changes by below ks vs qs {w = w} {s = s} {m = m} page small p o pages =
     let number : count_at (slice_get s.heap.counts by) ≡ length (w.objects by) = ap count_at (o.count by below) in
     let f = o.few by in
     let k = named_keeps s.heap (record_object qs) by (omega (arith, number, f, small)) in
-    let pages' = pages_still k pages in
     record {
       objects = objects_made by w.objects below o (a_record false ps) (record_object qs) small (record_new s.heap ks vs qs p) (record { class = refl; no_call = refl; proto = refl; props = props_all _ ks vs qs [] [] (fields_keep k ks vs qs p) (empty_props _) });
-      pages = record { cells = pages'.cells; queues = pages'.queues };
+      pages = pages_keep w (with_object by (a_record false ps) w) page k (named_no_node s.heap (record_object qs) by) (refl, refl, refl, refl) pages;
       keeps = k;
       scopes = refl;
       older = λ m n f chain e. push_older by ps w.objects m n f chain e;

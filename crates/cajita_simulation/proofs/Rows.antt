@@ -14,7 +14,7 @@ use Rattle.es3_language.specs.Natives.{Reply, value_reply, throw_reply, stop_rep
 use Rattle.es3_language.specs.Meaning as Target
 use Rattle.rows.specs.Rows as r
 use Rattle.rows.specs.Rows.{Handle, Sight, Ending, Row, Native}
-use Rattle.cajita_meaning.specs.World.{Name, made_name, Object, Value, undefined, null, truth, number, text, object, World, next_name}
+use Rattle.cajita_meaning.specs.World.{Name, made_name, facet_name, Object, Value, undefined, null, truth, number, text, object, World, next_name}
 use Rattle.cajita_meaning.specs.Doing as direct
 use Rattle.cajita_meaning.specs.Asking as Asking
 use Rattle.cajita_meaning.specs.Asking.{Shape, good, bad, telling_all, outcome_reply, done_reply}
@@ -23,7 +23,7 @@ use Rattle.heap_rows.specs.Doing as es3
 use Rattle.heap_rows.specs.Doing.{heard}
 use Rattle.heap_rows.specs.Opening.{first, place_of}
 use Rattle.row_simulation.specs.Among.{IsAmongObjects}
-use Rattle.row_simulation.specs.RowLaw.{shown, ReplyIs, PagesAre, CameIs}
+use Rattle.row_simulation.specs.RowLaw.{shown, ReplyIs, AreWithin, HandlersAre, PagesAre, CameIs}
 use Rattle.row_simulation.proofs.First.{first_is}
 use Rattle.row_simulation.proofs.Whole.{every_row}
 use Rattle.row_simulation.proofs.Leaves.{does_leaves}
@@ -37,7 +37,7 @@ use Rattle.cajita_simulation.proofs.Relation.{RelAt, IsClosure, AreClosures, Wai
 use Rattle.cajita_simulation.proofs.Changes.{Changes, stays_changed, rel_settled, knows_still}
 use Rattle.cajita_simulation.proofs.Laws.{Cont, Cont', M, steps_hold}
 
--- rows that change nothing of what a page keeps beside its objects
+-- rows that change nothing of what a page keeps beside its objects, and look at nothing of it
 abbrev pub NoSettling : Row → Type 0
 NoSettling (r.ends e) = Unit {0}
 NoSettling (r.settles e) = ⊥
@@ -46,6 +46,8 @@ NoSettling (r.as_number x go) = (n : ℤ) → NoSettling (go n)
 NoSettling (r.as_joined x sep go) = (us : List ℕ) → NoSettling (go us)
 NoSettling (r.as_same x y go) = (b : Bool) → NoSettling (go b)
 NoSettling (r.looks x go) = (s : Sight) → NoSettling (go s)
+NoSettling (r.as_same_root x v go) = ⊥
+NoSettling (r.branches x go other) = ⊥
 NoSettling (r.touches t x k next) = NoSettling next
 
 -- what they come to doesn't go by it
@@ -62,6 +64,8 @@ any_page fs by (r.as_number x go) none es h g g' y = with_page (number_of h (es3
 any_page fs by (r.as_joined x sep go) none es h g g' y = with_page (es3.joined_of h (es3.value_in fs es x) sep) h g g' y _ _ (λ us. any_page fs by (go us) (none us) es h g g' y)
 any_page fs by (r.as_same x z go) none es h g g' y = any_page fs by (go _) (none _) es h g g' y
 any_page fs by (r.looks x go) none es h g g' y = any_page fs by (go _) (none _) _ h g g' y
+any_page fs by (r.as_same_root x v go) none es h g g' y = absurd none
+any_page fs by (r.branches x go other) none es h g g' y = absurd none
 any_page fs by (r.touches t x k next) none es h g g' y = any_page fs by next none es h g g' _
 
 -- and it stays
@@ -78,6 +82,8 @@ same_page fs by (r.as_number x go) none es h g y = page_same (number_of h (es3.v
 same_page fs by (r.as_joined x sep go) none es h g y = page_same (es3.joined_of h (es3.value_in fs es x) sep) h g y _ (λ us. same_page fs by (go us) (none us) es h g y)
 same_page fs by (r.as_same x z go) none es h g y = same_page fs by (go _) (none _) es h g y
 same_page fs by (r.looks x go) none es h g y = same_page fs by (go _) (none _) _ h g y
+same_page fs by (r.as_same_root x v go) none es h g y = absurd none
+same_page fs by (r.branches x go other) none es h g y = absurd none
 same_page fs by (r.touches t x k next) none es h g y = same_page fs by next none es h g _
 
 -- rows that touch nothing
@@ -89,6 +95,8 @@ NoTouches (r.as_number x go) = (n : ℤ) → NoTouches (go n)
 NoTouches (r.as_joined x sep go) = (us : List ℕ) → NoTouches (go us)
 NoTouches (r.as_same x y go) = (b : Bool) → NoTouches (go b)
 NoTouches (r.looks x go) = (s : Sight) → NoTouches (go s)
+NoTouches (r.as_same_root x v go) = ⊥
+NoTouches (r.branches x go other) = ⊥
 NoTouches (r.touches t x k next) = ⊥
 
 -- no page tells anything of what they tell directly
@@ -149,6 +157,8 @@ quiet_row by (r.as_number x go) none calm s w z p = quiet_result (direct.number_
 quiet_row by (r.as_joined x sep go) none calm s w z p = quiet_result (direct.joined_of w (direct.value_of s.values x) sep) w z _ p (λ us. quiet_row by (go us) (none us) (calm us) s w z p)
 quiet_row by (r.as_same x y go) none calm s w z p = quiet_row by (go _) (none _) (calm _) s w z p
 quiet_row by (r.looks x go) none calm s w z p = quiet_row by (go _) (none _) (calm _) _ w z p
+quiet_row by (r.as_same_root x v go) none calm s w z p = absurd none
+quiet_row by (r.branches x go other) none calm s w z p = absurd none
 quiet_row by (r.touches t x k next) none calm s w z p = absurd calm
 
 -- what is done by an answer's shape, with its values
@@ -173,9 +183,21 @@ pub record KeepsRow (y y' : Kept) (came : es3.Came) : Type 0 where
   pub told : y'.told ≡ y.told ++ heard y.touching came.done.items
   pub cells : (c : ℕ) → came.page.cells c ≡ (page_of y').cells c
   pub queues : (m : ℕ) → came.page.queues m ≡ (page_of y').queues m
+  pub nodes : (root : ℕ) → came.page.nodes root ≡ []
+  pub facets : (root : ℕ) → came.page.facets root ≡ []
+  pub handlers : (root : ℕ) → came.page.handlers root ≡ []
 
-pages_moved : {h : Objects} {w : World} {p q : es3.Page} → ((c : ℕ) → p.cells c ≡ q.cells c) → ((m : ℕ) → p.queues m ≡ q.queues m) → PagesAre h w p → PagesAre h w q
-pages_moved {h = h} {w = w} a b r = record { cells = λ c. subst (Val h (w.cells c)) (a c) (r.cells c); queues = λ m. subst (Vals h (w.queues m)) (b m) (r.queues m) }
+pages_moved : {h : Objects} {w : World} {p q : es3.Page} → ((c : ℕ) → p.cells c ≡ q.cells c) → ((m : ℕ) → p.queues m ≡ q.queues m) → ((root : ℕ) → p.nodes root ≡ q.nodes root) → ((root : ℕ) → p.facets root ≡ q.facets root) → ((root : ℕ) → p.handlers root ≡ q.handlers root) → PagesAre h w p → PagesAre h w q
+pages_moved {h = h} {w = w} {p = p} {q = q} cells queues nodes facets handlers r = record {
+  cells = λ c. subst (Val h (w.cells c)) (cells c) (r.cells c);
+  queues = λ m. subst (Vals h (w.queues m)) (queues m) (r.queues m);
+  nodes = λ root. r.nodes root ∙ nodes root;
+  within = λ root. subst (λ ns. AreWithin (length ns) ns) (nodes root) (r.within root);
+  facets = λ root k lt. subst (λ os. Val h (object (facet_name root k)) (es3.facet_at os k)) (facets root) (r.facets root k (subst (λ ns. k < length ns) (sym (nodes root)) lt));
+  as_many = λ root. ap length (sym (facets root)) ∙ r.as_many root ∙ ap length (nodes root);
+  known = λ root k i t. subst (λ ns. k < length ns) (nodes root) (r.known root k i t);
+  handlers = λ root. subst (HandlersAre h (w.handlers root)) (handlers root) (r.handlers root);
+}
 
 -- what a row leaves waiting: where it changes nothing of that, the same closures
 
@@ -219,7 +241,7 @@ settled_on {form = form} {H = H} {T = T} {d = d} {k = k} below q among vs es {w 
     let c : CameIs first place_of s.heap m a came = every_row first place_of H.by below first_is q among (direct.given vs) es w s.heap (page_of y) [] [] m few is r.all.objects r.all.pages refl in
     let l = does_leaves H.by q (direct.given vs) w [] in
     let x : Changes (page_of y') w s a.world came.done.heap (suc m) =
-    record { objects = c.done.objects; pages = pages_moved kept.cells kept.queues c.page; keeps = c.done.keeps; scopes = l.scopes; older = l.older; closed = record { closures = l.closed }; waiters = λ before. waiters } in
+    record { objects = c.done.objects; pages = pages_moved kept.cells kept.queues kept.nodes kept.facets kept.handlers c.page; keeps = c.done.keeps; scopes = l.scopes; older = l.older; closed = record { closures = l.closed }; waiters = λ before. waiters } in
     let items : heard_by y' (z ++ a.items) ≡ y'.told = ap (λ t. heard t (shown (z ++ a.items))) kept.touching ∙ items_told y z a.items came.done.items c.done.items r.all.items ∙ sym kept.told in
     let r1 : RelAt form H T k a.world (z ++ a.items) n g (with_heap s came.done.heap) y' (suc m) = rel_settled x (knows_still kept.runtime kept.imports r.all.kept) items (omega arith) (omega (arith, r.all.steps)) r in
     left_tell H a.items (outcome_reply H.around.calls H.by a.outcome a.world) go next z (f.on _ a.world (z ++ a.items) _ c.done.reply r1 (stays_changed g x (omega arith)))
@@ -233,7 +255,7 @@ row_on {form = form} {H = H} {d = d} below q among none vs es {w = w} {z = z} {n
     let same = same_page place_of H.by q none es s.heap (page_of y) [] in
     let came = es3.does place_of H.by q es s.heap (page_of y) [] in
     subst (λ b. M H d (bind (replied (done_reply H.around.calls H.by a) go) next) z n (bind (Target.reply_plan b.reply (env_of H) (with_heap s b.heap)) next') (tells b.items y) (suc m)) (any_page place_of H.by q none es s.heap (page_of y) page [])
-    (settled_on below q among vs es (tells came.done.items y) go next next' few is r (row_waiters below q among none vs es few is r) (record { runtime = refl; imports = refl; touching = refl; told = refl; cells = λ c. ap (λ p. p.cells c) same; queues = λ m. ap (λ p. p.queues m) same }) f)
+    (settled_on below q among vs es (tells came.done.items y) go next next' few is r (row_waiters below q among none vs es few is r) (record { runtime = refl; imports = refl; touching = refl; told = refl; cells = λ c. ap (λ p. p.cells c) same; queues = λ m. ap (λ p. p.queues m) same; nodes = λ root. ap (λ p. p.nodes root) same; facets = λ root. ap (λ p. p.facets root) same; handlers = λ root. ap (λ p. p.handlers root) same }) f)
 
 -- where the row touches nothing, a page tells nothing of it
 pub row_silent : {form : Bool} {H : Here} {T : Temps} {k : ℕ} → H.by < 64 → (q : Row) → IsAmongObjects q → NoSettling q → NoTouches q → (vs : List Value) (es : List EsValue) {w : World} {z : List Item} {n : ℕ} {g : Tags} {s : Store} {y : Kept} {m : ℕ} (page : es3.Page) → suc m ≤ 4294967295 → Vals s.heap vs es → RelAt form H T k w z n g s y m
@@ -258,6 +280,8 @@ IsPlain (r.as_number x go) = (n : ℤ) → IsPlain (go n)
 IsPlain (r.as_joined x sep go) = (us : List ℕ) → IsPlain (go us)
 IsPlain (r.as_same x y go) = (b : Bool) → IsPlain (go b)
 IsPlain (r.looks x go) = (s : Sight) → IsPlain (go s)
+IsPlain (r.as_same_root x v go) = ⊥
+IsPlain (r.branches x go other) = ⊥
 IsPlain (r.touches t x k next) = IsPlain next
 
 pub plain_settling : (q : Row) → IsPlain q → NoSettling q
@@ -268,6 +292,8 @@ plain_settling (r.as_number x go) p = λ n. plain_settling (go n) (p n)
 plain_settling (r.as_joined x sep go) p = λ us. plain_settling (go us) (p us)
 plain_settling (r.as_same x y go) p = λ b. plain_settling (go b) (p b)
 plain_settling (r.looks x go) p = λ s. plain_settling (go s) (p s)
+plain_settling (r.as_same_root x v go) p = absurd p
+plain_settling (r.branches x go other) p = absurd p
 plain_settling (r.touches t x k next) p = plain_settling next p
 
 abbrev pub ComesPlainly : direct.Outcome → Type 0
@@ -371,6 +397,8 @@ plain_row by (r.as_joined x sep go) p s w z =
     plain_result (direct.joined_of w v sep) w z _ (converts_if _ (converts_joined (direct.text_within 31 w) (converts_text 31 w) sep (direct.see w 0 v).values) (direct.see w 0 v).sight) (λ us. plain_row by (go us) (p us) s w z)
 plain_row by (r.as_same x y go) p s w z = plain_row by (go _) (p _) s w z
 plain_row by (r.looks x go) p s w z = plain_row by (go _) (p _) _ w z
+plain_row by (r.as_same_root x v go) p s w z = absurd p
+plain_row by (r.branches x go other) p s w z = absurd p
 plain_row by (r.touches t x k next) p s w z = plain_row by next p s w _
 
 -- both go on alike after a value of the row, of which this holds, and after a throw

@@ -6,7 +6,7 @@ use Rattle.es3_objects.specs.declared.value.Value.{Value}
 use Rattle.es3_heap.specs.Objects.{Objects}
 use Rattle.es3_convert.specs.Conversions.{text_of}
 use Rattle.cajita_meaning.specs.Direct.{Item}
-use Rattle.heap_rows.specs.Doing.{Told, touched, said, ended, heard}
+use Rattle.heap_rows.specs.Doing.{Told, touched, said, changed_node, ended, heard}
 use Rattle.row_outcomes.specs.Arguments.{argument}
 use Rattle.row_simulation.specs.RowLaw.{shown}
 use Rattle.row_simulation.proofs.Row.{shown-append}
@@ -23,6 +23,7 @@ heard_append b [] ys = refl
 heard_append true (touched m t g k ∷ xs) ys = ap (λ l. touched m t g k ∷ l) (heard_append true xs ys)
 heard_append false (touched m t g k ∷ xs) ys = heard_append false xs ys
 heard_append b (said m us ∷ xs) ys = ap (λ l. said m us ∷ l) (heard_append b xs ys)
+heard_append b (changed_node root k c ∷ xs) ys = ap (λ l. changed_node root k c ∷ l) (heard_append b xs ys)
 heard_append b (ended e v ∷ xs) ys = ap (λ l. ended e v ∷ l) (heard_append b xs ys)
 
 pub heard_more : (y : Kept) (a b : List Item) → heard_by y (a ++ b) ≡ heard_by y a ++ heard_by y b

@@ -43,6 +43,12 @@ tick_begins m f fs d w z n g s y i waits r =
                 subst (λ k. Vals s.heap fs (queue_of k (rest_of m y.waiting))) (sym same) (subst (Vals s.heap fs) (sym (behind m y.waiting first.0 first.1 first.2)) first.4)
             | false ↦ λ is. subst (Vals s.heap (w.queues j)) (sym (rest_other j m y.waiting is)) (r.pages.queues j)
           ] in cases refl;
+          nodes = r.pages.nodes;
+          within = r.pages.within;
+          facets = r.pages.facets;
+          as_many = r.pages.as_many;
+          known = r.pages.known;
+          handlers = r.pages.handlers;
         };
         closures = r.closures;
         waiters = λ j. elim (nat_eq j m) as (λ b. AreClosures w.objects (cond b fs (w.queues j))) [

@@ -18,7 +18,8 @@ use Rattle.cajita_meaning.specs.Direct.{Item}
 use Rattle.page_natives.specs.Natives.{Kept}
 use Rattle.cajita_simulation.proofs.Doing.{assign}
 use Rattle.cajita_simulation.proofs.Heaps.Names.{name_value-with_name}
-use Rattle.cajita_simulation.proofs.Relation.{EsValue, Val, OptVal, ScopeTag, tag_of_scope, Tags, names_at, Temps, Slot, unknown, declared, holds, keys, SlotIs, ScopesAre, Here, Rel, Shaped, Keeps, Stays, keeps_refl, closed_refl, val_keep, list_keep}
+use Rattle.row_simulation.proofs.Row.{no_node_refl, pages_keep}
+use Rattle.cajita_simulation.proofs.Relation.{EsValue, Val, OptVal, ScopeTag, tag_of_scope, Tags, names_at, Temps, Slot, unknown, declared, holds, keys, SlotIs, ScopesAre, Here, Rel, Shaped, Keeps, Stays, same_keeps, keeps_refl, closed_refl, val_keep, list_keep}
 use Rattle.cajita_simulation.proofs.Scopes.{FoundAs, FoundAt, found_at, stored_is, stored_apart, in_stays}
 use Rattle.cajita_simulation.proofs.Written.{same_place, other_place, value_at-with_value, names_at-written, names_at-other, scope_at-written, scope_at-other, slot_kept, variable_kept, are_written, fixed_written, written_same, shared_store}
 use Rattle.cajita_simulation.proofs.Shared.{shared_more, quiet_shared}
@@ -144,7 +145,7 @@ rel_assigned {H = H} {T = T} {w = w} {g = g} {s = s} x c v e guest f is r =
         steps = r.all.steps;
         items = r.all.items;
         objects = r.all.objects;
-        pages = record { cells = r.all.pages.cells; queues = r.all.pages.queues };
+        pages = pages_keep w (assign H x v w) _ same_keeps no_node_refl (refl, refl, refl, refl) r.all.pages;
         closures = closures_shaped w.objects refl shaped r.all.scopes.are are r.all.closures;
         waiters = r.all.waiters;
         scopes = subst (λ l. ScopesAre T g (with_list H.by l w.scopes) (with_slot c x e s)) (sym (f.assigns v)) scopes;

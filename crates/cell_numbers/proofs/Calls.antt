@@ -106,7 +106,7 @@ module _ (f : Renumbering) where
       (λ k. let v = object (made_name m k) in let u = W.with_object m (an_array true vs) w in
       subst (λ t. Anew f (go (W.declare m n x v u)) (back t)) (sym (declare_anew f m n x v u)) (h (W.declare m n x v u)))
 
-  body_anew : (b : c.Tree c.body) (params : List (List ℕ)) (args : Bool) (vs : List Value) (n : ℕ) (a : A.Around) (m by : ℕ) (w : World) → Anew f (A.body_reply b params args vs n a m by w) (A.body_reply b params args (values_anew f vs) n a m by (world w))
+  pub body_anew : (b : c.Tree c.body) (params : List (List ℕ)) (args : Bool) (vs : List Value) (n : ℕ) (a : A.Around) (m by : ℕ) (w : World) → Anew f (A.body_reply b params args vs n a m by w) (A.body_reply b params args (values_anew f vs) n a m by (world w))
   body_anew (c.a_body fs vars xs) params args vs n a m by w =
       let u = W.with_scope m (W.with_vars vars (W.with_params params vs [])) w in
       let next = λ (v : World). A.functions_made fs n a.chain m v (λ v2. A.statements_reply xs a m by v2) in

@@ -1,21 +1,23 @@
 -- Events: what the page is answered is the same, anew.
 use Rattle.std.proofs.Common.{ℕ, List, [], ◌∷◌, Option, Some, None, refl, sym, ap, subst}
 use Rattle.std.specs.Prelude.{option_map, slice_get, codes, length}
+use Rattle.std.proofs.lemmas.List.{length-map}
 use Rattle.std.proofs.lemmas.Option.{slice_get-map}
 use Rattle.acts.specs.Acts.{task, answer}
 use Rattle.rows.specs.Rows as r
 use Rattle.rows.specs.Rows.{Native}
 use Rattle.rows.specs.Events.{call_key}
+use Rattle.cajita_tree.specs.Tree as c
 use Rattle.cajita_meaning.specs.World as W
-use Rattle.cajita_meaning.specs.World.{Name, made_name, Value, undefined, object, Object, a_closure, World}
+use Rattle.cajita_meaning.specs.World.{Name, made_name, cell_name, facet_name, forward_name, Value, undefined, object, Object, a_closure, World}
 use Rattle.cajita_meaning.specs.Doing as d
 use Rattle.cajita_meaning.specs.Asking as A
 use Rattle.cajita_meaning.specs.Events as e
 use Rattle.cajita_meaning.specs.Events.{the_page}
 use Rattle.cajita_meaning.specs.Direct.{Completion, gave, threw}
-use Rattle.cell_numbers.specs.Renumbering.{Renumbering, name_anew, value_anew, values_anew, object_anew, world_anew, completion_anew}
+use Rattle.cell_numbers.specs.Renumbering.{Renumbering, name_anew, value_anew, values_anew, pairs_anew, object_anew, world_anew, completion_anew}
 use Rattle.cell_numbers.proofs.Rows.{outcome_anew, begun_anew}
-use Rattle.cell_numbers.proofs.Calls.{Anew, making_anew, passing_anew, entry_anew, native_at_anew, received_anew}
+use Rattle.cell_numbers.proofs.Calls.{Anew, making_anew, passing_anew, body_anew, entry_anew, native_at_anew, received_anew}
 use Rattle.cell_numbers.proofs.Questions.{telling_anew}
 
 module _ (f : Renumbering) where
@@ -64,3 +66,20 @@ module _ (f : Renumbering) where
 
   pub tick_anew : (m : ℕ) (g : Value) (w : World) → Anew f (e.tick_event m g w) (e.tick_event m (value_anew f g) (world_anew f w))
   tick_anew m g w = page_call_anew m g undefined [] w
+
+  handler_anew_entry : (m : ℕ) (o : Option Object) (node : Name) (w : World) → Anew f (e.handler_entry m o node w) (e.handler_entry m (option_map (object_anew f) o) (name_anew f node) (world_anew f w))
+  handler_anew_entry m (Some (a_closure (c.fun name params args body) chain)) node w =
+      let at = λ (n : ℕ) (x : Name) (u : World). A.telling_all (d.granted m x ∷ []) (A.body_reply body params args (object x ∷ []) n (record { chain = n ∷ chain; calls = 1 }) m the_page u) in
+      let n = W.next_scope m w in
+      subst (λ i. Anew f (at n node w) (at i (name_anew f node) (world_anew f w))) (sym (length-map (w.scopes m) (pairs_anew f)))
+      (telling_anew f (d.granted m node ∷ []) (A.body_reply body params args (object node ∷ []) n (record { chain = n ∷ chain; calls = 1 }) m the_page w)
+      (A.body_reply body params args (object (name_anew f node) ∷ []) n (record { chain = n ∷ chain; calls = 1 }) m the_page (world_anew f w)) (body_anew f body params args (object node ∷ []) n (record { chain = n ∷ chain; calls = 1 }) m the_page w))
+  handler_anew_entry m o node w = (refl, refl, refl)
+
+  pub node_anew : (node : Name) (g : Value) (w : World) → Anew f (e.node_event node g w) (e.node_event (name_anew f node) (value_anew f g) (world_anew f w))
+  node_anew node (object (made_name m n)) w =
+      subst (λ o. Anew f (e.node_event node (object (made_name m n)) w) (e.handler_entry m o (name_anew f node) (world_anew f w))) (sym (slice_get-map (object_anew f) (w.objects m) n)) (handler_anew_entry m (slice_get (w.objects m) n) node w)
+  node_anew node (object (cell_name k i)) w = (refl, refl, refl)
+  node_anew node (object (facet_name root k)) w = (refl, refl, refl)
+  node_anew node (object (forward_name m p k i)) w = (refl, refl, refl)
+  node_anew node g w = (refl, refl, refl)

@@ -1,8 +1,8 @@
--- Renumberings that exchange two numbers.
+-- Numberings that exchange two numbers.
 use Rattle.std.proofs.Common.{◌≡◌, ℕ, Bool, true, false, refl, sym, ap, ◌∙◌}
 use Rattle.std.specs.Prelude.{nat_eq, if◌then◌else◌}
 use Rattle.std.proofs.lemmas.Bool.{eqb-true, eq-eqb}
-use Rattle.cell_numbers.specs.Renumbering.{Renumbering}
+use Rattle.cell_numbers.specs.Renumbering.{Numbering}
 
 -- numbers
 
@@ -39,13 +39,13 @@ not_same n k h = at (nat_eq n k) refl
     at true e = absurd (h (eqb-true n k e))
     at false e = refl
 
--- renumberings
+-- numberings
 
-abbrev pub the_same : Renumbering
+abbrev pub the_same : Numbering
 the_same = record { anew = λ c. c; back = λ c. c; back_anew = λ c. refl; anew_back = λ c. refl }
 
 -- and then two of the new numbers are exchanged
-abbrev pub and_exchanged : ℕ → ℕ → Renumbering → Renumbering
+abbrev pub and_exchanged : ℕ → ℕ → Numbering → Numbering
 and_exchanged a b f = record {
   anew = λ c. exchanged a b (f.anew c);
   back = λ c. f.back (exchanged a b c);
@@ -54,5 +54,5 @@ and_exchanged a b f = record {
 }
 
 -- two cells don't get one number
-pub one_number : (f : Renumbering) (c e : ℕ) → f.anew c ≡ f.anew e → c ≡ e
+pub one_number : (f : Numbering) (c e : ℕ) → f.anew c ≡ f.anew e → c ≡ e
 one_number f c e h = sym (f.back_anew c) ∙ ap f.back h ∙ f.back_anew e

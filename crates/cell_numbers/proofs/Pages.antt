@@ -1,37 +1,40 @@
 -- Pages: they do the same, anew.
 use Rattle.std.proofs.Common.{◌≡◌, ℕ, List, [], ◌∷◌, ◌++◌, Option, Some, None, refl, sym, ap, ◌∙◌}
-use Rattle.std.specs.Prelude.{map, option_map, nat_eq, if◌then◌else◌, slice_get}
+use Rattle.std.specs.Prelude.{map, option_map, nat_eq, ◌&&◌, codes, if◌then◌else◌, slice_get}
+use Rattle.caja_units.specs.Units.{same_units}
 use Rattle.std.proofs.Math.Path.{fun_ext}
 use Rattle.std.proofs.lemmas.List.{map-append}
 use Rattle.std.proofs.lemmas.Option.{slice_get-map}
 use Rattle.plans.specs.Plans.{Run as RunOf, kept_of, count_of, over, stopped, out, enter, ends, run}
 use Rattle.acts.specs.Acts.{task}
-use Rattle.page_deeds.specs.Deeds.{Plain, Grants, to_load, to_call, to_tick, label_of, a_cell, a_result, a_plain}
+use Rattle.page_deeds.specs.Deeds.{Plain, Grants, to_load, to_call, to_tick, to_click, to_input, label_of, labelled, a_cell, a_result, a_plain, a_root}
 use Rattle.page_deeds.specs.Deeds as deeds
 use Rattle.page_deeds.specs.Shown.{renamed, end_renamed, by_return, by_throw, by_nothing}
-use Rattle.pages.specs.Pages.{chain, turns_or_none, deed, page}
+use Rattle.pages.specs.Pages.{chain, turns, turns_or_none, deed, page}
+use Rattle.rows.specs.Document.{changed, sets_attribute}
 use Rattle.rows.specs.Nodes.{Rules}
 use Rattle.cajita_tree.specs.Tree as c
-use Rattle.cajita_meaning.specs.World.{Name, made_name, Value, object, Pairs, Object, a_record, an_array, a_closure, an_error, World, empty_world, value_at, with_queue}
+use Rattle.cajita_meaning.specs.World as W
+use Rattle.cajita_meaning.specs.World.{Name, made_name, facet_name, Value, object, Pairs, Object, a_record, an_array, a_closure, an_error, Handler, World, value_at, with_queue}
 use Rattle.cajita_meaning.specs.Doing.{or_nothing}
 use Rattle.cajita_meaning.specs.Imports.{fixed_imports, imports_among}
 use Rattle.cajita_meaning.specs.Asking.{Reply, Shape, bad}
-use Rattle.cajita_meaning.specs.Events.{the_page, key_event, tick_event}
+use Rattle.cajita_meaning.specs.Events.{the_page, key_event, tick_event, node_event}
 use Rattle.cajita_meaning.specs.Direct.{Item, passed, ended, Completion, gave, threw, a_load, values_of, direct}
 use Rattle.cajita_meaning.specs.Direct as D
-use Rattle.cajita_laws.specs.Parts.{Group, tells, side, items_of}
+use Rattle.cajita_laws.specs.Parts.{Group, owns, tells, side, items_of}
 use Rattle.cajita_page.specs.DirectPage as P
 use Rattle.cajita_page.specs.DirectPage.{Deed, Results, no_results, plain_value, granted_value, granted_pairs, import_values, Plan, Turn, granting, load_turn, ends_so, answers, passed_out, value_given, evaluator, direct_page}
 use Rattle.cajita_page.specs.Shown as shown
-use Rattle.cell_numbers.specs.Renumbering.{Renumbering, name_anew, value_anew, values_anew, pairs_anew, object_anew, world_anew, item_anew, items_anew, completion_anew, run_anew, results_anew, page_anew, grant_anew, grants_anew, deed_anew, deeds_anew}
+use Rattle.cell_numbers.specs.Renumbering.{Renumbering, name_anew, value_anew, values_anew, pairs_anew, object_anew, handler_anew, world_anew, label_anew, item_anew, items_anew, completion_anew, run_anew, results_anew, page_anew, grant_anew, grants_anew, deed_anew, deeds_anew, group_anew}
 use Rattle.cell_numbers.specs.Mapped.{MappedPlan}
 use Rattle.cell_numbers.specs.Promises.{PagesAnew, PageItemsAnew, PageStepsAnew, GroupItemsAnew}
 use Rattle.cell_numbers.proofs.Lists.{picked_mapped, first_anew, or_nothing_anew, behind, value_at_anew}
-use Rattle.cell_numbers.proofs.Worlds.{with_queue_anew}
+use Rattle.cell_numbers.proofs.Worlds.{with_queue_anew, with_nodes_anew}
 use Rattle.cell_numbers.proofs.Forms.{replied_mapped}
 use Rattle.cell_numbers.proofs.Calls.{maps, Anew}
 use Rattle.cell_numbers.proofs.Questions.{ended_values_anew}
-use Rattle.cell_numbers.proofs.Events.{key_anew, tick_anew}
+use Rattle.cell_numbers.proofs.Events.{key_anew, tick_anew, node_anew}
 use Rattle.cell_numbers.proofs.Turns.{plan_runs_anew}
 
 module _ (f : Renumbering) where
@@ -73,6 +76,7 @@ module _ (f : Renumbering) where
   granted_value_anew r (a_cell k) = refl
   granted_value_anew r (a_result m) = refl
   granted_value_anew r (a_plain v) = sym (plain_anew v)
+  granted_value_anew r (a_root root) = refl
 
   granted_pairs_anew : (r : Results) (gs : Grants) → granted_pairs (results_anew f r) (grants_anew f gs) ≡ pairs_anew f (granted_pairs r gs)
   granted_pairs_anew r [] = refl
@@ -111,6 +115,8 @@ module _ (f : Renumbering) where
   loaded_out_anew (to_load m p gs) e = ap (passed_out m) (ended_values_anew f e) ∙ passed_out_anew m (values_of e)
   loaded_out_anew (to_call k m key args) e = refl
   loaded_out_anew (to_tick k m) e = refl
+  loaded_out_anew (to_click k id root n) e = refl
+  loaded_out_anew (to_input k id root n us) e = refl
 
   value_given_anew : (e : Completion) → value_given (completion_anew f e) ≡ value_anew f (value_given e)
   value_given_anew (gave v) = refl
@@ -120,11 +126,15 @@ module _ (f : Renumbering) where
   result_anew (to_load m p gs) e r = fun_ext (λ n. ap (λ v. if nat_eq n m then v else value_anew f (r n)) (value_given_anew e) ∙ picked_mapped (value_anew f) (nat_eq n m) (value_given e) (r n))
   result_anew (to_call k m key args) e r = refl
   result_anew (to_tick k m) e r = refl
+  result_anew (to_click k id root n) e r = refl
+  result_anew (to_input k id root n us) e r = refl
 
-  label_anew : (d : Deed) → label_of (deed_anew f d) ≡ label_of d
-  label_anew (to_load m p gs) = refl
-  label_anew (to_call k m key args) = refl
-  label_anew (to_tick k m) = refl
+  label_of_anew : (d : Deed) → label_of (deed_anew f d) ≡ label_anew f (label_of d)
+  label_of_anew (to_load m p gs) = refl
+  label_of_anew (to_call k m key args) = refl
+  label_of_anew (to_tick k m) = refl
+  label_of_anew (to_click k id root n) = refl
+  label_of_anew (to_input k id root n us) = refl
 
   -- turns, and deeds
 
@@ -135,12 +145,12 @@ module _ (f : Renumbering) where
         let last = ended (label_of d) (shown.end_in w e) in
         behind f z (is ++ last ∷ []) (P.loaded_out (deed_anew f d) (completion_anew f e) ++ ended (label_of (deed_anew f d)) (shown.end_in (world_anew f w) (completion_anew f e)) ∷ [])
         (ap (λ l. l ++ ended (label_of (deed_anew f d)) (shown.end_in (world_anew f w) (completion_anew f e)) ∷ []) (loaded_out_anew d e)
-        ∙ ap (λ l. items_anew f is ++ ended l (shown.end_in (world_anew f w) (completion_anew f e)) ∷ []) (label_anew d)
-        ∙ ap (λ s. items_anew f is ++ ended (label_of d) s ∷ []) (end_anew w e)
+        ∙ ap (λ l. items_anew f is ++ ended l (shown.end_in (world_anew f w) (completion_anew f e)) ∷ []) (label_of_anew d)
+        ∙ ap (λ s. items_anew f is ++ ended (label_anew f (label_of d)) s ∷ []) (end_anew w e)
         ∙ sym (map-append (item_anew f) is (last ∷ [])))
 
     none_anew : (d : Deed) (w : World) (z : List Item) → (evaluator rules).none (deed_anew f d) (world_anew f w) (items_anew f z) ≡ items_anew f ((evaluator rules).none d w z)
-    none_anew d w z = behind f z (ended (label_of d) by_nothing ∷ []) (ended (label_of (deed_anew f d)) by_nothing ∷ []) (ap (λ l. ended l by_nothing ∷ []) (label_anew d))
+    none_anew d w z = behind f z (ended (label_of d) by_nothing ∷ []) (ended (label_of (deed_anew f d)) by_nothing ∷ []) (ap (λ l. ended l by_nothing ∷ []) (label_of_anew d))
 
     -- a deed of one turn, whose plans are the same, anew
     turns_do_anew : (d : Deed) (t u : Turn) (n : ℕ) (r : Results) (w : World) (z : List Item) → MappedPlan (maps f) (t w z) (u (world_anew f w) (items_anew f z)) →
@@ -170,6 +180,39 @@ module _ (f : Renumbering) where
         ap (λ v. turns_or_none (evaluator rules) (to_tick k m) (t (value_anew f g) ∷ []) n (results_anew f r) v (items_anew f z)) (with_queue_anew f m gs w)
         ∙ turns_do_anew (to_tick k m) (t g) (t (value_anew f g)) n r (with_queue m gs w) z (answers_anew (tick_event m g (with_queue m gs w)) (tick_event m (value_anew f g) (world_anew f (with_queue m gs w))) (tick_anew f m g (with_queue m gs w)))
 
+    -- what happens to a node: its handlers, one after another
+    node_turns_do_anew : (d : Deed) (node : Name) (fs : List Value) (n : ℕ) (r : Results) (w : World) (z : List Item) →
+        turns (evaluator rules) (deed_anew f d) (P.node_turns (name_anew f node) (values_anew f fs)) n (results_anew f r) (world_anew f w) (items_anew f z) ≡ page_anew f (turns (evaluator rules) d (P.node_turns node fs) n r w z)
+    node_turns_do_anew d node [] n r w z = refl
+    node_turns_do_anew d node (g ∷ gs) n r w z =
+        let go = λ (e : Completion) (v : World) (y : List Item) (k : ℕ). turns (evaluator rules) d (P.node_turns node gs) k (P.result d e r) v ((evaluator rules).ended d e v y) in
+        let back = λ (e : Completion) (v : World) (y : List Item) (k : ℕ). turns (evaluator rules) (deed_anew f d) (P.node_turns (name_anew f node) (values_anew f gs)) k (P.result (deed_anew f d) e (results_anew f r)) v ((evaluator rules).ended (deed_anew f d) e v y) in
+        ap (λ q. chain q back) (plan_runs_anew f rules (answers (node_event node g w)) (answers (node_event (name_anew f node) (value_anew f g) (world_anew f w))) z n (answers_anew (node_event node g w) (node_event (name_anew f node) (value_anew f g) (world_anew f w)) (node_anew f node g w)))
+        ∙ chain_anew (completion_anew f) (results_anew f) (run (direct rules) n (answers (node_event node g w)) z) go back
+        (λ e v y k.
+        ap (λ q. turns (evaluator rules) (deed_anew f d) (P.node_turns (name_anew f node) (values_anew f gs)) k q (world_anew f v) ((evaluator rules).ended (deed_anew f d) (completion_anew f e) (world_anew f v) (items_anew f y))) (result_anew d e r)
+        ∙ ap (λ l. turns (evaluator rules) (deed_anew f d) (P.node_turns (name_anew f node) (values_anew f gs)) k (results_anew f (P.result d e r)) (world_anew f v) l) (ended_anew d e v y)
+        ∙ node_turns_do_anew d node gs k (P.result d e r) v ((evaluator rules).ended d e v y))
+
+    node_does_anew : (d : Deed) (node : Name) (fs : List Value) (n : ℕ) (r : Results) (w : World) (z : List Item) →
+        turns_or_none (evaluator rules) (deed_anew f d) (P.node_turns (name_anew f node) (values_anew f fs)) n (results_anew f r) (world_anew f w) (items_anew f z) ≡ page_anew f (turns_or_none (evaluator rules) d (P.node_turns node fs) n r w z)
+    node_does_anew d node [] n r w z = ap (λ l. over (results_anew f r) (world_anew f w) l n) (none_anew d w z)
+    node_does_anew d node (g ∷ gs) n r w z = node_turns_do_anew d node (g ∷ gs) n r w z
+
+    listeners_anew : (n : ℕ) (what : List ℕ) (hs : List Handler) → P.listeners n what (map (handler_anew f) hs) ≡ values_anew f (P.listeners n what hs)
+    listeners_anew n what [] = refl
+    listeners_anew n what (h ∷ hs) =
+        ap (λ l. if nat_eq h.on n && same_units h.what what then value_anew f h.does ∷ l else l) (listeners_anew n what hs) ∙ picked_mapped (values_anew f) (nat_eq h.on n && same_units h.what what) (h.does ∷ P.listeners n what hs) (P.listeners n what hs)
+
+    -- those of the root of this number, by its new one
+    called_anew : (root n : ℕ) (what : List ℕ) (w : World) → P.listeners n what ((world_anew f w).handlers (f.roots.anew root)) ≡ values_anew f (P.listeners n what (w.handlers root))
+    called_anew root n what w = ap (λ r. P.listeners n what (map (handler_anew f) (w.handlers r))) (f.roots.back_anew root) ∙ listeners_anew n what (w.handlers root)
+
+    input_anew : (root n : ℕ) (us : List ℕ) (w : World) → P.with_input (f.roots.anew root) n us (world_anew f w) ≡ world_anew f (P.with_input root n us w)
+    input_anew root n us w =
+        let change = changed (sets_attribute (codes "value") us) n in
+        ap (λ r. W.with_nodes (f.roots.anew root) (change (w.nodes r)) (world_anew f w)) (f.roots.back_anew root) ∙ with_nodes_anew f root (change (w.nodes root)) w
+
     deed_does_anew : (d : Deed) (n : ℕ) (r : Results) (w : World) (z : List Item) → deed (evaluator rules) (deed_anew f d) n (results_anew f r) (world_anew f w) (items_anew f z) ≡ page_anew f (deed (evaluator rules) d n r w z)
     deed_does_anew (to_load m p gs) n r w z =
         let ps = granted_pairs r gs in
@@ -182,6 +225,13 @@ module _ (f : Renumbering) where
         ∙ turns_do_anew (to_call k m key args) (t (map plain_value args)) (u (values_anew f (map plain_value args))) n r w z
         (answers_anew (key_event m key (r m ∷ map plain_value args) w) (key_event m key (values_anew f (r m ∷ map plain_value args)) (world_anew f w)) (key_anew f m key (r m ∷ map plain_value args) w))
     deed_does_anew (to_tick k m) n r w z = tick_deed_anew k m (w.queues m) n r w z
+    deed_does_anew (to_click k id root j) n r w z =
+        ap (λ fs. turns_or_none (evaluator rules) (to_click k id (f.roots.anew root) j) (P.node_turns (facet_name (f.roots.anew root) j) fs) n (results_anew f r) (world_anew f w) (items_anew f z)) (called_anew root j (codes "click") w)
+        ∙ node_does_anew (to_click k id root j) (facet_name root j) (P.listeners j (codes "click") (w.handlers root)) n r w z
+    deed_does_anew (to_input k id root j us) n r w z =
+        ap (λ v. turns_or_none (evaluator rules) (to_input k id (f.roots.anew root) j us) (P.node_turns (facet_name (f.roots.anew root) j) (P.listeners j (codes "input") ((world_anew f w).handlers (f.roots.anew root)))) n (results_anew f r) v (items_anew f z)) (input_anew root j us w)
+        ∙ ap (λ fs. turns_or_none (evaluator rules) (to_input k id (f.roots.anew root) j us) (P.node_turns (facet_name (f.roots.anew root) j) fs) n (results_anew f r) (world_anew f (P.with_input root j us w)) (items_anew f z)) (called_anew root j (codes "input") w)
+        ∙ node_does_anew (to_input k id root j us) (facet_name root j) (P.listeners j (codes "input") (w.handlers root)) n r (P.with_input root j us w) z
 
     page_does_anew : (ds : List Deed) (n : ℕ) (r : Results) (w : World) (z : List Item) → page (evaluator rules) (deeds_anew f ds) n (results_anew f r) (world_anew f w) (items_anew f z) ≡ page_anew f (page (evaluator rules) ds n r w z)
     page_does_anew [] n r w z = refl
@@ -189,9 +239,9 @@ module _ (f : Renumbering) where
         ap (λ q. chain q (λ r v y k. page (evaluator rules) (deeds_anew f ds) k r v y)) (deed_does_anew d n r w z)
         ∙ chain_anew (results_anew f) (results_anew f) (deed (evaluator rules) d n r w z) (λ r v y k. page (evaluator rules) ds k r v y) (λ r v y k. page (evaluator rules) (deeds_anew f ds) k r v y) (λ r v y k. page_does_anew ds k r v y)
 
--- a page begins with nothing, in which no cell is
+-- a page begins with its nodes, in which no cell is
 pub pages_anew : PagesAnew
-pages_anew f rules ds n = page_does_anew f rules ds n no_results empty_world []
+pages_anew f rules nodes ds n = page_does_anew f rules ds n no_results (P.first_world nodes) []
 
 -- what it told, and how many steps it has left
 
@@ -206,14 +256,21 @@ count_anew f (stopped fault w z n) = refl
 count_anew f (out w z n) = refl
 
 pub page_items_anew : PageItemsAnew
-page_items_anew f rules ds n = ap (λ q. kept_of q) (pages_anew f rules ds n) ∙ kept_anew f (direct_page rules ds n)
+page_items_anew f rules nodes ds n = ap (λ q. kept_of q) (pages_anew f rules nodes ds n) ∙ kept_anew f (direct_page rules nodes ds n)
 
 pub page_steps_anew : PageStepsAnew
-page_steps_anew f rules ds n = ap (λ q. count_of q) (pages_anew f rules ds n) ∙ count_anew f (direct_page rules ds n)
+page_steps_anew f rules nodes ds n = ap (λ q. count_of q) (pages_anew f rules nodes ds n) ∙ count_anew f (direct_page rules nodes ds n)
 
 -- an item is told of the same module or root as before
 
-tells_anew : (f : Renumbering) (g : Group) (i : Item) → tells g (item_anew f i) ≡ tells g i
+owned_anew : (f : Renumbering) (g : Group) (l : deeds.Label) → owns (group_anew f g) (labelled (label_anew f l)) ≡ owns g (labelled l)
+owned_anew f g (deeds.of_load m) = refl
+owned_anew f g (deeds.of_call k m key) = refl
+owned_anew f g (deeds.of_tick k m) = refl
+owned_anew f g (deeds.of_click k id root) = ap g.roots (f.roots.back_anew root)
+owned_anew f g (deeds.of_input k id root) = ap g.roots (f.roots.back_anew root)
+
+tells_anew : (f : Renumbering) (g : Group) (i : Item) → tells (group_anew f g) (item_anew f i) ≡ tells g i
 tells_anew f g (D.made m o) = refl
 tells_anew f g (D.got m h o) = refl
 tells_anew f g (D.touched m t o k) = refl
@@ -221,11 +278,11 @@ tells_anew f g (passed a b o) = refl
 tells_anew f g (D.granted m o) = refl
 tells_anew f g (D.said m us) = refl
 tells_anew f g (D.was_revoked m p) = refl
-tells_anew f g (D.changed_node root k c) = refl
-tells_anew f g (ended l e) = refl
+tells_anew f g (D.changed_node root k c) = ap g.roots (f.roots.back_anew root)
+tells_anew f g (ended l e) = owned_anew f g l
 
 pub group_items_anew : GroupItemsAnew
 group_items_anew f b g [] = refl
 group_items_anew f b g (i ∷ z) =
-    ap (λ t. if side b t then item_anew f i ∷ items_of b g (items_anew f z) else items_of b g (items_anew f z)) (tells_anew f g i)
+    ap (λ t. if side b t then item_anew f i ∷ items_of b (group_anew f g) (items_anew f z) else items_of b (group_anew f g) (items_anew f z)) (tells_anew f g i)
     ∙ ap (λ l. if side b (tells g i) then item_anew f i ∷ l else l) (group_items_anew f b g z) ∙ picked_mapped (items_anew f) (side b (tells g i)) (i ∷ items_of b g z) (items_of b g z)

@@ -1,4 +1,5 @@
--- Whatever a row is: of values and in a world anew it comes to the same, anew. No row sees a cell's number: two names of cells are compared, and the number finds what the cell keeps.
+-- Whatever a row is: of values and in a world anew it comes to the same, anew. No row sees the number of a cell or of a root: two names are compared, and the number finds what
+-- the cell keeps, or the root's nodes.
 use Rattle.std.proofs.Common.{◌≡◌, ℕ, zero, suc, Bool, true, false, List, [], ◌∷◌, ◌++◌, Option, Some, None, refl, sym, ap, ◌∙◌}
 use Rattle.std.specs.Prelude.{map, option_map, nat_eq, nat_lt, if◌then◌else◌, ◌+◌, ◌||◌, ◌&&◌, slice_get, length, codes, Result, Ok, Err}
 use Rattle.std.proofs.lemmas.List.{map-append, length-map}
@@ -8,6 +9,7 @@ use Rattle.caja_units.specs.Units.{same_units}
 use Rattle.rows.specs.Rows as r
 use Rattle.rows.specs.Rows.{Handle, Sight, Native, Ending, Row, handles, keyed_handles}
 use Rattle.rows.specs.Names.{is_of_text, tools}
+use Rattle.rows.specs.Branches.{branch, around as nodes_around}
 use Rattle.rows.specs.Document as doc
 use Rattle.rows.specs.Document.{Node}
 use Rattle.rows.specs.Public.{is_bad}
@@ -18,7 +20,7 @@ use Rattle.cajita_meaning.specs.Doing as d
 use Rattle.cajita_meaning.specs.Doing.{Item, got, touched, passed, made, Held, Seen, Done, Outcome, value_of, way_of, names_of, way_into, got_along, got_from, got_one, got_all, got_values, finish, settle, does}
 use Rattle.cell_numbers.specs.Renumbering.{Renumbering, name_anew, value_anew, values_anew, pairs_anew, object_anew, handler_anew, world_anew, items_anew}
 use Rattle.cell_numbers.proofs.Lists.{picked_mapped, or_nothing_anew, behind, with_value_anew}
-use Rattle.cell_numbers.proofs.Worlds.{same_cell, with_object_anew, with_made_anew, with_queue_anew, with_handlers_anew, with_cell_anew}
+use Rattle.cell_numbers.proofs.Worlds.{same_number, with_object_anew, with_made_anew, with_queue_anew, with_nodes_anew, with_handlers_anew, with_cell_anew}
 
 -- what a row holds, what is seen, how a row ends, and what it comes to
 
@@ -137,21 +139,31 @@ module _ (f : Renumbering) where
   tools_anew [] = refl
   tools_anew ((k, b) ∷ ts) = ap (λ (l : Pairs). (k, object (built_name b)) ∷ l) (tools_anew ts)
 
-  facets_anew : (root : ℕ) (ks : List ℕ) → values_anew f (d.facets root ks) ≡ d.facets root ks
+  facets_anew : (root : ℕ) (ks : List ℕ) → values_anew f (d.facets root ks) ≡ d.facets (f.roots.anew root) ks
   facets_anew root [] = refl
-  facets_anew root (k ∷ ks) = ap (λ l. object (facet_name root k) ∷ l) (facets_anew root ks)
+  facets_anew root (k ∷ ks) = ap (λ l. object (facet_name (f.roots.anew root) k) ∷ l) (facets_anew root ks)
 
   pub object_seen_anew : (w : World) (n : ℕ) (o : Name) → d.see_object (world w) n (name_anew f o) ≡ seen_anew f (d.see_object w n o)
   object_seen_anew w n (made_name m i) = ap (d.see_made n) (slice_get-map (object_anew f) (w.objects m) i) ∙ made_seen_anew n (slice_get (w.objects m) i)
   object_seen_anew w n (tools_name t) = ap (d.see_record true n) (sym (tools_anew (tools t))) ∙ record_anew true n (d.tool_pairs (tools t))
-  object_seen_anew w n (facet_name root k) =
-      let s = d.see_node n root k (w.nodes root) in
-      ap (seen_of s.sight) (sym (facets_anew root (d.parents (w.nodes root) k ++ ((doc.node_at (w.nodes root) k).children ++ doc.below (w.nodes root) k))))
   object_seen_anew w n (cell_name c zero) = refl
   object_seen_anew w n (cell_name c (suc i)) = refl
   object_seen_anew w n (forward_name m p c zero) = refl
   object_seen_anew w n (forward_name m p c (suc i)) = refl
   object_seen_anew w n o = refl
+
+  abbrev around_so : d.Around → d.Around
+  around_so b = record { branch = b.branch; values = values_anew f b.values }
+
+  name_around_anew : (w : World) (n : ℕ) (o : Name) → d.around (world w) n (object (name_anew f o)) ≡ option_map around_so (d.around w n (object o))
+  name_around_anew w n (facet_name root k) =
+      ap (λ r. d.around_node n (f.roots.anew root) k (w.nodes r)) (f.roots.back_anew root)
+      ∙ ap (λ l. Some (record { branch = branch n k (w.nodes root); values = l })) (sym (facets_anew root (nodes_around (w.nodes root) k)))
+  name_around_anew w n o = refl
+
+  around_anew : (w : World) (n : ℕ) (v : Value) → d.around (world w) n (anew v) ≡ option_map around_so (d.around w n v)
+  around_anew w n (object o) = name_around_anew w n o
+  around_anew w n v = refl
 
   pub see_anew : (w : World) (n : ℕ) (v : Value) → d.see (world w) n (anew v) ≡ seen_anew f (d.see w n v)
   see_anew w n (object o) = object_seen_anew w n o
@@ -180,20 +192,53 @@ module _ (f : Renumbering) where
   -- two names are the same where they are anew
 
   same_name_anew : (a b : Name) → same_units (name_code (name_anew f a)) (name_code (name_anew f b)) ≡ same_units (name_code a) (name_code b)
-  same_name_anew (cell_name c i) (cell_name e j) = ap (λ b. b && same_units (i ∷ []) (j ∷ [])) (same_cell f c e)
-  same_name_anew (forward_name m p c i) (forward_name k q e j) = ap (λ b. nat_eq m k && (nat_eq p q && (b && same_units (i ∷ []) (j ∷ [])))) (same_cell f c e)
+  same_name_anew (cell_name c i) (cell_name e j) = ap (λ b. b && same_units (i ∷ []) (j ∷ [])) (same_number f.cells c e)
+  same_name_anew (facet_name root k) (facet_name other j) = ap (λ b. b && same_units (k ∷ []) (j ∷ [])) (same_number f.roots root other)
+  same_name_anew (forward_name m p c i) (forward_name k q e j) = ap (λ b. nat_eq m k && (nat_eq p q && (b && same_units (i ∷ []) (j ∷ [])))) (same_number f.cells c e)
   same_name_anew (made_name m n) (cell_name e j) = refl
+  same_name_anew (made_name m n) (facet_name other j) = refl
   same_name_anew (made_name m n) b = refl
   same_name_anew (own_name m i) (cell_name e j) = refl
+  same_name_anew (own_name m i) (facet_name other j) = refl
   same_name_anew (own_name m i) b = refl
   same_name_anew (built_name g) (cell_name e j) = refl
+  same_name_anew (built_name g) (facet_name other j) = refl
   same_name_anew (built_name g) b = refl
   same_name_anew (tools_name t) (cell_name e j) = refl
+  same_name_anew (tools_name t) (facet_name other j) = refl
   same_name_anew (tools_name t) b = refl
   same_name_anew (facet_name root k) (cell_name e j) = refl
   same_name_anew (facet_name root k) b = refl
+  same_name_anew (cell_name c i) (facet_name other j) = refl
   same_name_anew (cell_name c i) b = refl
+  same_name_anew (forward_name m p c i) (facet_name other j) = refl
   same_name_anew (forward_name m p c i) b = refl
+
+  -- two nodes are of one root where they are anew
+  same_root_names : (a b : Name) → d.same_root (object (name_anew f a)) (object (name_anew f b)) ≡ d.same_root (object a) (object b)
+  same_root_names (facet_name root k) (facet_name other j) = same_number f.roots root other
+  same_root_names (facet_name root k) (cell_name c i) = refl
+  same_root_names (facet_name root k) (forward_name m p c i) = refl
+  same_root_names (facet_name root k) b = refl
+  same_root_names (cell_name c i) b = refl
+  same_root_names (forward_name m p c i) b = refl
+  same_root_names a b = refl
+
+  same_root_alone : (a : Name) (v : Value) → ((b : Name) → v ≡ object b → ⊥) → d.same_root (object (name_anew f a)) v ≡ d.same_root (object a) v
+  same_root_alone a (object b) none = absurd (none b refl)
+  same_root_alone (facet_name root k) v none = refl
+  same_root_alone (cell_name c i) v none = refl
+  same_root_alone (forward_name m p c i) v none = refl
+  same_root_alone a v none = refl
+
+  same_root_anew : (u v : Value) → d.same_root (anew u) (anew v) ≡ d.same_root u v
+  same_root_anew (object a) (object b) = same_root_names a b
+  same_root_anew (object a) undefined = same_root_alone a undefined (λ b e. cc)
+  same_root_anew (object a) null = same_root_alone a null (λ b e. cc)
+  same_root_anew (object a) (truth b) = same_root_alone a (truth b) (λ b e. cc)
+  same_root_anew (object a) (number n) = same_root_alone a (number n) (λ b e. cc)
+  same_root_anew (object a) (text us) = same_root_alone a (text us) (λ b e. cc)
+  same_root_anew u v = refl
 
   strictly_anew : (u v : Value) → d.strictly_equal (anew u) (anew v) ≡ d.strictly_equal u v
   strictly_anew (object a) (object b) = same_name_anew a b
@@ -270,12 +315,12 @@ module _ (f : Renumbering) where
   pairs_of_anew w v = refl
 
   kept_in_anew : (v : Value) (w : World) → d.kept_in (anew v) (world w) ≡ anew (d.kept_in v w)
-  kept_in_anew (object (cell_name c i)) w = ap (λ k. anew (w.cells k)) (f.back_anew c)
-  kept_in_anew (object (forward_name m p c i)) w = ap (λ k. anew (w.cells k)) (f.back_anew c)
+  kept_in_anew (object (cell_name c i)) w = ap (λ k. anew (w.cells k)) (f.cells.back_anew c)
+  kept_in_anew (object (forward_name m p c i)) w = ap (λ k. anew (w.cells k)) (f.cells.back_anew c)
   kept_in_anew v w = refl
 
   new_node_anew : (v : Value) (w : World) → d.new_node (anew v) (world w) ≡ anew (d.new_node v w)
-  new_node_anew (object (facet_name root k)) w = refl
+  new_node_anew (object (facet_name root k)) w = ap (λ r. object (facet_name (f.roots.anew root) (length (w.nodes r)))) (f.roots.back_anew root)
   new_node_anew v w = refl
 
   -- changes of the world
@@ -319,13 +364,14 @@ module _ (f : Renumbering) where
   queueing_anew u v w = refl
 
   noding_anew : (v : Value) (g : ℕ → List Node → List Node) (w : World) → d.noding (anew v) g (world w) ≡ world (d.noding v g w)
-  noding_anew (object (facet_name root k)) g w = refl
+  noding_anew (object (facet_name root k)) g w = ap (λ r. W.with_nodes (f.roots.anew root) (g k (w.nodes r)) (world w)) (f.roots.back_anew root) ∙ with_nodes_anew f root (g k (w.nodes root)) w
   noding_anew v g w = refl
 
   listening_anew : (v : Value) (us : List ℕ) (g : Value) (w : World) → d.listening (anew v) us (anew g) (world w) ≡ world (d.listening v us g w)
   listening_anew (object (facet_name root k)) us g w =
       let h : W.Handler = record { on = k; what = us; does = g } in
-      ap (λ l. W.with_handlers root l (world w)) (sym (map-append (handler_anew f) (w.handlers root) (h ∷ []))) ∙ with_handlers_anew f root (w.handlers root ++ h ∷ []) w
+      ap (λ r. W.with_handlers (f.roots.anew root) (map (handler_anew f) (w.handlers r) ++ handler_anew f h ∷ []) (world w)) (f.roots.back_anew root)
+      ∙ ap (λ l. W.with_handlers (f.roots.anew root) l (world w)) (sym (map-append (handler_anew f) (w.handlers root) (h ∷ []))) ∙ with_handlers_anew f root (w.handlers root ++ h ∷ []) w
   listening_anew v us g w = refl
 
   -- the ends
@@ -468,6 +514,10 @@ module _ (f : Renumbering) where
       ap (λ b. does by (go b) (held_anew f s) (world w) (told z))
       (ap (λ u. d.strictly_equal u (value_of (values_anew f s.values) y)) (value_of_anew s.values x) ∙ ap (d.strictly_equal (anew (value_of s.values x))) (value_of_anew s.values y) ∙ strictly_anew (value_of s.values x) (value_of s.values y))
       ∙ row_anew by (go (d.strictly_equal (value_of s.values x) (value_of s.values y))) s w z
+  row_anew by (r.as_same_root x y go) s w z =
+      ap (λ b. does by (go b) (held_anew f s) (world w) (told z))
+      (ap (λ u. d.same_root u (value_of (values_anew f s.values) y)) (value_of_anew s.values x) ∙ ap (d.same_root (anew (value_of s.values x))) (value_of_anew s.values y) ∙ same_root_anew (value_of s.values x) (value_of s.values y))
+      ∙ row_anew by (go (d.same_root (value_of s.values x) (value_of s.values y))) s w z
   row_anew by (r.looks x go) s w z =
       let v = value_of s.values x in
       let seen = d.see w (length s.values) v in
@@ -476,6 +526,19 @@ module _ (f : Renumbering) where
       ∙ ap (λ way. does by (go seen.sight) (d.and_seen (held_anew f s) way (values_anew f seen.values)) (world w) (told z)) (way_into_anew s x)
       ∙ ap (λ s. does by (go seen.sight) s (world w) (told z)) (and_seen_anew s (way_into s x) seen.values)
       ∙ row_anew by (go seen.sight) (d.and_seen s (way_into s x) seen.values) w z
+  row_anew by (r.branches x go other) s w z =
+      let v = value_of s.values x in
+      ap (λ e. d.with_branch e (λ b. does by (go b.branch) (d.and_seen (held_anew f s) (way_into (held_anew f s) x) b.values) (world w) (told z)) (does by other (held_anew f s) (world w) (told z)))
+      (ap (λ n. d.around (world w) n (value_of (values_anew f s.values) x)) (length-map s.values anew) ∙ ap (d.around (world w) (length s.values)) (value_of_anew s.values x) ∙ around_anew w (length s.values) v)
+      ∙ branched _ _ _ _ (d.around w (length s.values) v)
+      (λ b. ap (λ way. does by (go b.branch) (d.and_seen (held_anew f s) way (values_anew f b.values)) (world w) (told z)) (way_into_anew s x)
+      ∙ ap (λ s. does by (go b.branch) s (world w) (told z)) (and_seen_anew s (way_into s x) b.values)
+      ∙ row_anew by (go b.branch) (d.and_seen s (way_into s x) b.values) w z)
+      (row_anew by other s w z)
+    where
+      branched : (F : d.Around → Done) (E : Done) (G : d.Around → Done) (D : Done) (o : Option d.Around) → ((b : d.Around) → F (around_so b) ≡ done_anew f (G b)) → E ≡ done_anew f D → d.with_branch (option_map around_so o) F E ≡ done_anew f (d.with_branch o G D)
+      branched F E G D None g e = e
+      branched F E G D (Some b) g e = g b
   row_anew by (r.touches t x k next) s w z =
       let is = d.touching by t (way_of s x) (value_of s.values x) k in
       let also = d.touching by t (way_of (held_anew f s) x) (value_of (values_anew f s.values) x) k in

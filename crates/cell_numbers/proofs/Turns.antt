@@ -6,17 +6,17 @@ use Rattle.acts.specs.Acts.{task, replied}
 use Rattle.rows.specs.Nodes.{Rules}
 use Rattle.cajita_meaning.specs.World.{Value}
 use Rattle.cajita_meaning.specs.Asking.{Reply, Shape, bad, reply, call_reply}
-use Rattle.cajita_meaning.specs.Events.{key_event, tick_event}
+use Rattle.cajita_meaning.specs.Events.{key_event, tick_event, node_event}
 use Rattle.cajita_meaning.specs.Direct.{Item, Plan, Run, gave, threw, a_load, forms, direct}
 use Rattle.cajita_laws.specs.Turns.{ended_so, reply_run}
-use Rattle.cell_numbers.specs.Renumbering.{Renumbering, value_anew, values_anew, world_anew, item_anew, items_anew, completion_anew, turn_anew}
+use Rattle.cell_numbers.specs.Renumbering.{Renumbering, value_anew, values_anew, world_anew, item_anew, items_anew, completion_anew, turn_anew, name_anew}
 use Rattle.cell_numbers.specs.Mapped.{MappedPlan, mapped_run}
-use Rattle.cell_numbers.specs.Promises.{LoadsAnew, QuestionsAnew, CallsAnew, KeysAnew, TicksAnew}
+use Rattle.cell_numbers.specs.Promises.{LoadsAnew, QuestionsAnew, CallsAnew, KeysAnew, TicksAnew, NodesAnew}
 use Rattle.cell_numbers.proofs.Lists.{first_anew}
 use Rattle.cell_numbers.proofs.Forms.{replied_mapped, run_mapped}
 use Rattle.cell_numbers.proofs.Calls.{maps, Anew, call_anew}
 use Rattle.cell_numbers.proofs.Questions.{replies_anew, forms_fit}
-use Rattle.cell_numbers.proofs.Events.{key_anew, tick_anew}
+use Rattle.cell_numbers.proofs.Events.{key_anew, tick_anew, node_anew}
 
 mapped_turn : (f : Renumbering) (r : Run) → mapped_run (maps f) (items_anew f) r ≡ turn_anew f r
 mapped_turn f (over e w z n) = refl
@@ -53,3 +53,6 @@ keys_anew f rules m k vs w z n = reply_runs_anew f rules (key_event m k vs w) (k
 
 pub ticks_anew : TicksAnew
 ticks_anew f rules m g w z n = reply_runs_anew f rules (tick_event m g w) (tick_event m (value_anew f g) (world_anew f w)) z n (tick_anew f m g w)
+
+pub node_turns_anew : NodesAnew
+node_turns_anew f rules node g w z n = reply_runs_anew f rules (node_event node g w) (node_event (name_anew f node) (value_anew f g) (world_anew f w)) z n (node_anew f node g w)

@@ -6,7 +6,8 @@ use Rattle.std.proofs.lemmas.Bool.{eqb-true, eqb-false}
 use Rattle.std.proofs.lemmas.List.{map-append, map-set}
 use Rattle.cajita_meaning.specs.World as W
 use Rattle.cajita_meaning.specs.World.{Value, Pairs, Object, Handler, World}
-use Rattle.cell_numbers.specs.Renumbering.{Renumbering, value_anew, values_anew, pairs_anew, object_anew, handler_anew, world_anew}
+use Rattle.rows.specs.Document.{Node}
+use Rattle.cell_numbers.specs.Renumbering.{Numbering, Renumbering, value_anew, values_anew, pairs_anew, object_anew, handler_anew, world_anew}
 use Rattle.cell_numbers.proofs.Lists.{picked_mapped, declared_anew, names_anew}
 
 -- numbers
@@ -21,12 +22,12 @@ same_test a b c d to from = at (nat_eq a b) (nat_eq c d) refl refl
     at false true e g = absurd (eqb-false a b e (from (eqb-true c d g)))
     at false false e g = refl
 
--- two cells are the same cell where their new numbers are the same
-pub same_cell : (f : Renumbering) (c d : ℕ) → nat_eq (f.anew c) (f.anew d) ≡ nat_eq c d
-same_cell f c d = same_test (f.anew c) (f.anew d) c d (λ e. sym (f.back_anew c) ∙ ap f.back e ∙ f.back_anew d) (λ e. ap f.anew e)
+-- two are the same where their new numbers are the same
+pub same_number : (f : Numbering) (c d : ℕ) → nat_eq (f.anew c) (f.anew d) ≡ nat_eq c d
+same_number f c d = same_test (f.anew c) (f.anew d) c d (λ e. sym (f.back_anew c) ∙ ap f.back e ∙ f.back_anew d) (λ e. ap f.anew e)
 
-moved_cell : (f : Renumbering) (n c : ℕ) → nat_eq n (f.anew c) ≡ nat_eq (f.back n) c
-moved_cell f n c = same_test n (f.anew c) (f.back n) c (λ e. ap f.back e ∙ f.back_anew c) (λ e. sym (f.anew_back n) ∙ ap f.anew e)
+moved_number : (f : Numbering) (n c : ℕ) → nat_eq n (f.anew c) ≡ nat_eq (f.back n) c
+moved_number f n c = same_test n (f.anew c) (f.back n) c (λ e. ap f.back e ∙ f.back_anew c) (λ e. sym (f.anew_back n) ∙ ap f.anew e)
 
 -- lists by their modules
 
@@ -56,13 +57,18 @@ module _ (f : Renumbering) where
   pub with_queue_anew : (m : ℕ) (vs : List Value) (w : World) → W.with_queue m (values_anew f vs) (world_anew f w) ≡ world_anew f (W.with_queue m vs w)
   with_queue_anew m vs w = ap (λ (l : ℕ → List Value). record (world_anew f w) { queues = l }) (list_mapped (value_anew f) m vs w.queues)
 
-  pub with_handlers_anew : (r : ℕ) (hs : List Handler) (w : World) → W.with_handlers r (map (handler_anew f) hs) (world_anew f w) ≡ world_anew f (W.with_handlers r hs w)
-  with_handlers_anew r hs w = ap (λ (l : ℕ → List Handler). record (world_anew f w) { handlers = l }) (list_mapped (handler_anew f) r hs w.handlers)
+  pub with_handlers_anew : (r : ℕ) (hs : List Handler) (w : World) → W.with_handlers (f.roots.anew r) (map (handler_anew f) hs) (world_anew f w) ≡ world_anew f (W.with_handlers r hs w)
+  with_handlers_anew r hs w =
+      ap (λ (l : ℕ → List Handler). record (world_anew f w) { handlers = l })
+      (fun_ext (λ n. ap (λ b. if b then map (handler_anew f) hs else map (handler_anew f) (w.handlers (f.roots.back n))) (moved_number f.roots n r) ∙ picked_mapped (map (handler_anew f)) (nat_eq (f.roots.back n) r) hs (w.handlers (f.roots.back n))))
 
-  pub with_cell_anew : (c : ℕ) (v : Value) (w : World) → W.with_cell (f.anew c) (value_anew f v) (world_anew f w) ≡ world_anew f (W.with_cell c v w)
+  pub with_nodes_anew : (r : ℕ) (ns : List Node) (w : World) → W.with_nodes (f.roots.anew r) ns (world_anew f w) ≡ world_anew f (W.with_nodes r ns w)
+  with_nodes_anew r ns w = ap (λ (l : ℕ → List Node). record (world_anew f w) { nodes = l }) (fun_ext (λ n. ap (λ b. if b then ns else w.nodes (f.roots.back n)) (moved_number f.roots n r)))
+
+  pub with_cell_anew : (c : ℕ) (v : Value) (w : World) → W.with_cell (f.cells.anew c) (value_anew f v) (world_anew f w) ≡ world_anew f (W.with_cell c v w)
   with_cell_anew c v w =
       ap (λ (l : ℕ → Value). record (world_anew f w) { cells = l })
-      (fun_ext (λ n. ap (λ b. if b then value_anew f v else value_anew f (w.cells (f.back n))) (moved_cell f n c) ∙ picked_mapped (value_anew f) (nat_eq (f.back n) c) v (w.cells (f.back n))))
+      (fun_ext (λ n. ap (λ b. if b then value_anew f v else value_anew f (w.cells (f.cells.back n))) (moved_number f.cells n c) ∙ picked_mapped (value_anew f) (nat_eq (f.cells.back n) c) v (w.cells (f.cells.back n))))
 
   -- a new scope, and a name that is bound in one
   pub new_scope_anew : (vars params : List (List ℕ)) (vs : List Value) (m : ℕ) (w : World) → W.with_scope m (W.with_vars vars (W.with_params params (values_anew f vs) [])) (world_anew f w) ≡ world_anew f (W.with_scope m (W.with_vars vars (W.with_params params vs [])) w)

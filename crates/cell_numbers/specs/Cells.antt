@@ -1,11 +1,12 @@
--- The cells that items name, and what a renumbering that leaves the items as they are says of them.
-use Rattle.std.specs.Prelude.{◌≡◌, ◌≢◌, ℕ, true, false, List, [], ◌∷◌, ◌++◌}
+-- The cells and roots that items name, and what a renumbering that leaves the items as they are says of them.
+use Rattle.std.specs.Prelude.{◌≡◌, ◌≢◌, ℕ, Bool, true, false, List, [], ◌∷◌, ◌++◌}
 use Rattle.acts.specs.Laws.{All}
+use Rattle.page_deeds.specs.Deeds.{Label, of_click, of_input}
 use Rattle.page_deeds.specs.Shown.{Shown, thing, error, Ended, by_return, by_throw, by_nothing}
-use Rattle.cajita_meaning.specs.World.{Name, cell_name, forward_name}
-use Rattle.cajita_meaning.specs.Direct.{Item, made, got, touched, passed, granted, ended}
+use Rattle.cajita_meaning.specs.World.{Name, cell_name, facet_name, forward_name}
+use Rattle.cajita_meaning.specs.Direct.{Item, made, got, touched, passed, granted, changed_node, ended}
 use Rattle.cajita_laws.specs.Parts.{Group}
-use Rattle.cell_numbers.specs.Renumbering.{Renumbering, items_anew}
+use Rattle.cell_numbers.specs.Renumbering.{Numbering, Renumbering, items_anew}
 
 -- the cell that a name names, if it does
 abbrev pub cells_of : Name → List ℕ
@@ -38,19 +39,60 @@ abbrev pub cells_in : List Item → List ℕ
 cells_in [] = []
 cells_in (i ∷ z) = cells_told i ++ cells_in z
 
--- a renumbering that leaves items as they are moves none of the cells that they name
+-- the root of a node's name
+abbrev pub roots_of : Name → List ℕ
+roots_of (facet_name r k) = r ∷ []
+roots_of n = []
+
+abbrev pub roots_shown : Shown Name → List ℕ
+roots_shown (thing s n) = roots_of n
+roots_shown (error n name message) = roots_of n
+roots_shown v = []
+
+abbrev pub roots_ended : Ended Name → List ℕ
+roots_ended (by_return v) = roots_shown v
+roots_ended (by_throw v) = roots_shown v
+roots_ended by_nothing = []
+
+abbrev pub roots_labelled : Label → List ℕ
+roots_labelled (of_click k id root) = root ∷ []
+roots_labelled (of_input k id root) = root ∷ []
+roots_labelled l = []
+
+abbrev pub roots_told : Item → List ℕ
+roots_told (made m o) = roots_of o
+roots_told (got m h o) = roots_of h ++ roots_of o
+roots_told (touched m t o k) = roots_of o
+roots_told (passed a b o) = roots_of o
+roots_told (granted m o) = roots_of o
+roots_told (changed_node r k c) = r ∷ []
+roots_told (ended l e) = roots_labelled l ++ roots_ended e
+roots_told i = []
+
+abbrev pub roots_in : List Item → List ℕ
+roots_in [] = []
+roots_in (i ∷ z) = roots_told i ++ roots_in z
+
+-- a renumbering that leaves items as they are moves none of the cells and roots that they name
 abbrev pub StaysUnmoved : Type 0
-StaysUnmoved = (f : Renumbering) (z : List Item) → items_anew f z ≡ z → All (λ c. f.anew c ≡ c) (cells_in z)
+StaysUnmoved = (f : Renumbering) (z : List Item) → items_anew f z ≡ z → All (λ c. f.cells.anew c ≡ c) (cells_in z) × All (λ r. f.roots.anew r ≡ r) (roots_in z)
 
--- the cells of a group stay where they are, and the others are moved among themselves
+-- a group's own stay where they are, and the others are moved among themselves
+pub record IsApart (mine : ℕ → Bool) (f : Numbering) : Type 0 where
+  pub own : (c : ℕ) → mine c ≡ true → f.anew c ≡ c
+  pub others : (c : ℕ) → mine (f.anew c) ≡ mine c
+
 pub record KeepsApart (g : Group) (f : Renumbering) : Type 0 where
-  pub own : (c : ℕ) → g.cells c ≡ true → f.anew c ≡ c
-  pub others : (c : ℕ) → g.cells (f.anew c) ≡ g.cells c
+  pub cells : IsApart g.cells f.cells
+  pub roots : IsApart g.roots f.roots
 
--- for each cell of the others there is another one, as where a group has finitely many cells
-abbrev pub HasOthers : Group → Type 0
-HasOthers g = (c : ℕ) → g.cells c ≡ false → (e : ℕ) × (g.cells e ≡ false) × (c ≢ e)
+-- for each of the others there is another one, as where a group has finitely many
+abbrev pub HasOthers : (ℕ → Bool) → Type 0
+HasOthers own = (c : ℕ) → own c ≡ false → (e : ℕ) × (own e ≡ false) × (c ≢ e)
 
--- items that stay as they are, however the others' cells are numbered, name the group's cells alone
+-- items that stay as they are, however the others' are numbered, name the group's cells and roots alone
 abbrev pub NamesOwnCells : Type 0
-NamesOwnCells = (g : Group) → HasOthers g → (z : List Item) → ((f : Renumbering) → KeepsApart g f → items_anew f z ≡ z) → All (λ c. g.cells c ≡ true) (cells_in z)
+NamesOwnCells = (g : Group) → HasOthers g.cells → (z : List Item) → ((f : Renumbering) → KeepsApart g f → items_anew f z ≡ z) → All (λ c. g.cells c ≡ true) (cells_in z)
+
+abbrev pub NamesOwnRoots : Type 0
+NamesOwnRoots = (g : Group) → HasOthers g.roots → (z : List Item) → ((f : Renumbering) → KeepsApart g f → items_anew f z ≡ z) → All (λ r. g.roots r ≡ true) (roots_in z)

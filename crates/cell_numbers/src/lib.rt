@@ -8,9 +8,9 @@
 //! have no bodies: their contracts are the laws.
 #![tactic(auto)]
 
-ghost use Rattle.cell_numbers.specs.Promises.{LoadsAnew, QuestionsAnew, CallsAnew, KeysAnew, TicksAnew, PagesAnew, PageItemsAnew, PageStepsAnew, GroupItemsAnew};
+ghost use Rattle.cell_numbers.specs.Promises.{LoadsAnew, QuestionsAnew, CallsAnew, KeysAnew, TicksAnew, NodesAnew, PagesAnew, PageItemsAnew, PageStepsAnew, GroupItemsAnew};
 ghost use Rattle.cell_numbers.specs.Names.{NumbersJoin, DeedsJoin, PagesJoin};
-ghost use Rattle.cell_numbers.specs.Cells.{StaysUnmoved, NamesOwnCells};
+ghost use Rattle.cell_numbers.specs.Cells.{StaysUnmoved, NamesOwnCells, NamesOwnRoots};
 
 /// A turn of a module does the same with the cells numbered anew: its load, and what begins with a question or with the call of a function; and what an event
 /// begins, where a key is called of a value, or a function that waits.
@@ -20,6 +20,7 @@ pub fn a_turn_is_the_same_anew()
     ensures call { CallsAnew }
     ensures key_event { KeysAnew }
     ensures tick { TicksAnew }
+    ensures node { NodesAnew }
 {}
 
 /// A page whose cells are numbered anew does the same, with any rules about nodes and with any number of steps: it ends in the same way, with as many steps
@@ -48,4 +49,5 @@ pub fn the_order_of_cells_does_not_matter()
 pub fn what_stays_names_no_cell_that_moves()
     ensures unmoved { StaysUnmoved }
     ensures own { NamesOwnCells }
+    ensures roots { NamesOwnRoots }
 {}

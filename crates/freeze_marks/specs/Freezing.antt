@@ -26,7 +26,7 @@ object_frozen class.Object h o = is_frozen h o
 object_frozen class.Array h o = is_frozen h o
 object_frozen class.Function h o = is_for_modules h o
 object_frozen class.Error h o = true
-object_frozen class.Node h o = false
+object_frozen class.Node h o = true
 
 abbrev pub value_frozen : Objects → Value → Bool
 value_frozen h (v.Obj o) = object_frozen (class_of (object_at h o)) h o

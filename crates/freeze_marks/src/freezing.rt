@@ -100,7 +100,6 @@ pub fn value_frozen(alloc: Global, h: &Heap, value: &Value) -> Result<bool, Memo
     match h.class(*o) {
         Class::Object | Class::Array => is_frozen(alloc, h, *o),
         Class::Function => is_for_modules(alloc, h, *o),
-        Class::Error => Ok(true),
-        Class::Node => Ok(false),
+        Class::Error | Class::Node => Ok(true),
     }
 }

@@ -6,7 +6,7 @@ use Rattle.caja_units.specs.Units.{same_units, is_hidden}
 use Rattle.caja_units.specs.Index.{array_index}
 use Rattle.rows.specs.Rows as r
 use Rattle.rows.specs.Rows.{Native, Handle, Sight, Ending, Row, Touch, held}
-use Rattle.rows.specs.Names.{method, text_methods, array_methods, function_methods}
+use Rattle.rows.specs.Names.{method, text_methods, array_methods, function_methods, node_methods}
 use Rattle.rows.specs.Public.{is_length, value_at, item_at, item_or_new, of_value, property, or_undefined, pub_get, Change, refused, of_key, of_item, pub_set, pub_delete, pub_has, pub_keys}
 use Rattle.rows.specs.Arguments.{value, values_from}
 use Rattle.rows.specs.Guards as rows
@@ -89,7 +89,7 @@ module _ (P : Native → Type 0) (common : (f : Native) → is_common f ≡ true
   property_names o (r.an_error name message) k seen =
       let other = cond (same_units k (codes "message")) (Some (r.text message)) None in
       option_if (same_units k (codes "name")) (Some (r.text name)) other tt (option_if (same_units k (codes "message")) (Some (r.text message)) None tt tt)
-  property_names o (r.a_node b) k seen = absurd seen
+  property_names o r.a_node k seen = method_names o node_methods k (refl, (refl, (refl, (refl, (refl, (refl, (refl, (refl, (refl, (refl, (refl, (refl, (refl, tt)))))))))))))
   property_names o s k seen = tt
 
   or_undefined_names : (x : Option Handle) → OptionNames x → HandleNames P (or_undefined x)

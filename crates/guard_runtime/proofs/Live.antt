@@ -26,6 +26,7 @@ use Rattle.heap_rows.specs.Opening.{place_of, built_ins_there, empty_page}
 use Rattle.live_rows.specs.Named.{RowNames}
 use Rattle.live_rows.specs.Live.{IsThere, LiveDone}
 use Rattle.live_rows.proofs.Named.{common_there}
+use Rattle.live_rows.proofs.Kept.{empty_live}
 use Rattle.live_rows.proofs.Rows.{does_live}
 use Rattle.live_rows.proofs.Ends.{gives_live, stops_live}
 use Rattle.live_rows.proofs.Made.{throws_live}
@@ -54,7 +55,7 @@ thrown_live message by h closed = throws_live by message h [] closed
 
 row_live : (q : Row) (by : ℕ) (vs : List Value) (h : Objects) → built_ins_there h → AreClosed h → All (IsLive (length h.list)) vs → ((P : Native → Type 0) → ((f : Native) → is_common f ≡ true → P f) → RowNames P q) → LiveDone h (by_row q by vs h)
 row_live q by vs h there closed live named =
-    (does_live place_of by q vs h empty_page [] (named (IsThere place_of h) (λ f common. common_there h f there common)) closed live (record { cells = λ c. tt; queues = λ m. All-nil (IsLive (length h.list)) })).done
+    (does_live place_of by q vs h empty_page [] (named (IsThere place_of h) (λ f common. common_there h f there common)) closed live (empty_live (length h.list))).done
 
 -- lists
 

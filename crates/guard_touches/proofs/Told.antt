@@ -9,7 +9,7 @@ use Rattle.es3_objects.specs.declared.value.Tag.TheVariants as tag
 use Rattle.es3_heap.specs.Objects.{Objects, object_at, tag_of}
 use Rattle.es3_convert.specs.Conversions.{text_of}
 use Rattle.rows.specs.Rows.{Touch, to_new}
-use Rattle.heap_rows.specs.Doing.{Told, touched, said, ended, heard, told_of, touched_value}
+use Rattle.heap_rows.specs.Doing.{Told, touched, said, changed_node, ended, heard, told_of, touched_value}
 use Rattle.row_outcomes.specs.Arguments.{argument}
 use Rattle.public_properties.specs.Functions.{function_kind}
 use Rattle.guard_runtime.specs.declared.Guard.{Guard}
@@ -22,6 +22,7 @@ pub all_heard : (l : List Told) → heard true l ≡ l
 all_heard [] = refl
 all_heard (touched m t g k ∷ l) = ap (λ r. touched m t g k ∷ r) (all_heard l)
 all_heard (said m us ∷ l) = ap (λ r. said m us ∷ r) (all_heard l)
+all_heard (changed_node root k c ∷ l) = ap (λ r. changed_node root k c ∷ r) (all_heard l)
 all_heard (ended x e ∷ l) = ap (λ r. ended x e ∷ r) (all_heard l)
 
 -- no touch is heard where none are asked for

@@ -1,5 +1,5 @@
 -- What a row does among the objects of ES3.
-use Rattle.std.specs.Prelude.{ℕ, Bool, true, false, ◌||◌, ◌&&◌, List, [], ◌∷◌, ◌++◌, Option, Some, None, Result, Ok, Err, is_some, not, length, nat_lt, nat_eq, slice_get, codes, map, if◌then◌else◌}
+use Rattle.std.specs.Prelude.{ℕ, Bool, true, false, ◌||◌, ◌&&◌, List, [], ◌∷◌, ◌++◌, Option, Some, None, Result, Ok, Err, is_some, not, length, nat_lt, nat_eq, slice_get, codes, map, option_map, if◌then◌else◌}
 use Rattle.plans.specs.Plans.{Fault, number_fault}
 use Rattle.page_deeds.specs.Deeds.{Label}
 use Rattle.page_deeds.specs.Shown.{Ended}
@@ -22,6 +22,9 @@ use Rattle.es3_convert.specs.Conversions.{text_of, array_items, text_within, joi
 use Rattle.es3_convert.specs.Numbers.{number_of}
 use Rattle.es3_convert.specs.Comparisons.{strictly_equal}
 use Rattle.es3_language.specs.Natives.{Reply, value_reply, throw_reply, invoke_reply, stop_reply}
+use Rattle.rows.specs.Branches.{branch, around as nodes_around}
+use Rattle.rows.specs.Document as doc
+use Rattle.rows.specs.Document.{Node, Change}
 use Rattle.rows.specs.Rows as r
 use Rattle.rows.specs.Rows.{Handle, Sight, Ending, Touch, Row, handles, keyed_handles, Maker}
 use Rattle.rows.specs.Public.{is_bad}
@@ -30,10 +33,11 @@ use Rattle.rows.specs.Guards.{maker_name}
 use Rattle.heap_rows.specs.Marks.{is_frozen, grant_read, grant_set, drop_marks, freeze, simple_mark, frozen_mark}
 use Rattle.heap_rows.specs.Natives.{receiver_of, maker_at}
 
--- what the log prints: an object with a name is touched, a module says a text; a turn of a page ended so, or there was nothing to do
+-- what the log prints: an object with a name is touched, a module says a text, a node of a root changed; a turn of a page ended so, or there was nothing to do
 pub data Told : Type 0 where
   touched : ℕ → Touch → Tag → List (List ℕ) → Told
   said : ℕ → List ℕ → Told
+  changed_node : ℕ → ℕ → Change → Told
   ended : Label → Ended Tag → Told
 
 -- touches are printed where they are asked for, and all else always
@@ -41,6 +45,7 @@ abbrev pub heard : Bool → List Told → List Told
 heard touching [] = []
 heard touching (touched m t g k ∷ l) = if touching then touched m t g k ∷ heard touching l else heard touching l
 heard touching (said m us ∷ l) = said m us ∷ heard touching l
+heard touching (changed_node root k c ∷ l) = changed_node root k c ∷ heard touching l
 heard touching (ended x e ∷ l) = ended x e ∷ heard touching l
 
 abbrev pub or_nothing : Option Value → Value
@@ -96,8 +101,7 @@ see_object n h o class.Object = record { sight = r.a_record (is_frozen h o) (key
 see_object n h o class.Array = record { sight = r.an_array (is_frozen h o) (handles n (array_items h o)); values = array_items h o }
 see_object n h o class.Function = only (sort_seen (is_some (own h o simple_mark)) (callable_of (object_at h o)))
 see_object n h o class.Error = only (r.an_error (text_in (value_of (own h o (codes "name")))) (text_in (value_of (own h o (codes "message")))))
--- a node's branch isn't among the objects
-see_object n h o class.Node = only (r.a_stranger false)
+see_object n h o class.Node = only r.a_node
 
 abbrev pub see : Objects → ℕ → Value → Seen
 see h n v.Undefined = only r.nothing
@@ -200,10 +204,19 @@ joined_if array s = Ok []
 abbrev pub joined_of : Objects → Value → List ℕ → Result (List ℕ) Fault
 joined_of h x sep = joined_if (joined (text_within 31 h) sep (see h 0 x).values) (see h 0 x).sight
 
--- what a page keeps beside its objects
+-- what is called when something happens to a node of a root: its number, what happens, the function
+pub record Handler : Type 0 where
+  pub on : ℕ
+  pub what : List ℕ
+  pub does : Value
+
+-- what a page keeps beside its objects: cells, queues; of each root its nodes by their numbers, the object that stands for each of them, and its handlers
 pub record Page : Type 0 where
   pub cells : ℕ → Value
   pub queues : ℕ → List Value
+  pub nodes : ℕ → List Node
+  pub facets : ℕ → List ℕ
+  pub handlers : ℕ → List Handler
 
 pub record Came : Type 0 where
   pub done : Done
@@ -214,11 +227,11 @@ kept_by (tag.Cell c i) g = g.cells c
 kept_by t g = v.Undefined
 
 abbrev pub keeping_by : Tag → Value → Page → Page
-keeping_by (tag.Cell c i) x g = record { cells = λ n. if nat_eq n c then x else g.cells n; queues = g.queues }
+keeping_by (tag.Cell c i) x g = record { cells = λ n. if nat_eq n c then x else g.cells n; queues = g.queues; nodes = g.nodes; facets = g.facets; handlers = g.handlers }
 keeping_by t x g = g
 
 abbrev pub queueing_by : Tag → Value → Page → Page
-queueing_by (tag.Own m i) f g = record { cells = g.cells; queues = λ n. if nat_eq n m then g.queues m ++ f ∷ [] else g.queues n }
+queueing_by (tag.Own m i) f g = record { cells = g.cells; queues = λ n. if nat_eq n m then g.queues m ++ f ∷ [] else g.queues n; nodes = g.nodes; facets = g.facets; handlers = g.handlers }
 queueing_by t f g = g
 
 abbrev pub named : Objects → Value → Tag
@@ -229,17 +242,90 @@ abbrev pub saying_by : Tag → List ℕ → List Told
 saying_by (tag.Own m i) us = said m us ∷ []
 saying_by t us = []
 
--- nodes aren't kept beside the objects, so an end that needs them does nothing here
+-- a node of a root, and the object that stands for it: each node has one from its beginning, and no property
+abbrev pub facet_object : ℕ → ℕ → Object
+facet_object root k = record { class = class.Node; proto = Some (proto_id proto.Node); callable = None; tag = tag.Facet root k; props = [] }
+
+-- the object of a root's node
+abbrev pub facet_at : List ℕ → ℕ → Value
+facet_at os k = or_nothing (option_map v.Obj (slice_get os k))
+
+abbrev pub facets_at : List ℕ → List ℕ → List Value
+facets_at os ks = map (facet_at os) ks
+
+-- a node that is there, and those around it
+pub record Around : Type 0 where
+  pub branch : r.Branch
+  pub values : List Value
+
+abbrev pub around_node : ℕ → Tag → Page → Option Around
+around_node n (tag.Facet root k) g = if nat_lt k (length (g.nodes root)) then Some (record { branch = branch n k (g.nodes root); values = facets_at (g.facets root) (nodes_around (g.nodes root) k) }) else None
+around_node n t g = None
+
+abbrev pub around : Objects → Page → ℕ → Value → Option Around
+around h g n x = around_node n (named h x) g
+
+-- the objects, with what the page keeps
+pub record Kept : Type 0 where
+  pub heap : Objects
+  pub page : Page
+
+abbrev pub with_of : {A : Type 0} → ℕ → A → (ℕ → A) → ℕ → A
+with_of root a f r = if nat_eq r root then a else f r
+
+-- other nodes of a root in the place of its own; there is one more at most, which gets its object
+abbrev pub renoded : ℕ → List Node → Objects → Page → Kept
+renoded root ns h g = by (nat_lt (length (g.nodes root)) (length ns))
+  where
+    by : Bool → Kept
+    by true = record {
+      heap = with_object h (facet_object root (length (g.nodes root)));
+      page = record { cells = g.cells; queues = g.queues; nodes = with_of root ns g.nodes; facets = with_of root (g.facets root ++ length h.list ∷ []) g.facets; handlers = g.handlers };
+    }
+    by false = record { heap = h; page = record { cells = g.cells; queues = g.queues; nodes = with_of root ns g.nodes; facets = g.facets; handlers = g.handlers } }
+
+abbrev pub noding_by : Tag → (ℕ → List Node → List Node) → Objects → Page → Kept
+noding_by (tag.Facet root k) f h g = renoded root (f k (g.nodes root)) h g
+noding_by t f h g = record { heap = h; page = g }
+
+abbrev pub node_told_by : Tag → Change → List Told
+node_told_by (tag.Facet root k) c = changed_node root k c ∷ []
+node_told_by t c = []
+
+abbrev pub new_node_by : Tag → Objects → Value
+new_node_by (tag.Facet root k) h = v.Obj (length h.list)
+new_node_by t h = v.Undefined
+
+abbrev pub listening_by : Tag → List ℕ → Value → Page → Page
+listening_by (tag.Facet root k) us f g = record { cells = g.cells; queues = g.queues; nodes = g.nodes; facets = g.facets; handlers = with_of root (g.handlers root ++ record { on = k; what = us; does = f } ∷ []) g.handlers }
+listening_by t us f g = g
+
 abbrev pub settle : (r.Native → ℕ) → r.Settling → List Value → Objects → Page → List Told → Came
 settle fs (r.answers_kept x) vs h g y = record { done = gives (kept_by (named h (value_in fs vs x)) g) h y; page = g }
 settle fs (r.keeps x z) vs h g y = record { done = gives v.Undefined h y; page = keeping_by (named h (value_in fs vs x)) (value_in fs vs z) g }
 settle fs (r.says x us) vs h g y = record { done = gives v.Undefined h (y ++ saying_by (named h (value_in fs vs x)) us); page = g }
 settle fs (r.queues x f) vs h g y = record { done = gives v.Undefined h y; page = queueing_by (named h (value_in fs vs x)) (value_in fs vs f) g }
-settle fs e vs h g y = record { done = gives v.Undefined h y; page = g }
+settle fs (r.changes_node x c z) vs h g y =
+    let t = named h (value_in fs vs x) in
+    let k = noding_by t (doc.changed c) h g in
+    record { done = gives (value_in fs vs z) k.heap (y ++ node_told_by t c); page = k.page }
+settle fs (r.adds_node x o) vs h g y =
+    let t = named h (value_in fs vs x) in
+    let k = noding_by t (λ i ns. ns ++ o ∷ []) h g in
+    record { done = gives (new_node_by t h) k.heap y; page = k.page }
+settle fs (r.listens x us f) vs h g y = record { done = gives v.Undefined h y; page = listening_by (named h (value_in fs vs x)) us (value_in fs vs f) g }
 
 abbrev pub with_result : {A : Type 0} → Result A Fault → Objects → Page → List Told → (A → Came) → Came
 with_result (Ok x) h g y go = go x
 with_result (Err f) h g y go = record { done = record { reply = stop_reply f; heap = h; items = y }; page = g }
+
+abbrev pub same_root_by : Tag → Tag → Bool
+same_root_by (tag.Facet root k) (tag.Facet other j) = nat_eq root other
+same_root_by t u = false
+
+abbrev pub with_branch : Option Around → (Around → Came) → Came → Came
+with_branch (Some b) go other = go b
+with_branch None go other = other
 
 -- what a row comes to, done by a module, with these values in hand; fs has the places of the built-in functions
 abbrev pub does : (r.Native → ℕ) → ℕ → Row → List Value → Objects → Page → List Told → Came
@@ -249,5 +335,7 @@ does fs by (r.as_text x go) vs h g y = with_result (text_of h (value_in fs vs x)
 does fs by (r.as_number x go) vs h g y = with_result (number_of h (value_in fs vs x)) h g y (λ n. does fs by (go n) vs h g y)
 does fs by (r.as_joined x sep go) vs h g y = with_result (joined_of h (value_in fs vs x) sep) h g y (λ us. does fs by (go us) vs h g y)
 does fs by (r.as_same x z go) vs h g y = does fs by (go (strictly_equal (value_in fs vs x) (value_in fs vs z))) vs h g y
+does fs by (r.as_same_root x z go) vs h g y = does fs by (go (same_root_by (named h (value_in fs vs x)) (named h (value_in fs vs z)))) vs h g y
 does fs by (r.looks x go) vs h g y = let seen = see h (length vs) (value_in fs vs x) in does fs by (go seen.sight) (vs ++ seen.values) h g y
+does fs by (r.branches x go other) vs h g y = with_branch (around h g (length vs) (value_in fs vs x)) (λ b. does fs by (go b.branch) (vs ++ b.values) h g y) (does fs by other vs h g y)
 does fs by (r.touches t x k next) vs h g y = does fs by next vs h g (y ++ touched_value by t (value_in fs vs x) h k)

@@ -2,3 +2,4 @@ pub mod Marks
 pub mod Natives
 pub mod Doing
 pub mod Opening
+pub mod Roots

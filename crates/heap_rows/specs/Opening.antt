@@ -17,7 +17,8 @@ use Rattle.rows.specs.Rows as r
 use Rattle.rows.specs.Names.{Tools, of_cajita, of_math, tools}
 use Rattle.heap_rows.specs.Marks.{freeze, frozen_mark}
 use Rattle.heap_rows.specs.Natives.{number_of, own_number, cell_number, tag_of_native, tag_of_tools, kind_of}
-use Rattle.heap_rows.specs.Doing.{Page, record_object, copied}
+use Rattle.rows.specs.Document.{Node}
+use Rattle.heap_rows.specs.Doing.{Page, record_object, copied, facet_object}
 
 -- what has no name
 
@@ -102,9 +103,9 @@ with_natives (f ∷ fs) h = with_natives fs (with_native f h)
 unfoldable pub opened : Objects
 opened = with_natives common (with_record of_math (with_record of_cajita first))
 
--- nothing is in a cell or a queue yet
+-- nothing is in a cell or a queue yet, and there is no node
 abbrev pub empty_page : Page
-empty_page = record { cells = λ c. Undefined; queues = λ m. [] }
+empty_page = record { cells = λ c. Undefined; queues = λ m. []; nodes = λ root. []; facets = λ root. []; handlers = λ root. [] }
 
 -- with modules and cells
 
@@ -146,6 +147,16 @@ with_cells (suc k) h = with_cell k (with_cells k h)
 -- with so many modules and so many cells
 abbrev pub begun : ℕ → ℕ → Objects
 begun n k = with_cells k (with_modules n opened)
+
+-- the objects that stand for the first nodes of a root
+abbrev pub with_facets : ℕ → ℕ → Objects → Objects
+with_facets root zero h = h
+with_facets root (suc k) h = with_object (with_facets root k h) (facet_object root k)
+
+-- those of the nodes of each root, from a root on
+abbrev pub with_roots : ℕ → List (List Node) → Objects → Objects
+with_roots root [] h = h
+with_roots root (ns ∷ rest) h = with_roots (suc root) rest (with_facets root (length ns) h)
 
 -- what a module may import
 

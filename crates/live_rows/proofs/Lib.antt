@@ -6,5 +6,6 @@ pub mod Made
 pub mod Writes
 pub mod Items
 pub mod Kept
+pub mod Around
 pub mod Rows
 pub mod Named

@@ -35,6 +35,8 @@ module _ (P : Native → Type 0) (any : (f : Native) → P f) where
   settling_any : (e : Settling) → SettlingNames P e
   settling_any (r.keeps x z) = handle_any z
   settling_any (r.queues x f) = handle_any f
+  settling_any (r.changes_node x c z) = handle_any z
+  settling_any (r.listens x us f) = handle_any f
   settling_any e = tt
 
   row_any : (q : Row) → RowNames P q
@@ -45,6 +47,8 @@ module _ (P : Native → Type 0) (any : (f : Native) → P f) where
   row_any (r.as_joined x sep go) = λ us. row_any (go us)
   row_any (r.as_same x z go) = λ b. row_any (go b)
   row_any (r.looks x go) = (handle_any x, λ s seen. row_any (go s))
+  row_any (r.as_same_root x z go) = λ b. row_any (go b)
+  row_any (r.branches x go other) = (handle_any x, λ b seen. row_any (go b), row_any other)
   row_any (r.touches t x k next) = row_any next
 
 pub names_what_is_there : (fs : Native → ℕ) (h : Objects) (q : Row) → ((f : Native) → IsThere fs h f) → RowNames (IsThere fs h) q

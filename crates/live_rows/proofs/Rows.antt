@@ -1,5 +1,5 @@
 -- Whatever a row is, what it comes to is live: by induction over the row.
-use Rattle.std.proofs.Common.{ℕ, true, List, ◌++◌, All, Result, Ok, Err, length}
+use Rattle.std.proofs.Common.{ℕ, true, List, ◌++◌, All, Option, Some, None, Result, Ok, Err, length}
 use Rattle.std.specs.Prelude.{map, nat_lt}
 use Rattle.std.proofs.lemmas.List.Elements.{All-append}
 use Rattle.plans.specs.Plans.{Fault}
@@ -15,11 +15,12 @@ use Rattle.es3_live.proofs.Writing.{same_objects}
 use Rattle.rows.specs.Rows as r
 use Rattle.rows.specs.Rows.{Native, Row, Ending}
 use Rattle.rows.specs.Guards.{maker_name}
-use Rattle.heap_rows.specs.Doing.{Page, Came, Told, value_in, see, proto_of, finish, joined_of, with_result, does}
-use Rattle.live_rows.specs.Named.{EndNames, RowNames}
+use Rattle.heap_rows.specs.Doing.{Page, Came, Told, value_in, see, proto_of, finish, joined_of, Around, around, with_result, with_branch, named, same_root_by, does}
+use Rattle.live_rows.specs.Named.{IsSeenBranch, EndNames, RowNames}
 use Rattle.live_rows.specs.Live.{IsThere, LiveDone, LivePage, LiveCame}
 use Rattle.live_rows.proofs.Values.{value_live, values_live}
 use Rattle.live_rows.proofs.Seeing.{sees}
+use Rattle.live_rows.proofs.Around.{IsAroundLive, around_live}
 use Rattle.live_rows.proofs.Ends.{gives_live, stops_live, unless_long}
 use Rattle.live_rows.proofs.Made.{throws_live, error_live, array_live, copy_live, keys_live}
 use Rattle.live_rows.proofs.Writes.{reads_grown, writes_grown, drops_grown, freezes_grown}
@@ -52,6 +53,10 @@ result_live : {A : Type 0} (a : Result A Fault) (h : Objects) (g : Page) (y : Li
 result_live (Ok x) h g y go closed page live = live x
 result_live (Err f) h g y go closed page live = record { done = stops_live f h y closed; page = page }
 
+branch_live : (h : Objects) (o : Option Around) (go : r.Branch → List Value → Came) (other : Came) → IsAroundLive (length h.list) o → ((b : r.Branch) (us : List Value) → IsSeenBranch b → All (IsLive (length h.list)) us → LiveCame h (go b us)) → LiveCame h other → LiveCame h (with_branch o (λ b. go b.branch b.values) other)
+branch_live h None go other l f q = q
+branch_live h (Some b) go other l f q = f b.branch b.values l.branch l.values
+
 pub does_live : (fs : Native → ℕ) (by : ℕ) (q : Row) (vs : List Value) (h : Objects) (g : Page) (y : List Told) → RowNames (IsThere fs h) q → AreClosed h
     → All (IsLive (length h.list)) vs → LivePage (length h.list) g → LiveCame h (does fs by q vs h g y)
 does_live fs by (r.ends e) vs h g y names closed live page =
@@ -71,4 +76,11 @@ does_live fs by (r.looks x go) vs h g y names closed live page =
     let seen = see h (length vs) (value_in fs vs x) in
     let s = sees (length vs) h (value_in fs vs x) closed in
     does_live fs by (go seen.sight) (vs ++ seen.values) h g y (names.1 seen.sight s.sight) closed (All-append (IsLive (length h.list)) vs seen.values live s.values) page
+does_live fs by (r.as_same_root x z go) vs h g y names closed live page =
+    let same = same_root_by (named h (value_in fs vs x)) (named h (value_in fs vs z)) in
+    does_live fs by (go same) vs h g y (names same) closed live page
+does_live fs by (r.branches x go other) vs h g y names closed live page =
+    branch_live h (around h g (length vs) (value_in fs vs x)) (λ b us. does fs by (go b) (vs ++ us) h g y) (does fs by other vs h g y) (around_live h g (length vs) (value_in fs vs x) page)
+    (λ b us seen held. does_live fs by (go b) (vs ++ us) h g y (names.1 b seen) closed (All-append (IsLive (length h.list)) vs us live held) page)
+    (does_live fs by other vs h g y names.2 closed live page)
 does_live fs by (r.touches t x k next) vs h g y names closed live page = does_live fs by next vs h g _ names closed live page

@@ -1,4 +1,4 @@
--- What is seen of a value among closed objects: it is no node, and the values in it are live.
+-- What is seen of a value among closed objects: the values in it are live.
 use Rattle.std.proofs.Common.{ℕ, ◌+◌, Bool, true, false, List, [], ◌∷◌, Option, Some, None, All, length, cond}
 use Rattle.std.specs.Prelude.{is_some}
 use Rattle.std.proofs.lemmas.List.Elements.{All-nil, All-cons, All-head, All-tail, All-map}
@@ -42,7 +42,7 @@ guests_of_live h o closed = guests_live (length h.list) (props_of (object_at h o
 
 -- their handles
 
-handles_held : (n : ℕ) (vs : List Value) → All IsHeld (handles n vs)
+pub handles_held : {V : Type 0} (n : ℕ) (vs : List V) → All IsHeld (handles n vs)
 handles_held n [] = All-nil IsHeld
 handles_held n (x ∷ vs) = All-cons IsHeld (r.held n) (handles (n + 1) vs) tt (handles_held (n + 1) vs)
 
@@ -80,7 +80,7 @@ object_sees n h o class.Object closed =
 object_sees n h o class.Array closed = record { sight = handles_held n (array_items h o); values = array_items_live h o closed }
 object_sees n h o class.Function closed = sees_only (length h.list) _ (function_seen (is_some (own h o simple_mark)) (callable_of (object_at h o)))
 object_sees n h o class.Error closed = sees_only (length h.list) _ tt
-object_sees n h o class.Node closed = sees_only (length h.list) _ tt
+object_sees n h o class.Node closed = sees_only (length h.list) r.a_node tt
 
 pub sees : (n : ℕ) (h : Objects) (x : Value) → AreClosed h → Sees (length h.list) (see h n x)
 sees n h (v.Obj o) closed = object_sees n h o (class_of (object_at h o)) closed

@@ -1,7 +1,7 @@
 -- The built-in functions that a row names in what it answers, writes or keeps: methods that it reads out of values.
-use Rattle.std.specs.Prelude.{ℕ, ℤ, Bool, List, All}
+use Rattle.std.specs.Prelude.{ℕ, ℤ, Bool, List, Option, All}
 use Rattle.rows.specs.Rows as r
-use Rattle.rows.specs.Rows.{Native, Handle, Sight, Sort, Ending, Settling, Row}
+use Rattle.rows.specs.Rows.{Native, Handle, Sight, Branch, Sort, Ending, Settling, Row}
 
 abbrev pub HandleNames : (Native → Type 0) → Handle → Type 0
 HandleNames P (r.method_of x f) = P f
@@ -10,7 +10,7 @@ HandleNames P x = Unit {0}
 abbrev pub HandlesName : (Native → Type 0) → List Handle → Type 0
 HandlesName P xs = All (HandleNames P) xs
 
--- what is seen among objects: values that are held, no node and no forwarder
+-- what is seen among objects: values that are held, and no forwarder
 
 abbrev pub IsHeld : Handle → Type 0
 IsHeld (r.held n) = Unit {0}
@@ -24,8 +24,13 @@ abbrev pub IsSeen : Sight → Type 0
 IsSeen (r.a_record frozen ps) = All (λ (p : List ℕ × Handle). IsHeld p.1) ps
 IsSeen (r.an_array frozen xs) = All IsHeld xs
 IsSeen (r.a_function sort) = IsSeenSort sort
-IsSeen (r.a_node b) = ⊥
 IsSeen s = Unit {0}
+
+-- a node with those around it
+pub record IsSeenBranch (b : Branch) : Type 0 where
+  pub parent : All IsHeld b.parent
+  pub children : All IsHeld b.children
+  pub below : All (λ (p : Option (List ℕ) × Handle). IsHeld p.1) b.below
 
 -- how it ends
 
@@ -42,6 +47,8 @@ EndNames P e = Unit {0}
 abbrev pub SettlingNames : (Native → Type 0) → Settling → Type 0
 SettlingNames P (r.keeps x z) = HandleNames P z
 SettlingNames P (r.queues x f) = HandleNames P f
+SettlingNames P (r.changes_node x c z) = HandleNames P z
+SettlingNames P (r.listens x us f) = HandleNames P f
 SettlingNames P e = Unit {0}
 
 -- whatever is seen, the row names these built-in functions alone
@@ -53,4 +60,6 @@ RowNames P (r.as_number x go) = (n : ℤ) → RowNames P (go n)
 RowNames P (r.as_joined x sep go) = (us : List ℕ) → RowNames P (go us)
 RowNames P (r.as_same x z go) = (b : Bool) → RowNames P (go b)
 RowNames P (r.looks x go) = HandleNames P x × ((s : Sight) → IsSeen s → RowNames P (go s))
+RowNames P (r.as_same_root x z go) = (b : Bool) → RowNames P (go b)
+RowNames P (r.branches x go other) = HandleNames P x × ((b : Branch) → IsSeenBranch b → RowNames P (go b)) × RowNames P other
 RowNames P (r.touches t x k next) = RowNames P next

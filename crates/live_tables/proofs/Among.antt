@@ -1,21 +1,22 @@
 -- A row that is among objects names common built-in functions alone, and these stand in their places.
-use Rattle.std.proofs.Common.{◌≡◌, ℕ, true, List, [], ◌∷◌, All, length, suc}
+use Rattle.std.proofs.Common.{◌≡◌, ℕ, true, List, [], ◌∷◌, All, Option, length, suc}
 use Rattle.std.proofs.lemmas.List.Elements.{All-nil, All-cons, All-head, All-tail}
 use Rattle.es3_objects.specs.declared.value.Value.{Value}
 use Rattle.es3_heap.specs.Objects.{Objects}
 use Rattle.es3_live.specs.Live.{IsLive, AreClosed}
 use Rattle.rows.specs.Rows as r
-use Rattle.rows.specs.Rows.{Native, Handle, Sight, Ending, Settling, Row}
+use Rattle.rows.specs.Rows.{Native, Handle, Sight, Branch, Ending, Settling, Row}
 use Rattle.rows.specs.Nodes.{no_rules}
 use Rattle.rows.specs.Table.{row_of}
 use Rattle.heap_rows.specs.Natives.{is_common}
 use Rattle.heap_rows.specs.Opening.{place_of, built_ins_there, empty_page}
-use Rattle.live_rows.specs.Named.{HandleNames, HandlesName, IsHeld, IsSeen, IsSeenSort, EndNames, SettlingNames, RowNames}
+use Rattle.live_rows.specs.Named.{HandleNames, HandlesName, IsHeld, IsSeen, IsSeenSort, IsSeenBranch, EndNames, SettlingNames, RowNames}
 use Rattle.live_rows.specs.Live.{IsThere, LiveDone}
 use Rattle.live_rows.proofs.Named.{common_there}
+use Rattle.live_rows.proofs.Kept.{empty_live}
 use Rattle.live_rows.proofs.Rows.{does_live}
 use Rattle.row_outcomes.specs.Comes.{row_done}
-use Rattle.row_simulation.specs.Among.{IsHandleAmong, AreHandlesAmong, ArePairsAmong, IsSortAmong, IsSightAmong, IsEndAmong, IsSettlingAmong, IsAmongObjects}
+use Rattle.row_simulation.specs.Among.{IsHandleAmong, AreHandlesAmong, ArePairsAmong, IsSortAmong, IsSightAmong, AreIdsAmong, IsBranchAmong, IsEndAmong, IsSettlingAmong, IsAmongObjects}
 use Rattle.row_simulation.proofs.Tables.{tables}
 
 -- what is seen is among objects
@@ -43,8 +44,14 @@ seen_among : (s : Sight) → IsSeen s → IsSightAmong s
 seen_among (r.a_record frozen ps) seen = pairs_held_among ps seen
 seen_among (r.an_array frozen xs) seen = all_held_among xs seen
 seen_among (r.a_function sort) seen = sort_among sort seen
-seen_among (r.a_node b) seen = seen
 seen_among s seen = tt
+
+ids_held_among : (xs : List (Option (List ℕ) × Handle)) → All (λ (p : Option (List ℕ) × Handle). IsHeld p.1) xs → AreIdsAmong xs
+ids_held_among [] held = tt
+ids_held_among ((id, x) ∷ xs) held = (held_among x (All-head (λ (p : Option (List ℕ) × Handle). IsHeld p.1) (id, x) xs held), ids_held_among xs (All-tail (λ (p : Option (List ℕ) × Handle). IsHeld p.1) (id, x) xs held))
+
+branch_among : (b : Branch) → IsSeenBranch b → IsBranchAmong b
+branch_among b seen = record { parent = all_held_among b.parent seen.parent; children = all_held_among b.children seen.children; below = ids_held_among b.below seen.below }
 
 -- what it names
 
@@ -70,6 +77,8 @@ module _ (P : Native → Type 0) (common : (f : Native) → is_common f ≡ true
   settling_names : (e : Settling) → IsSettlingAmong e → SettlingNames P e
   settling_names (r.keeps x z) among = handle_names z among.1
   settling_names (r.queues x f) among = handle_names f among.1
+  settling_names (r.changes_node x c z) among = handle_names z among.1
+  settling_names (r.listens x us f) among = handle_names f among.1
   settling_names e among = tt
 
   row_names : (q : Row) → IsAmongObjects q → RowNames P q
@@ -80,6 +89,8 @@ module _ (P : Native → Type 0) (common : (f : Native) → is_common f ≡ true
   row_names (r.as_joined x sep go) among = λ us. row_names (go us) (among.1 us)
   row_names (r.as_same x z go) among = λ b. row_names (go b) (among.2 b)
   row_names (r.looks x go) among = (handle_names x among.0, λ s seen. row_names (go s) (among.1 s (seen_among s seen)))
+  row_names (r.as_same_root x z go) among = λ b. row_names (go b) (among.2 b)
+  row_names (r.branches x go other) among = (handle_names x among.0, λ b seen. row_names (go b) (among.1 b (branch_among b seen)), row_names other among.2)
   row_names (r.touches t x k next) among = row_names next among.1
 
 pub names_there : (h : Objects) (q : Row) → built_ins_there h → IsAmongObjects q → RowNames (IsThere place_of h) q
@@ -91,4 +102,4 @@ built_in_live f by this args h there closed receiver arguments =
     let q = row_of no_rules f (suc (length args)) in
     let among = tables.built_ins no_rules (λ k xs answers. tt) f (suc (length args)) in
     (does_live place_of by q (this ∷ args) h empty_page [] (names_there h q there among) closed (All-cons (IsLive (length h.list)) this args receiver arguments)
-    (record { cells = λ c. tt; queues = λ m. All-nil (IsLive (length h.list)) })).done
+    (empty_live (length h.list))).done

@@ -55,6 +55,7 @@ fn shown(alloc: Global, row: &Row, as_texts: bool) -> Result<Outcome, Fail> {
         names: Names {
             modules,
             cells: Vec::new(alloc),
+            roots: Vec::new(alloc),
         },
         modules: 1,
         cells: 0,

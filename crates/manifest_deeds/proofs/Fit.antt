@@ -9,7 +9,7 @@ use Rattle.caja_units.specs.Units.{same_units}
 use Rattle.es3_tree.specs.Tree as t
 use Rattle.es3_tokens.specs.Tokens.{is_one_of}
 use Rattle.cajita_names.specs.Rules as rules
-use Rattle.page_deeds.specs.Deeds.{Grant, a_cell, a_result, a_plain, Grants, Deed, to_load, to_call, to_tick}
+use Rattle.page_deeds.specs.Deeds.{Grant, a_cell, a_result, a_plain, a_root, Grants, Deed, to_load, to_call, to_tick, to_click, to_input}
 use Rattle.event_script.specs.Events.{Asked, a_call, a_tick, deed_of as deed_asked}
 use Rattle.page_manifest.specs.Names.{is_grant_name, taken_names}
 use Rattle.page_manifest.specs.Page.{Module, Page}
@@ -59,6 +59,7 @@ abbrev GrantIsFit : Grant → Type 0
 GrantIsFit (a_cell c) = c < 64
 GrantIsFit (a_result m) = Unit {0}
 GrantIsFit (a_plain v) = Unit {0}
+GrantIsFit (a_root root) = ⊥
 
 abbrev AreFit : Grants → Type 0
 AreFit gs = All (λ g. GrantIsFit g.1) gs × AreApart fixed_names (map (λ g. g.0) gs)
@@ -68,11 +69,14 @@ abbrev IsFit : {P : Type 0} → ℕ → Deed P → Type 0
 IsFit modules (to_load m p gs) = (m < modules) × AreFit gs
 IsFit modules (to_call k m key args) = m < modules
 IsFit modules (to_tick k m) = m < modules
+IsFit modules (to_click k id root n) = ⊥
+IsFit modules (to_input k id root n us) = ⊥
 
 granted_is_fit : (cells i : ℕ) → cells ≤ 64 → (g : Grant) → IsGranted cells i g → GrantIsFit g
 granted_is_fit cells i few (a_cell c) h = omega arith
 granted_is_fit cells i few (a_result m) h = tt
 granted_is_fit cells i few (a_plain v) h = tt
+granted_is_fit cells i few (a_root root) h = h
 
 grants_are_fit : (cells i : ℕ) → cells ≤ 64 → (m : Module) → IsModule cells i m → AreFit m.grants
 grants_are_fit cells i few m h =

@@ -128,6 +128,7 @@ pub fn page_of(alloc: Global, manifest: Manifest, programs: Vec<Program>) -> Res
     let names = Names {
         modules: module_names(alloc, &modules)?,
         cells,
+        roots: Vec::new(alloc),
     };
     let count = modules.len() as u32;
     let cell_count = names.cells.len() as u32;

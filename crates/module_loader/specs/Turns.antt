@@ -2,7 +2,7 @@
 use Rattle.std.specs.Prelude.{ℕ, ◌+◌, ◌*◌, List, [], ◌∷◌, ◌++◌, length}
 use Rattle.plans.specs.Plans.{ends, stops}
 use Rattle.page_deeds.specs.Deeds as deed
-use Rattle.page_deeds.specs.Deeds.{Plain, Grant, a_cell, a_result, a_plain, Grants}
+use Rattle.page_deeds.specs.Deeds.{Plain, Grant, a_cell, a_result, a_plain, a_root, Grants}
 use Rattle.es3_objects.specs.declared.value.Value.{Value}
 use Rattle.es3_objects.specs.declared.value.Value.TheVariants as v
 use Rattle.es3_heap.specs.Objects.{Objects, with_object}
@@ -35,10 +35,12 @@ plain_value (deed.truth b) = v.Bool b
 plain_value (deed.number n) = v.Num n
 plain_value (deed.text us) = v.Text us
 
+-- the page keeps no nodes, so no root is there
 abbrev pub granted_value : ℕ → Results → Grant → Value
 granted_value modules r (a_cell c) = v.Obj (cell_place modules c)
 granted_value modules r (a_result m) = r m
 granted_value modules r (a_plain p) = plain_value p
+granted_value modules r (a_root root) = v.Undefined
 
 -- what a module is granted, under its names
 abbrev pub granted_pairs : ℕ → Results → Grants → List (List ℕ × Value)

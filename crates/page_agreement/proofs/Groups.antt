@@ -9,7 +9,7 @@ use Rattle.std.proofs.lemmas.List.Folds.{list_any_at, Any-from_list_any}
 use Rattle.std.proofs.lemmas.Option.{slice_get-map, slice_get_within}
 use Rattle.std.proofs.lemmas.Map.Views.{Contains-from_any}
 use Rattle.acts.specs.Laws as acts
-use Rattle.page_deeds.specs.Deeds.{Grant, a_cell, a_result, a_plain, Grants}
+use Rattle.page_deeds.specs.Deeds.{Grant, a_cell, a_result, a_plain, a_root, Grants}
 use Rattle.cajita_laws.specs.Parts.{Group}
 use Rattle.page_isolation.specs.Agree.{IsGrantOf}
 use Rattle.page_manifest.specs.Page.{Module, Page}
@@ -56,12 +56,14 @@ cell_link i c [] is = absurd is
 cell_link i c ((x, a_cell k) ∷ gs) is = ⊎_elim (λ e. inl (refl, let same : c ≡ k = cc in ap node.Cell same)) (λ h. inr (cell_link i c gs h)) is
 cell_link i c ((x, a_result k) ∷ gs) is = ⊎_elim (λ e. absurd (cc)) (λ h. inr (cell_link i c gs h)) is
 cell_link i c ((x, a_plain v) ∷ gs) is = ⊎_elim (λ e. absurd (cc)) (λ h. cell_link i c gs h) is
+cell_link i c ((x, a_root r) ∷ gs) is = ⊎_elim (λ e. absurd (cc)) (λ h. cell_link i c gs h) is
 
 result_link : (i n : ℕ) (gs : Grants) → IsGrantedIn (a_result n) gs → IsLink (node.Module i) (node.Module n) (grant_links i gs)
 result_link i n [] is = absurd is
 result_link i n ((x, a_cell k) ∷ gs) is = ⊎_elim (λ e. absurd (cc)) (λ h. inr (result_link i n gs h)) is
 result_link i n ((x, a_result k) ∷ gs) is = ⊎_elim (λ e. inl (refl, let same : n ≡ k = cc in ap node.Module same)) (λ h. inr (result_link i n gs h)) is
 result_link i n ((x, a_plain v) ∷ gs) is = ⊎_elim (λ e. absurd (cc)) (λ h. result_link i n gs h) is
+result_link i n ((x, a_root r) ∷ gs) is = ⊎_elim (λ e. absurd (cc)) (λ h. result_link i n gs h) is
 
 link_left : (a b : Node) (ls ks : Links) → IsLink a b ls → IsLink a b (ls ++ ks)
 link_left a b [] ks h = absurd h
@@ -85,6 +87,7 @@ grants_cell c [] = false
 grants_cell c ((x, a_cell k) ∷ gs) = nat_eq c k || grants_cell c gs
 grants_cell c ((x, a_result k) ∷ gs) = grants_cell c gs
 grants_cell c ((x, a_plain v) ∷ gs) = grants_cell c gs
+grants_cell c ((x, a_root r) ∷ gs) = grants_cell c gs
 
 abbrev pub grants_at : Option Module → Grants
 grants_at None = []
@@ -102,6 +105,7 @@ grants_true c [] is = absurd is
 grants_true c ((x, a_cell k) ∷ gs) is = ⊎_elim (λ e. let same : c ≡ k = cc in ap (λ b. b || grants_cell c gs) (eq-eqb c k same)) (λ h. or_right (nat_eq c k) (grants_cell c gs) (grants_true c gs h)) is
 grants_true c ((x, a_result k) ∷ gs) is = ⊎_elim (λ e. absurd (cc)) (λ h. grants_true c gs h) is
 grants_true c ((x, a_plain v) ∷ gs) is = ⊎_elim (λ e. absurd (cc)) (λ h. grants_true c gs h) is
+grants_true c ((x, a_root r) ∷ gs) is = ⊎_elim (λ e. absurd (cc)) (λ h. grants_true c gs h) is
 
 grants_from : (c : ℕ) (gs : Grants) → grants_cell c gs ≡ true → IsGrantedIn (a_cell c) gs
 grants_from c [] e = absurd (false≢true e)
@@ -112,6 +116,7 @@ grants_from c ((x, a_cell k) ∷ gs) e = at (grants_from c gs) (nat_eq c k) refl
     at rest false h f = inr (rest f)
 grants_from c ((x, a_result k) ∷ gs) e = inr (grants_from c gs e)
 grants_from c ((x, a_plain v) ∷ gs) e = inr (grants_from c gs e)
+grants_from c ((x, a_root r) ∷ gs) e = inr (grants_from c gs e)
 
 -- a cell of the group is granted to one of its modules
 pub record OfMember (p : Page) (g : List ℕ) (c : ℕ) : Type 0 where
@@ -192,6 +197,7 @@ module _ (p : Page) (valid : IsValid p) (g : List ℕ) (is : Contains (page_grou
   own_grants i m member there (a_cell c) h = cell_true p g c i m member there h
   own_grants i m member there (a_result n) h = among_true g n (together_in i n member (earlier_below i n m there h) (to_result i n m there h))
   own_grants i m member there (a_plain v) h = tt
+  own_grants i m member there (a_root r) h = absurd (its_granted i m there (a_root r) h)
 
   -- the result of one of the group is granted to no other
   pub other_results : (j n : ℕ) (m : Module) → (Contains g j → ⊥) → IsAt p j m → IsGrantedIn (a_result n) m.grants → is_among g n ≡ false
@@ -203,3 +209,4 @@ module _ (p : Page) (valid : IsValid p) (g : List ℕ) (is : Contains (page_grou
   other_grants j m other there (a_cell c) h = false_from_ne_true ((the_group p g).cells c) (λ e. let k = cell_from p g c e in other (one_cell k.by j c k.its_module m k.member k.there k.granted there h))
   other_grants j m other there (a_result n) h = other_results j n m other there h
   other_grants j m other there (a_plain v) h = tt
+  other_grants j m other there (a_root r) h = refl

@@ -5,7 +5,7 @@ use Rattle.std.proofs.lemmas.Option.{slice_get-map}
 use Rattle.rows.specs.Nodes.{no_rules}
 use Rattle.scope_rules.specs.Resolve.{module_of}
 use Rattle.page_deeds.specs.Deeds.{Grants}
-use Rattle.cell_numbers.specs.Names.{SameGrants}
+use Rattle.cell_numbers.specs.Names.{Listed, SameGrants}
 use Rattle.page_manifest.specs.Page.{Module, Page}
 use Rattle.manifest_deeds.specs.Names.{page_names}
 use Rattle.page_cajole.specs.Cajoled.{statements}
@@ -15,7 +15,7 @@ use Rattle.page_meaning.specs.PageRuns.{sources_run}
 use Rattle.page_meaning.specs.Sources.{SpellsModule}
 use Rattle.page_meaning.specs.Meant.{SpellModules, IsPage}
 use Rattle.page_meaning.proofs.Sources.{is_source}
-use Rattle.page_agreement.specs.Agree.{IsAt, AgreeOn}
+use Rattle.page_agreement.specs.Agree.{IsAt, listed, AgreeOn}
 use Rattle.page_agreement.specs.Lines.{group_log}
 use Rattle.page_agreement.specs.Isolated.{direct_lines, SameFor, IsIsolated}
 use Rattle.page_agreement.proofs.Groups.{member_below}
@@ -54,10 +54,10 @@ in_step (m ∷ ms) (n ∷ ns) (s ∷ ss) [] names h k = absurd k
 in_step (m ∷ ms) (n ∷ ns) (s ∷ ss) (r ∷ rs) names h k = let rest : map (λ (m : Module). m.name) ms ≡ map (λ (m : Module). m.name) ns = cc in in_step ms ns ss rs rest h.1 k.1
 
 -- the same grants have the same names
-names_same : (names others : List (List ℕ)) (gs hs : Grants) → SameGrants names others gs hs → map (λ g. g.0) gs ≡ map (λ g. g.0) hs
-names_same names others [] [] s = refl
-names_same names others ((x, g) ∷ gs) ((y, h) ∷ hs) s = ap₂ (λ (k : List ℕ) (l : List (List ℕ)). k ∷ l) s.0 (names_same names others gs hs s.2)
-names_same names others gs hs s = absurd s
+names_same : (a b : Listed) (gs hs : Grants) → SameGrants a b gs hs → map (λ g. g.0) gs ≡ map (λ g. g.0) hs
+names_same a b [] [] s = refl
+names_same a b ((x, g) ∷ gs) ((y, h) ∷ hs) s = ap₂ (λ (k : List ℕ) (l : List (List ℕ)). k ∷ l) s.0 (names_same a b gs hs s.2)
+names_same a b gs hs s = absurd s
 
 -- what runs for a module, by what becomes of it
 the_same_runs : (o o' : Option Runnable) (a b : Result Runnable Refusal) → Some a ≡ option_map Ok o → Some b ≡ option_map Ok o' → a ≡ b → o ≡ o'
@@ -84,7 +84,7 @@ module _ (p q : Page) (g : List ℕ) (agree : AgreeOn p q g) (is : IsPage p) (is
       record { left = m.0; right = n.0; here = m.1; there = n.1 }
 
   granted_same : (i : ℕ) → Contains g i → (b : InBoth i) → granted_names b.left ≡ granted_names b.right
-  granted_same i member b = names_same p.cells q.cells b.left.grants b.right.grants (agree.modules i b.left b.right member b.here b.there).grants
+  granted_same i member b = names_same (listed p) (listed q) b.left.grants b.right.grants (agree.modules i b.left b.right member b.here b.there).grants
 
   same_sources : (ls ms : List Program) → SpellModules p.modules ls → SpellModules q.modules ms → (i : ℕ) (s r : Program) → Contains g i → slice_get ls i ≡ Some s → slice_get ms i ≡ Some r → s ≡ r
   same_sources ls ms h k i s r member at at' =

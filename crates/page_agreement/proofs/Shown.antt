@@ -1,27 +1,28 @@
 -- The lines of a group: they are those of its items, and the names of cells that two pages have in common make them the same.
-use Rattle.std.proofs.Common.{◌≡◌, ℕ, Bool, true, false, cond, List, [], ◌∷◌, ◌++◌, refl, sym, ap, ◌∙◌}
+use Rattle.std.proofs.Common.{◌≡◌, ℕ, Bool, true, false, cond, List, [], ◌∷◌, ◌++◌, refl, sym, ap, ◌∙◌, subst}
 use Rattle.std.specs.Prelude.{get_or, codes, if◌then◌else◌}
 use Rattle.caja_units.specs.Index.{number_units}
 use Rattle.caja_units.specs.Literal.{literal}
 use Rattle.caja_units.specs.Utf8.{utf8_of}
-use Rattle.page_deeds.specs.Deeds.{Label, of_load, of_call, of_tick}
+use Rattle.page_deeds.specs.Deeds.{Owner, of_module, of_root, Label, of_load, of_call, of_tick, of_click, of_input, labelled}
 use Rattle.page_deeds.specs.Shown as show
-use Rattle.page_deeds.specs.Shown.{Shown, Sort, renamed, Ended, by_return, by_throw, by_nothing, end_renamed}
+use Rattle.page_deeds.specs.Shown.{Shown, renamed, Ended, by_return, by_throw, by_nothing, end_renamed}
 use Rattle.acts.specs.Laws.{All}
 use Rattle.rows.specs.Rows.{Touch}
+use Rattle.rows.specs.Document.{Change}
 use Rattle.rows.specs.Names.{Tools, of_cajita, of_math, code_of}
 use Rattle.heap_rows.specs.Natives.{tag_of_code, tag_of_tools}
 use Rattle.heap_rows.specs.Doing as told
 use Rattle.heap_rows.specs.Doing.{Told, heard}
 use Rattle.cajita_meaning.specs.World.{Name, made_name, cell_name, own_name, built_name, tools_name, facet_name, forward_name}
 use Rattle.cajita_meaning.specs.Direct.{Item, made, got, touched, passed, granted, said, was_revoked, changed_node, ended}
-use Rattle.cajita_laws.specs.Parts.{Group, items_of}
+use Rattle.cajita_laws.specs.Parts.{Group, owns, items_of}
 use Rattle.row_simulation.specs.Correspond.{tag_of_name}
 use Rattle.row_simulation.specs.RowLaw.{shown}
-use Rattle.page_log.specs.Log.{Names, name_in, own_ends, cell_ends, object_name, sort_text, shown_text, label_text, end_text, touch_text, key_text, line_end, line, log}
-use Rattle.cell_numbers.specs.Renumbering.{Renumbering, name_anew, item_anew, items_anew}
+use Rattle.page_log.specs.Log.{Names, name_in, own_ends, cell_ends, object_name, sort_text, shown_text, label_text, end_text, touch_text, key_text, change_text, line_end, line, log}
+use Rattle.cell_numbers.specs.Renumbering.{Renumbering, name_anew, label_anew, item_anew, items_anew}
 use Rattle.cell_numbers.specs.Cells.{cells_of, cells_shown, cells_ended, cells_told, cells_in}
-use Rattle.page_agreement.specs.Lines.{is_among, told_of}
+use Rattle.page_agreement.specs.Lines.{is_among, is_of, told_of}
 
 -- the group's lines are those of its items
 
@@ -40,13 +41,20 @@ module _ (g : List ℕ) (cells : ℕ → Bool) where
   no_line true touching i z ts shows e = e ∙ sym (shows z)
   no_line false touching i z ts shows e = e
 
+  its_own : (o : Owner) → is_of g o ≡ owns its_group o
+  its_own (of_module m) = refl
+  its_own (of_root r) = refl
+
   pub its_lines : (touching : Bool) (z : List Item) → told_of g (heard touching (shown z)) ≡ heard touching (shown (items_of true its_group z))
   its_lines touching [] = refl
   its_lines true (touched m t o k ∷ z) = one_line (is_among g m) true (touched m t o k) (told.touched m t (tag_of_name o) k) (items_of true its_group z) (told_of g (heard true (shown z))) [] (λ y. refl) (its_lines true z)
   its_lines false (touched m t o k ∷ z) = no_line (is_among g m) false (touched m t o k) (items_of true its_group z) (told_of g (heard false (shown z))) (λ y. refl) (its_lines false z)
   its_lines touching (said m us ∷ z) = one_line (is_among g m) touching (said m us) (told.said m us) (items_of true its_group z) (told_of g (heard touching (shown z))) [] (λ y. refl) (its_lines touching z)
   its_lines touching (ended l e ∷ z) =
-      one_line (is_among g (Rattle.page_deeds.specs.Deeds.labelled l)) touching (ended l e) (told.ended l (end_renamed tag_of_name e)) (items_of true its_group z) (told_of g (heard touching (shown z))) [] (λ y. refl) (its_lines touching z)
+      let t : Told = told.ended l (end_renamed tag_of_name e) in
+      let ts = told_of g (heard touching (shown z)) in
+      let is = items_of true its_group z in
+      subst (λ b. cond (is_of g (labelled l)) (t ∷ ts) ts ≡ heard touching (shown (if b then ended l e ∷ is else is))) (its_own (labelled l)) (one_line (is_of g (labelled l)) touching (ended l e) t is ts [] (λ y. refl) (its_lines touching z))
   its_lines touching (made m o ∷ z) = no_line (is_among g m) touching (made m o) (items_of true its_group z) (told_of g (heard touching (shown z))) (λ y. refl) (its_lines touching z)
   its_lines touching (got m h o ∷ z) = no_line (is_among g m) touching (got m h o) (items_of true its_group z) (told_of g (heard touching (shown z))) (λ y. refl) (its_lines touching z)
   its_lines touching (passed a b o ∷ z) = no_line (is_among g a) touching (passed a b o) (items_of true its_group z) (told_of g (heard touching (shown z))) (λ y. refl) (its_lines touching z)
@@ -63,9 +71,9 @@ all_before : (P : ℕ → Type 0) (xs ys : List ℕ) → All P (xs ++ ys) → Al
 all_before P [] ys h = tt
 all_before P (x ∷ xs) ys h = (h.0, all_before P xs ys h.1)
 
--- under the names of two pages, with the cells of the second one numbered anew: of the cells that are told of, each has the same name in both
+-- under the names of two pages, with the cells and roots of the second one numbered anew: of the cells that are told of, each has the same name in both, and so has each root
 
-module _ (a b : Names) (modules : a.modules ≡ b.modules) (f : Renumbering) (own : ℕ → Bool) (known : (c : ℕ) → own (f.anew c) ≡ true → name_in a.cells (f.anew c) ≡ name_in b.cells c) where
+module _ (a b : Names) (modules : a.modules ≡ b.modules) (f : Renumbering) (roots : (r : ℕ) → name_in a.roots (f.roots.anew r) ≡ name_in b.roots r) (own : ℕ → Bool) (known : (c : ℕ) → own (f.cells.anew c) ≡ true → name_in a.cells (f.cells.anew c) ≡ name_in b.cells c) where
   abbrev AllOwn : List ℕ → Type 0
   AllOwn cs = All (λ c. own c ≡ true) cs
 
@@ -89,7 +97,7 @@ module _ (a b : Names) (modules : a.modules ≡ b.modules) (f : Renumbering) (ow
   object_shown (own_name m i) h = ap (λ name. name ++ get_or own_ends i (codes "?")) (maker m)
   object_shown (built_name n) h = code_shown (code_of n)
   object_shown (tools_name t) h = tools_shown t
-  object_shown (facet_name r k) h = refl
+  object_shown (facet_name r k) h = ap (λ name. codes "node:" ++ name ++ codes "/" ++ number_units k) (roots r)
   object_shown (forward_name m p c i) h = refl
 
   value_shown : (v : Shown Name) → AllOwn (cells_shown (renamed (name_anew f) v)) → shown_text a (renamed tag_of_name (renamed (name_anew f) v)) ≡ shown_text b (renamed tag_of_name v)
@@ -106,10 +114,12 @@ module _ (a b : Names) (modules : a.modules ≡ b.modules) (f : Renumbering) (ow
   end_shown (by_throw v) h = ap (λ t. codes " throw " ++ t) (value_shown v h)
   end_shown by_nothing h = refl
 
-  label_shown : (l : Label) → label_text a l ≡ label_text b l
+  label_shown : (l : Label) → label_text a (label_anew f l) ≡ label_text b l
   label_shown (of_load m) = ap (λ name. codes "load " ++ name) (maker m)
   label_shown (of_call k m key) = ap (λ name. codes "event " ++ number_units k ++ codes " call " ++ name ++ codes " " ++ literal key) (maker m)
   label_shown (of_tick k m) = ap (λ name. codes "event " ++ number_units k ++ codes " tick " ++ name) (maker m)
+  label_shown (of_click k id root) = refl
+  label_shown (of_input k id root) = refl
 
   -- lines
 
@@ -121,7 +131,10 @@ module _ (a b : Names) (modules : a.modules ≡ b.modules) (f : Renumbering) (ow
   said_line : (m : ℕ) (us : List ℕ) → line a (told.said m us) ≡ line b (told.said m us)
   said_line m us = ap (λ name. codes "say " ++ name ++ codes " " ++ literal us ++ line_end) (maker m)
 
-  ended_line : (l : Label) (e : Ended Name) → AllOwn (cells_ended (end_renamed (name_anew f) e)) → line a (told.ended l (end_renamed tag_of_name (end_renamed (name_anew f) e))) ≡ line b (told.ended l (end_renamed tag_of_name e))
+  node_line : (r k : ℕ) (c : Change) → line a (told.changed_node (f.roots.anew r) k c) ≡ line b (told.changed_node r k c)
+  node_line r k c = ap (λ name. codes "dom " ++ name ++ change_text k c ++ line_end) (roots r)
+
+  ended_line : (l : Label) (e : Ended Name) → AllOwn (cells_ended (end_renamed (name_anew f) e)) → line a (told.ended (label_anew f l) (end_renamed tag_of_name (end_renamed (name_anew f) e))) ≡ line b (told.ended l (end_renamed tag_of_name e))
   ended_line l e h =
       ap (λ t. t ++ end_text a (end_renamed tag_of_name (end_renamed (name_anew f) e)) ++ line_end) (label_shown l)
       ∙ ap (λ t. label_text b l ++ t ++ line_end) (end_shown e h)
@@ -147,4 +160,4 @@ module _ (a b : Names) (modules : a.modules ≡ b.modules) (f : Renumbering) (ow
   same_log touching (passed x y o ∷ z) h = same_log touching z (behind (passed x y o) z h)
   same_log touching (granted m o ∷ z) h = same_log touching z (behind (granted m o) z h)
   same_log touching (was_revoked m p ∷ z) h = same_log touching z (behind (was_revoked m p) z h)
-  same_log touching (changed_node r k n ∷ z) h = same_log touching z (behind (changed_node r k n) z h)
+  same_log touching (changed_node r k n ∷ z) h = ap (λ l. l ++ log a (heard touching (shown (items_anew f z)))) (node_line r k n) ∙ ap (λ l. line b (told.changed_node r k n) ++ l) (same_log touching z (behind (changed_node r k n) z h))

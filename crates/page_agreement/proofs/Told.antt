@@ -17,7 +17,7 @@ use Rattle.heap_rows.specs.Opening.{runtime_id}
 use Rattle.row_simulation.specs.RowLaw.{shown}
 use Rattle.page_natives.specs.Natives.{new_kept}
 use Rattle.module_loader.specs.Turns.{page_store}
-use Rattle.page_deeds.specs.Deeds.{Grant, a_cell, a_result, a_plain, Grants}
+use Rattle.page_deeds.specs.Deeds.{Grant, a_cell, a_result, a_plain, a_root, Grants}
 use Rattle.event_script.specs.Events.{Asked, a_call, a_tick}
 use Rattle.page_runner.specs.Page as es3
 use Rattle.page_runner.specs.Page.{es3_page}
@@ -57,6 +57,7 @@ there : (cells i : ℕ) (g : Grant) → IsGranted cells i g → IsThere cells g
 there cells i (a_cell k) h = h
 there cells i (a_result k) h = tt
 there cells i (a_plain v) h = tt
+there cells i (a_root root) h = h
 
 grants_fit : (cells i : ℕ) (gs : Grants) → All (λ s. IsTrue (is_grant_name s)) (map (λ g. g.0) gs) → All (λ g. IsGranted cells i g.1) gs → GrantsFit cells gs
 grants_fit cells i [] names each = tt

@@ -2,13 +2,13 @@
 use Rattle.std.proofs.Common.{◌≡◌, ◌<◌, ℕ, zero, suc, List, [], ◌∷◌, Some, All, Contains, length, refl, sym, ap, ◌∙◌, subst, arith}
 use Rattle.std.specs.Prelude.{slice_get, codes}
 use Rattle.std.proofs.lemmas.List.Elements.{All-head, All-tail}
-use Rattle.page_deeds.specs.Deeds.{Grant, a_cell, a_result, a_plain, Grants}
+use Rattle.page_deeds.specs.Deeds.{Grant, a_cell, a_result, a_plain, a_root, Grants}
 use Rattle.event_script.specs.Events.{Asked}
-use Rattle.cell_numbers.specs.Names.{IsNamed, SameGrant, SameGrants}
+use Rattle.cell_numbers.specs.Names.{IsNamed, Listed, SameGrant, SameGrants}
 use Rattle.page_manifest.specs.Page.{cajita, es3, Module, Page}
 use Rattle.page_manifest.specs.Valid.{IsGranted, IsValid}
 use Rattle.reach_report.specs.Pages.{page_groups}
-use Rattle.page_agreement.specs.Agree.{IsAt, ModulesAgree, AgreeOn}
+use Rattle.page_agreement.specs.Agree.{IsAt, listed, ModulesAgree, AgreeOn}
 use Rattle.page_agreement.specs.Worked.{first_module, second_module, two_modules, one_board, one_desk, desk_and_board, the_cell, the_result, the_first}
 use Rattle.page_agreement.proofs.Agrees.{grants_back}
 
@@ -19,14 +19,15 @@ its_name [] k l = absurd (omega arith)
 its_name (x ∷ names) zero l = (x, refl)
 its_name (x ∷ names) (suc k) l = its_name names k (omega arith)
 
-grant_itself : (cells : List (List ℕ)) (i : ℕ) (t : Grant) → IsGranted (length cells) i t → SameGrant cells cells t t
-grant_itself cells i (a_cell c) h = let n = its_name cells c h in (n.0, n.1, n.1)
-grant_itself cells i (a_result n) h = refl
-grant_itself cells i (a_plain v) h = refl
+grant_itself : (a : Listed) (i : ℕ) (t : Grant) → IsGranted (length a.cells) i t → SameGrant a a t t
+grant_itself a i (a_cell c) h = let n = its_name a.cells c h in (n.0, n.1, n.1)
+grant_itself a i (a_result n) h = refl
+grant_itself a i (a_plain v) h = refl
+grant_itself a i (a_root r) h = absurd h
 
-grants_themselves : (cells : List (List ℕ)) (i : ℕ) (gs : Grants) → All (λ g. IsGranted (length cells) i g.1) gs → SameGrants cells cells gs gs
-grants_themselves cells i [] h = tt
-grants_themselves cells i ((x, t) ∷ gs) h = (refl, grant_itself cells i t (All-head (λ g. IsGranted (length cells) i g.1) (x, t) gs h), grants_themselves cells i gs (All-tail (λ g. IsGranted (length cells) i g.1) (x, t) gs h))
+grants_themselves : (a : Listed) (i : ℕ) (gs : Grants) → All (λ g. IsGranted (length a.cells) i g.1) gs → SameGrants a a gs gs
+grants_themselves a i [] h = tt
+grants_themselves a i ((x, t) ∷ gs) h = (refl, grant_itself a i t (All-head (λ g. IsGranted (length a.cells) i g.1) (x, t) gs h), grants_themselves a i gs (All-tail (λ g. IsGranted (length a.cells) i g.1) (x, t) gs h))
 
 the_module : {m n : Module} → Some m ≡ Some n → m ≡ n
 the_module e = cc
@@ -38,7 +39,7 @@ agrees_with_itself p valid g is = record {
   here = is;
   there = is;
   modules = λ i m n member at at'.
-      subst (ModulesAgree p p m) (the_module (sym at ∙ at')) (record { language = refl; source = refl; grants = grants_themselves p.cells i m.grants (valid.modules i m at).granted });
+      subst (ModulesAgree p p m) (the_module (sym at ∙ at')) (record { language = refl; source = refl; grants = grants_themselves (listed p) i m.grants (valid.modules i m at).granted });
 }
 
 pub agrees_back : (p q : Page) (g : List ℕ) → AgreeOn p q g → AgreeOn q p g
@@ -47,7 +48,7 @@ agrees_back p q g a = record {
   names = sym a.names;
   here = a.there;
   there = a.here;
-  modules = λ i m n member at at'. let b = a.modules i n m member at' at in record { language = sym b.language; source = sym b.source; grants = grants_back p.cells q.cells n.grants m.grants b.grants };
+  modules = λ i m n member at at'. let b = a.modules i n m member at' at in record { language = sym b.language; source = sym b.source; grants = grants_back (listed p) (listed q) n.grants m.grants b.grants };
 }
 
 -- the first module of two pages

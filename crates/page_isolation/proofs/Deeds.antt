@@ -1,34 +1,36 @@
 -- A deed of a group, in two worlds that are alike for it: where both came to their end, the worlds are alike again.
 use Rattle.std.proofs.Common.{◌≡◌, ℕ, ◌+◌, true, false, List, [], ◌∷◌, ◌++◌, Option, Some, None, refl, sym, ap, ◌∙◌, subst, arith}
-use Rattle.std.specs.Prelude.{nat_eq, map, if◌then◌else◌}
+use Rattle.std.specs.Prelude.{nat_eq, ◌&&◌, codes, map, if◌then◌else◌}
+use Rattle.caja_units.specs.Units.{same_units}
 use Rattle.std.proofs.Math.Path.{fun_ext}
 use Rattle.plans.specs.Plans.{ends, enter, over, stopped, out, run}
 use Rattle.matching.specs.Sentences.{IsFinished}
-use Rattle.pages.specs.Pages.{with_more, chain, deed, turns_or_none}
+use Rattle.pages.specs.Pages.{with_more, chain, deed, turns, turns_or_none}
 use Rattle.pages.proofs.Steady.{run_steady}
 use Rattle.acts.specs.Acts.{task, replied}
 use Rattle.acts.specs.Laws.{All, IfThere}
 use Rattle.acts.proofs.Keeps.{all_append}
 use Rattle.page_deeds.specs.Deeds as deeds
-use Rattle.page_deeds.specs.Deeds.{Plain, a_cell, a_result, a_plain, Grants, to_load, to_call, to_tick, module_of, label_of, labelled}
+use Rattle.page_deeds.specs.Deeds.{Plain, a_cell, a_result, a_plain, a_root, Grants, to_load, to_call, to_tick, to_click, to_input, owner_of, label_of, labelled}
 use Rattle.page_deeds.specs.Shown.{by_nothing}
 use Rattle.rows.specs.Nodes.{Rules}
 use Rattle.cajita_tree.specs.Tree as c
-use Rattle.cajita_meaning.specs.World.{Value, object, Pairs, World, value_at, with_queue}
+use Rattle.rows.specs.Document.{changed, sets_attribute}
+use Rattle.cajita_meaning.specs.World.{Name, facet_name, Value, object, Pairs, Handler, World, value_at, with_queue}
 use Rattle.cajita_meaning.specs.Doing.{or_nothing}
 use Rattle.cajita_meaning.specs.Imports.{fixed_imports, imports_among}
 use Rattle.cajita_meaning.specs.Asking.{Reply, Shape, bad}
-use Rattle.cajita_meaning.specs.Events.{key_event, tick_event}
+use Rattle.cajita_meaning.specs.Events.{key_event, tick_event, node_event}
 use Rattle.cajita_meaning.specs.Direct.{Item, granted, ended, Completion, gave, Run, a_load, values_of, direct}
-use Rattle.cajita_laws.specs.Parts.{Group, Own, tells, Alike}
+use Rattle.cajita_laws.specs.Parts.{Group, owns, OwnName, Own, tells, Alike}
 use Rattle.cajita_laws.specs.Turns.{ended_so, reply_run, SameTurns, IsPlain}
 use Rattle.cajita_laws.proofs.Scopes.{value_at_has}
-use Rattle.cajita_laws.proofs.Alike.{others_one, told, told_all, Mine, with_queue_alike}
-use Rattle.cajita_laws.proofs.Turns.{load_isolates, key_isolates, tick_isolates}
-use Rattle.cajita_page.specs.DirectPage.{Deed, Results, plain_value, granted_value, granted_pairs, import_values, imports_of, Plan, granting, load_turn, ends_so, answers, tick_begun, passed_out, loaded_out, value_given, result, evaluator}
+use Rattle.cajita_laws.proofs.Alike.{others_one, told, told_all, Mine, with_queue_alike, with_nodes_alike}
+use Rattle.cajita_laws.proofs.Turns.{load_isolates, key_isolates, tick_isolates, node_isolates}
+use Rattle.cajita_page.specs.DirectPage.{Deed, Results, plain_value, granted_value, granted_pairs, import_values, imports_of, Plan, granting, load_turn, ends_so, answers, tick_begun, listeners, node_turns, with_input, passed_out, loaded_out, value_given, result, evaluator}
 use Rattle.cajita_page.specs.Shown.{end_in}
 use Rattle.page_isolation.specs.Agree.{IsGrantOf, IsDeedOf}
-use Rattle.page_isolation.proofs.Both.{BothOver}
+use Rattle.page_isolation.proofs.Both.{BothOver, both_chain}
 use Rattle.page_isolation.proofs.Sides.{end_same}
 
 -- what the page is answered
@@ -65,12 +67,14 @@ module _ (g : Group) where
   grants_own r r' own ((x, a_cell k) ∷ gs) h = (h.0, grants_own r r' own gs h.1)
   grants_own r r' own ((x, a_result m) ∷ gs) h = ((own m h.0).1, grants_own r r' own gs h.1)
   grants_own r r' own ((x, a_plain v) ∷ gs) h = (plain_own v, grants_own r r' own gs h.1)
+  grants_own r r' own ((x, a_root root) ∷ gs) h = (h.0, grants_own r r' own gs h.1)
 
   grants_same : (r r' : Results) → OwnResults g r r' → (gs : Grants) → All (λ p. IsGrantOf true g p.1) gs → granted_pairs r gs ≡ granted_pairs r' gs
   grants_same r r' own [] h = refl
   grants_same r r' own ((x, a_cell k) ∷ gs) h = ap (λ ps. (x, granted_value r (a_cell k)) ∷ ps) (grants_same r r' own gs h.1)
   grants_same r r' own ((x, a_result m) ∷ gs) h = ap (λ v. (x, v) ∷ granted_pairs r gs) (own m h.0).0 ∙ ap (λ ps. (x, r' m) ∷ ps) (grants_same r r' own gs h.1)
   grants_same r r' own ((x, a_plain v) ∷ gs) h = ap (λ ps. (x, plain_value v) ∷ ps) (grants_same r r' own gs h.1)
+  grants_same r r' own ((x, a_root root) ∷ gs) h = ap (λ ps. (x, granted_value r (a_root root)) ∷ ps) (grants_same r r' own gs h.1)
 
   -- the fixed names are everybody's, but for the module's own `say` and `later`
   fixed_own : (m : ℕ) → g.modules m ≡ true → All (λ p. Own g p.1) (fixed_imports m)
@@ -141,13 +145,11 @@ module _ (rules : Rules) (g : Group) (u : World) (x : List Item) where
   result_own : (d : Deed) (e : Completion) (r r' : Results) → All (Own g) (values_of e) → OwnResults g r r' → OwnResults g (result d e r) (result d e r')
   result_own (to_load m p gs) e r r' h own k mine =
       elim (nat_eq k m) as (λ b. ((if b then value_given e else r k) ≡ (if b then value_given e else r' k)) × Own g (if b then value_given e else r k)) [ true ↦ (refl, given_own e h) | false ↦ own k mine ]
-  result_own (to_call i m key args) e r r' h own k mine = own k mine
-  result_own (to_tick i m) e r r' h own k mine = own k mine
+  result_own d e r r' h own k mine = own k mine
 
-  result_rest : (d : Deed) (e : Completion) (r : Results) → g.modules (module_of d) ≡ true → (k : ℕ) → g.modules k ≡ false → result d e r k ≡ r k
+  result_rest : (d : Deed) (e : Completion) (r : Results) → owns g (owner_of d) ≡ true → (k : ℕ) → g.modules k ≡ false → result d e r k ≡ r k
   result_rest (to_load m p gs) e r mine k other = sym (others_one g m k (r k) (value_given e) mine other)
-  result_rest (to_call i m key args) e r mine k other = refl
-  result_rest (to_tick i m) e r mine k other = refl
+  result_rest d e r mine k other = refl
 
   -- what is told behind a turn is the group's
   passed_mine : (m : ℕ) (vs : List Value) → g.modules m ≡ true → Mine g u x (passed_out m vs)
@@ -155,17 +157,18 @@ module _ (rules : Rules) (g : Group) (u : World) (x : List Item) where
   passed_mine m (object o ∷ vs) mine = (mine, passed_mine m vs mine)
   passed_mine m (t ∷ vs) mine = passed_mine m vs mine
 
-  label_mine : (d : Deed) → g.modules (module_of d) ≡ true → g.modules (labelled (label_of d)) ≡ true
+  label_mine : (d : Deed) → owns g (owner_of d) ≡ true → owns g (labelled (label_of d)) ≡ true
   label_mine (to_load m p gs) mine = mine
   label_mine (to_call i m key args) mine = mine
   label_mine (to_tick i m) mine = mine
+  label_mine (to_click i id root n) mine = mine
+  label_mine (to_input i id root n us) mine = mine
 
-  loaded_mine : (d : Deed) (e : Completion) → g.modules (module_of d) ≡ true → Mine g u x (loaded_out d e)
+  loaded_mine : (d : Deed) (e : Completion) → owns g (owner_of d) ≡ true → Mine g u x (loaded_out d e)
   loaded_mine (to_load m p gs) e mine = passed_mine m (values_of e) mine
-  loaded_mine (to_call i m key args) e mine = tt
-  loaded_mine (to_tick i m) e mine = tt
+  loaded_mine d e mine = tt
 
-  end_after : (d : Deed) (r r' : Results) (e : Completion) (w : World) (z : List Item) (v : World) (y : List Item) → g.modules (module_of d) ≡ true → OwnResults g r r' → All (Own g) (values_of e) → Alike g u x w z v y
+  end_after : (d : Deed) (r r' : Results) (e : Completion) (w : World) (z : List Item) (v : World) (y : List Item) → owns g (owner_of d) ≡ true → OwnResults g r r' → All (Own g) (values_of e) → Alike g u x w z v y
       → After r (result d e r) w (z ++ (loaded_out d e ++ ended (label_of d) (end_in w e) ∷ [])) (result d e r') v (y ++ (loaded_out d e ++ ended (label_of d) (end_in v e) ∷ []))
   end_after d r r' e w z v y mine own h a =
       let t = ended (label_of d) (end_in w e) in
@@ -177,7 +180,7 @@ module _ (rules : Rules) (g : Group) (u : World) (x : List Item) where
       }
 
   -- a deed with one turn
-  turn_after : (d : Deed) (r r' : Results) (a b : Run) → g.modules (module_of d) ≡ true → OwnResults g r r' → BothOver EndSame a b
+  turn_after : (d : Deed) (r r' : Results) (a b : Run) → owns g (owner_of d) ≡ true → OwnResults g r r' → BothOver EndSame a b
       → BothOver (After r) (chain a (λ e w z n. over (result d e r) w (z ++ (loaded_out d e ++ ended (label_of d) (end_in w e) ∷ [])) n)) (chain b (λ e w z n. over (result d e r') w (z ++ (loaded_out d e ++ ended (label_of d) (end_in w e) ∷ [])) n))
   turn_after d r r' (over e w z n) (over f v y m) mine own h =
       subst (λ s. After r (result d e r) w (z ++ (loaded_out d e ++ ended (label_of d) (end_in w e) ∷ [])) (result d s r') v (y ++ (loaded_out d s ++ ended (label_of d) (end_in v s) ∷ []))) h.0 (end_after d r r' e w z v y mine own h.1 h.2)
@@ -197,6 +200,32 @@ module _ (rules : Rules) (g : Group) (u : World) (x : List Item) where
       (turn_ends n k (answers (tick_event m f w1)) (answers (tick_event m f v1)) z y
       (answers_same (tick_event m f w1) (tick_event m f v1) z y (tick_isolates g u x rules m mine f h.0 w1 z v1 y (with_queue_alike g u x (λ l. fs) m (λ l. h.1) mine a))))
 
+  -- what happens to a node of the group: each handler in turn, on both sides
+  handlers_after : (d : Deed) (node : Name) → OwnName g node → owns g (owner_of d) ≡ true → (fs : List Value) → All (Own g) fs → (r0 r r' : Results) (n k : ℕ) (w : World) (z : List Item) (v : World) (y : List Item)
+      → OwnResults g r r' → ((m : ℕ) → g.modules m ≡ false → r m ≡ r0 m) → Alike g u x w z v y → BothOver (After r0) (turns (evaluator rules) d (node_turns node fs) n r w z) (turns (evaluator rules) d (node_turns node fs) k r' v y)
+  handlers_after d node mine by [] h r0 r r' n k w z v y own rest a = record { alike = a; results = own; rest = rest }
+  handlers_after d node mine by (f ∷ fs) h r0 r r' n k w z v y own rest a =
+      both_chain EndSame (After r0) (run (direct rules) n (answers (node_event node f w)) z) (run (direct rules) k (answers (node_event node f v)) y)
+      (λ e w1 z1 i. turns (evaluator rules) d (node_turns node fs) i (result d e r) w1 (z1 ++ (loaded_out d e ++ ended (label_of d) (end_in w1 e) ∷ [])))
+      (λ e v1 y1 j. turns (evaluator rules) d (node_turns node fs) j (result d e r') v1 (y1 ++ (loaded_out d e ++ ended (label_of d) (end_in v1 e) ∷ [])))
+      (turn_ends n k (answers (node_event node f w)) (answers (node_event node f v)) z y (answers_same (node_event node f w) (node_event node f v) z y (node_isolates g u x rules node mine f h.0 w z v y a)))
+      (λ e w1 z1 i e' v1 y1 j s.
+      let t = end_after d r r' e w1 z1 v1 y1 by own s.1 s.2 in
+      subst (λ q. BothOver (After r0) (turns (evaluator rules) d (node_turns node fs) i (result d e r) w1 (z1 ++ (loaded_out d e ++ ended (label_of d) (end_in w1 e) ∷ [])))
+      (turns (evaluator rules) d (node_turns node fs) j (result d q r') v1 (y1 ++ (loaded_out d q ++ ended (label_of d) (end_in v1 q) ∷ [])))) s.0
+      (handlers_after d node mine by fs h.1 r0 (result d e r) (result d e r') i j w1 _ v1 _ t.results (λ m other. t.rest m other ∙ rest m other) t.alike))
+
+  node_after : (d : Deed) (node : Name) → OwnName g node → owns g (owner_of d) ≡ true → (fs : List Value) → All (Own g) fs → (r r' : Results) (n k : ℕ) (w : World) (z : List Item) (v : World) (y : List Item)
+      → OwnResults g r r' → Alike g u x w z v y → BothOver (After r) (turns_or_none (evaluator rules) d (node_turns node fs) n r w z) (turns_or_none (evaluator rules) d (node_turns node fs) k r' v y)
+  node_after d node mine by [] h r r' n k w z v y own a = record { alike = told g u x (ended (label_of d) by_nothing) (label_mine d by) a; results = own; rest = λ j other. refl }
+  node_after d node mine by (f ∷ fs) h r r' n k w z v y own a = handlers_after d node mine by (f ∷ fs) h r r r' n k w z v y own (λ m other. refl) a
+
+  -- those that are called are the group's
+  listeners_own : (n : ℕ) (what : List ℕ) (hs : List Handler) → All (λ h. Own g h.does) hs → All (Own g) (listeners n what hs)
+  listeners_own n what [] h = tt
+  listeners_own n what (l ∷ hs) h =
+      elim (nat_eq l.on n && same_units l.what what) as (λ b. All (Own g) (if b then l.does ∷ listeners n what hs else listeners n what hs)) [ true ↦ (h.0, listeners_own n what hs h.1) | false ↦ listeners_own n what hs h.1 ]
+
   pub deed_after : (d : Deed) (r r' : Results) (n k : ℕ) (w : World) (z : List Item) (v : World) (y : List Item) → IsDeedOf true g d → OwnResults g r r' → Alike g u x w z v y → BothOver (After r) (deed (evaluator rules) d n r w z) (deed (evaluator rules) d k r' v y)
   deed_after (to_load m p gs) r r' n k w z v y is own a =
       let ps = granted_pairs r gs in
@@ -212,3 +241,14 @@ module _ (rules : Rules) (g : Group) (u : World) (x : List Item) where
   deed_after (to_tick i m) r r' n k w z v y is own a =
       subst (λ q. let s = tick_begun m (w.queues m) w z in let t = tick_begun m q v y in BothOver (After r) (turns_or_none (evaluator rules) (to_tick i m) s.turns n r s.store s.kept) (turns_or_none (evaluator rules) (to_tick i m) t.turns k r' t.store t.kept))
       (a.same.queues m is.by) (tick_after i m (w.queues m) r r' n k w z v y is.by own (a.closed.queues m is.by) a)
+  deed_after (to_click i id root j) r r' n k w z v y is own a =
+      let fs = listeners j (codes "click") (w.handlers root) in
+      subst (λ hs. BothOver (After r) (turns_or_none (evaluator rules) (to_click i id root j) (node_turns (facet_name root j) fs) n r w z) (turns_or_none (evaluator rules) (to_click i id root j) (node_turns (facet_name root j) (listeners j (codes "click") hs)) k r' v y))
+      (a.same.handlers root is.by) (node_after (to_click i id root j) (facet_name root j) is.by is.by fs (listeners_own j (codes "click") (w.handlers root) (a.closed.handlers root is.by)) r r' n k w z v y own a)
+  deed_after (to_input i id root j us) r r' n k w z v y is own a =
+      let fs = listeners j (codes "input") (w.handlers root) in
+      let w1 = with_input root j us w in
+      let v1 = with_input root j us v in
+      subst (λ hs. BothOver (After r) (turns_or_none (evaluator rules) (to_input i id root j us) (node_turns (facet_name root j) fs) n r w1 z) (turns_or_none (evaluator rules) (to_input i id root j us) (node_turns (facet_name root j) (listeners j (codes "input") hs)) k r' v1 y))
+      (a.same.handlers root is.by) (node_after (to_input i id root j us) (facet_name root j) is.by is.by fs (listeners_own j (codes "input") (w.handlers root) (a.closed.handlers root is.by)) r r' n k w1 z v1 y own
+      (with_nodes_alike g u x (changed (sets_attribute (codes "value") us) j) root is.by a))

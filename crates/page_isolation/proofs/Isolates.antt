@@ -3,13 +3,14 @@ use Rattle.std.proofs.Common.{inl, inr, ℕ, true, false, List, [], ◌∷◌, r
 use Rattle.std.specs.Prelude.{not}
 use Rattle.plans.specs.Plans.{over, stopped, out}
 use Rattle.pages.specs.Pages.{deed}
+use Rattle.rows.specs.Document.{Node}
 use Rattle.rows.specs.Nodes.{Rules}
-use Rattle.cajita_meaning.specs.World.{World, empty_world}
+use Rattle.cajita_meaning.specs.World.{World}
 use Rattle.cajita_meaning.specs.Direct.{Item}
 use Rattle.cajita_laws.specs.Parts.{Group, others, Own, SamePart, Closed}
-use Rattle.cajita_laws.proofs.Parts.{closed_at_the_start, same_self, same_back, same_onward, closed_same, closed_alike}
-use Rattle.cajita_page.specs.DirectPage.{Deed, Results, no_results, Run, evaluator, direct_page}
-use Rattle.page_isolation.specs.Agree.{IsDeedOf, DeedsAgree, Agrees}
+use Rattle.cajita_laws.proofs.Parts.{same_self, same_back, same_onward, closed_same, closed_alike}
+use Rattle.cajita_page.specs.DirectPage.{Deed, Results, no_results, Run, evaluator, first_world, direct_page}
+use Rattle.page_isolation.specs.Agree.{IsDeedOf, DeedsAgree, Agrees, SameNodes}
 use Rattle.page_isolation.specs.Promises.{SameLines, SameWorlds, PagesIsolate, PagesKeepApart}
 use Rattle.page_isolation.proofs.Both.{BothOver, DeedsHold, PairsHold, pages_hold}
 use Rattle.page_isolation.proofs.Sides.{is_not, others_part, others_closed, others_deed}
@@ -115,14 +116,21 @@ pairs_hold rules g [] [] h = tt
 pairs_hold rules g (d ∷ ds) (d' ∷ ds') h = (deeds_hold rules g d d' h.0, pairs_hold rules g ds ds' h.1)
 pairs_hold rules g ds ds' h = absurd h
 
-away_at_first : (g : Group) → Away g no_results empty_world
-away_at_first g = record { closed = closed_at_the_start (others g); results = λ m other. (refl, tt) }
+-- at first nothing refers to anything
+closed_at_first : (g : Group) (nodes : ℕ → List Node) → Closed g (first_world nodes)
+closed_at_first g nodes = record { objects = λ m own. tt; scopes = λ m own. tt; cells = λ c own. tt; queues = λ m own. tt; handlers = λ r own. tt }
 
-apart_at_first : (g : Group) → Apart g no_results empty_world [] no_results empty_world []
-apart_at_first g = record { same = same_self true g empty_world []; closed = closed_at_the_start g; results = λ m mine. (refl, tt); left = away_at_first g; right = away_at_first g }
+first_part : (g : Group) (nodes nodes' : ℕ → List Node) → SameNodes g nodes nodes' → SamePart true g (first_world nodes) (first_world nodes') [] []
+first_part g nodes nodes' same = record { objects = λ m own. refl; scopes = λ m own. refl; cells = λ c own. refl; queues = λ m own. refl; revoked = λ m own. refl; nodes = same; handlers = λ r own. refl; items = refl }
 
-pages_apart : (rules : Rules) (g : Group) (ds ds' : List Deed) → Agrees g ds ds' → (n m : ℕ) → BothOver (Apart g) (direct_page rules ds n) (direct_page rules ds' m)
-pages_apart rules g ds ds' h n m = pages_hold (evaluator rules) (Apart g) ds ds' (pairs_hold rules g ds ds' h) n m no_results empty_world [] no_results empty_world [] (apart_at_first g)
+away_at_first : (g : Group) (nodes : ℕ → List Node) → Away g no_results (first_world nodes)
+away_at_first g nodes = record { closed = closed_at_first (others g) nodes; results = λ m other. (refl, tt) }
+
+apart_at_first : (g : Group) (nodes nodes' : ℕ → List Node) → SameNodes g nodes nodes' → Apart g no_results (first_world nodes) [] no_results (first_world nodes') []
+apart_at_first g nodes nodes' same = record { same = first_part g nodes nodes' same; closed = closed_at_first g nodes; results = λ m mine. (refl, tt); left = away_at_first g nodes; right = away_at_first g nodes' }
+
+pages_apart : (rules : Rules) (g : Group) (nodes nodes' : ℕ → List Node) → SameNodes g nodes nodes' → (ds ds' : List Deed) → Agrees g ds ds' → (n m : ℕ) → BothOver (Apart g) (direct_page rules nodes ds n) (direct_page rules nodes' ds' m)
+pages_apart rules g nodes nodes' same ds ds' h n m = pages_hold (evaluator rules) (Apart g) ds ds' (pairs_hold rules g ds ds' h) n m no_results (first_world nodes) [] no_results (first_world nodes') [] (apart_at_first g nodes nodes' same)
 
 worlds : (g : Group) (p q : Run) → BothOver (Apart g) p q → SameWorlds g p q
 worlds g (over r w z n) (over r' v y m) a = (a.same, λ k mine. (a.results k mine).0)
@@ -133,7 +141,7 @@ lines g (over r w z n) (over r' v y m) h = h.0.items
 lines g p q h = tt
 
 pub pages_keep_apart : PagesKeepApart
-pages_keep_apart rules g ds ds' h n m = worlds g (direct_page rules ds n) (direct_page rules ds' m) (pages_apart rules g ds ds' h n m)
+pages_keep_apart rules g nodes nodes' same ds ds' h n m = worlds g (direct_page rules nodes ds n) (direct_page rules nodes' ds' m) (pages_apart rules g nodes nodes' same ds ds' h n m)
 
 pub pages_isolate : PagesIsolate
-pages_isolate rules g ds ds' h n m = lines g (direct_page rules ds n) (direct_page rules ds' m) (pages_keep_apart rules g ds ds' h n m)
+pages_isolate rules g nodes nodes' same ds ds' h n m = lines g (direct_page rules nodes ds n) (direct_page rules nodes' ds' m) (pages_keep_apart rules g nodes nodes' same ds ds' h n m)

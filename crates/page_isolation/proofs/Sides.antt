@@ -3,10 +3,10 @@ use Rattle.std.proofs.Common.{◌≡◌, Bool, true, false, List, [], ◌∷◌,
 use Rattle.std.specs.Prelude.{not, slice_get, if◌then◌else◌}
 use Rattle.acts.specs.Laws.{All}
 use Rattle.acts.proofs.Keeps.{all_map}
-use Rattle.page_deeds.specs.Deeds.{Grant, a_cell, a_result, a_plain, labelled}
+use Rattle.page_deeds.specs.Deeds.{Grant, a_cell, a_result, a_plain, a_root, Owner, of_module, of_root, owner_of, labelled}
 use Rattle.cajita_meaning.specs.World.{made_name, Value, object, World}
 use Rattle.cajita_meaning.specs.Direct.{Item, made, got, touched, passed, granted, said, was_revoked, changed_node, ended, Completion, gave, threw, values_of}
-use Rattle.cajita_laws.specs.Parts.{Group, others, Own, OwnPairs, OwnObject, tells, side, items_of, SamePart, Closed}
+use Rattle.cajita_laws.specs.Parts.{Group, others, owns, Own, OwnPairs, OwnObject, tells, side, items_of, SamePart, Closed}
 use Rattle.cajita_page.specs.DirectPage.{Deed}
 use Rattle.cajita_page.specs.Shown.{made_shown, shown_in, end_in}
 use Rattle.page_isolation.specs.Agree.{grants_in, IsGrantOf, IsDeedOf}
@@ -21,6 +21,15 @@ not_not false = refl
 
 -- items
 
+others_own : (g : Group) (o : Owner) → not (owns (others g) o) ≡ owns g o
+others_own g (of_module m) = not_not (g.modules m)
+others_own g (of_root root) = not_not (g.roots root)
+
+-- what is no other's is the group's
+others_owner : (g : Group) (o : Owner) → owns g o ≡ false → owns (others g) o ≡ true
+others_owner g (of_module m) h = ap not h
+others_owner g (of_root root) h = ap not h
+
 -- an item that no other tells is the group's
 others_tell : (g : Group) (i : Item) → side false (tells (others g) i) ≡ tells g i
 others_tell g (made m o) = not_not (g.modules m)
@@ -31,7 +40,7 @@ others_tell g (granted m o) = not_not (g.modules m)
 others_tell g (said m us) = not_not (g.modules m)
 others_tell g (was_revoked m p) = not_not (g.modules m)
 others_tell g (changed_node r k c) = not_not (g.roots r)
-others_tell g (ended l e) = not_not (g.modules (labelled l))
+others_tell g (ended l e) = others_own g (labelled l)
 
 others_items : (g : Group) (z : List Item) → items_of false (others g) z ≡ items_of true g z
 others_items g [] = refl
@@ -67,9 +76,10 @@ others_grant : (g : Group) (t : Grant) → IsGrantOf false g t → IsGrantOf tru
 others_grant g (a_cell c) h = ap not h
 others_grant g (a_result m) h = ap not h
 others_grant g (a_plain v) h = tt
+others_grant g (a_root root) h = ap not h
 
 pub others_deed : (g : Group) (d : Deed) → IsDeedOf false g d → IsDeedOf true (others g) d
-others_deed g d h = record { by = ap not h.by; grants = all_map (λ p. IsGrantOf false g p.1) (λ p. IsGrantOf true (others g) p.1) (λ p k. others_grant g p.1 k) (grants_in d) h.grants }
+others_deed g d h = record { by = others_owner g (owner_of d) h.by; grants = all_map (λ p. IsGrantOf false g p.1) (λ p. IsGrantOf true (others g) p.1) (λ p k. others_grant g p.1 k) (grants_in d) h.grants }
 
 -- ends of turns
 

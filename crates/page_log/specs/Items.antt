@@ -6,6 +6,9 @@ use Rattle.es3_objects.specs.declared.value.Tag.{Tag}
 use Rattle.es3_language.specs.declared.Touch.{Touch}
 use Rattle.es3_language.specs.declared.Touch.TheVariants as t
 use Rattle.es3_language.specs.Natives.{Touched}
+use Rattle.node_deeds.specs.declared.told.Change.{Change}
+use Rattle.node_deeds.specs.declared.told.Change.TheVariants as change
+use Rattle.rows.specs.Document as doc
 use Rattle.rows.specs.Rows as r
 use Rattle.heap_rows.specs.Doing as told
 use Rattle.heap_rows.specs.Doing.{Told}
@@ -26,6 +29,8 @@ abbrev pub label_of : Label → deed.Label
 label_of (label.Load m) = deed.of_load m
 label_of (label.Call k m key) = deed.of_call k m key
 label_of (label.Tick k m) = deed.of_tick k m
+label_of (label.Click k id root) = deed.of_click k id root
+label_of (label.Input k id root) = deed.of_input k id root
 
 abbrev pub sort_of : Sort → show.Sort
 sort_of sort.Record = show.a_record
@@ -65,13 +70,21 @@ key_list (Some k) = k ∷ []
 abbrev pub touch_told : Touched → Told
 touch_told i = told.touched i.by (touch_of i.what) i.on (key_list i.key)
 
+-- what became of a node, in the words of rows
+abbrev pub change_told : Change → Told
+change_told (change.Append root k c) = told.changed_node root k (doc.appends c)
+change_told (change.Remove root k c) = told.changed_node root k (doc.removes c)
+change_told (change.Set root k n v) = told.changed_node root k (doc.sets_attribute n v)
+change_told (change.Text root k us) = told.changed_node root k (doc.sets_text us)
+
 abbrev pub told_of : Item → Told
 told_of (item.Touched by what on key) = told.touched by (touch_of what) on (key_list key)
 told_of (item.Said m us) = told.said m us
+told_of (item.Changed c) = change_told c
 told_of (item.Ended l e) = told.ended (label_of l) (end_of e)
 
 abbrev pub all_told : List Item → List Told
 all_told items = map told_of items
 
 abbrev pub names_of : Names → l.Names
-names_of n = record { modules = n.modules.items; cells = n.cells.items }
+names_of n = record { modules = n.modules.items; cells = n.cells.items; roots = n.roots.items }

@@ -4,8 +4,9 @@ use caja_num::Whole;
 use caja_units::Units;
 use es3_heap::Tag;
 use es3_language::Touch;
+use node_deeds::Change;
 
-/// What the log calls a turn of a page. Events and modules are known by their numbers, from 0.
+/// What the log calls a turn of a page. Events, modules and roots are known by their numbers, from 0.
 #[derive(Debug, Drop)]
 pub enum Label {
     /// The load of a module.
@@ -14,6 +15,10 @@ pub enum Label {
     Call(u32, u32, Units),
     /// The event, the module.
     Tick(u32, u32),
+    /// The event, the id by which the page asks for the node, its root.
+    Click(u32, Units, u32),
+    /// The same, where a text is put into the node.
+    Input(u32, Units, u32),
 }
 
 /// What the log shows of an object that is no error: what it is.
@@ -54,6 +59,8 @@ pub enum Item {
     Touched(u32, Touch, Tag, Option<Units>),
     /// A module said a text.
     Said(u32, Units),
+    /// A node of a root changed.
+    Changed(Change),
     /// A turn ended, or there was nothing to do.
     Ended(Label, Ended),
 }

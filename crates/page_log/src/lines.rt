@@ -1,8 +1,10 @@
 //! The lines of the log.
 
-ghost use Rattle.std.specs.Prelude.{◌≡◌, ◌++◌, IfOk, OnOk};
+ghost use Rattle.std.specs.Prelude.{◌≡◌, ◌++◌, codes, IfOk, OnOk};
+ghost use Rattle.caja_units.specs.Index.{number_units};
 ghost use Rattle.caja_units.specs.Number.{number_text};
 ghost use Rattle.caja_units.specs.Literal.{literal};
+ghost use Rattle.caja_units.specs.Utf8.{utf8_of};
 ghost use Rattle.page_deeds.specs.Shown.{error};
 ghost use Rattle.page_log.specs.Items.{label_of, sort_of, shown_of, end_of, touch_of, key_list, told_of, all_told, names_of};
 ghost use Rattle.page_log.specs.Log.{sort_text, shown_text, label_text, end_text, touch_text, key_text, line, log};
@@ -11,6 +13,7 @@ use crate::items::{Ended, Item, Label, Shown, Sort};
 use crate::names::{Names, push, push_digits, push_name, push_object_name};
 use caja_num::Whole;
 use caja_units::{Memory, Units};
+use dom_lines::push_change;
 use es3_heap::Tag;
 use es3_language::Touch;
 use std::alloc::Global;
@@ -82,6 +85,22 @@ fn push_shown(alloc: Global, out: &mut Vec<u8>, names: &Names, shown: &Shown) ->
     }
 }
 
+/// Appends what an event at a node is called: its number, what happens, the id by which the page asks for the node.
+fn push_node_event(
+    alloc: Global,
+    out: &mut Vec<u8>,
+    event: u32,
+    what: &[u8],
+    id: &Units,
+) -> Result<(), Memory>
+    ensures { OnOk result (out.new.items ≡ out.old.items ++ (codes "event " ++ number_units event ++ what.now ++ utf8_of id.now)) }
+{
+    push(out, b"event ")?;
+    push_digits(alloc, out, event)?;
+    push(out, what)?;
+    id.push_utf8(out)
+}
+
 /// Appends what a turn is called.
 fn push_label(alloc: Global, out: &mut Vec<u8>, names: &Names, label: &Label) -> Result<(), Memory>
     ensures { OnOk result (out.new.items ≡ out.old.items ++ label_text (names_of names.now) (label_of label.now)) }
@@ -105,6 +124,8 @@ fn push_label(alloc: Global, out: &mut Vec<u8>, names: &Names, label: &Label) ->
             push(out, b" tick ")?;
             push_name(out, &names.modules, *module)
         }
+        Label::Click(event, id, _root) => push_node_event(alloc, out, *event, b" click ", id),
+        Label::Input(event, id, _root) => push_node_event(alloc, out, *event, b" input ", id),
     }
 }
 
@@ -171,6 +192,7 @@ fn push_line(alloc: Global, out: &mut Vec<u8>, names: &Names, item: &Item) -> Re
             push(out, b" ")?;
             push_literal(alloc, out, text)?;
         }
+        Item::Changed(change) => return push_change(alloc, out, &names.roots, change),
         Item::Ended(label, end) => {
             push_label(alloc, out, names, label)?;
             push_end(alloc, out, names, end)?;

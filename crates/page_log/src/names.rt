@@ -1,4 +1,4 @@
-//! The names that the log gives to modules, to cells and to objects.
+//! The names that the log gives to modules, to cells, to roots and to objects.
 
 ghost use Rattle.std.specs.Prelude.{◌≡◌, ◌++◌, map, get_or, codes, OnOk};
 ghost use Rattle.caja_units.specs.Index.{number_units};
@@ -9,11 +9,12 @@ use caja_units::{Memory, Units};
 use es3_heap::Tag;
 use std::alloc::Global;
 
-/// The names of a page's modules and of its cells, each under its number, from 0.
+/// The names of a page's modules, of its cells and of its roots, each under its number, from 0.
 #[derive(Debug, Drop)]
 pub struct Names {
     pub modules: Vec<Units>,
     pub cells: Vec<Units>,
+    pub roots: Vec<Units>,
 }
 
 /// The names of the built-ins in the order of their numbers.
@@ -160,6 +161,12 @@ pub fn push_object_name(
             push(out, b"cell:")?;
             push_name(out, &names.cells, cell)?;
             push(out, cell_end(number).as_bytes())
+        }
+        Tag::Facet(root, number) => {
+            push(out, b"node:")?;
+            push_name(out, &names.roots, root)?;
+            push(out, b"/")?;
+            push_digits(alloc, out, number)
         }
         _other => push(out, b"?"),
     }

@@ -1,16 +1,17 @@
 -- Pages in which no fault of a manifest stands.
 use Rattle.std.specs.Prelude.{◌≡◌, ◌≤◌, ◌<◌, ℕ, List, [], ◌∷◌, length, map, All, IsTrue, slice_get, None, Some}
-use Rattle.page_deeds.specs.Deeds.{Grant, a_cell, a_result, a_plain}
+use Rattle.page_deeds.specs.Deeds.{Grant, a_cell, a_result, a_plain, a_root}
 use Rattle.event_script.specs.Events.{Asked, a_call, a_tick}
 use Rattle.page_manifest.specs.Names.{is_name, is_grant_name}
 use Rattle.page_manifest.specs.Bound.{once_each}
 use Rattle.page_manifest.specs.Page.{Module, Page}
 
--- the cell is there, or the module is loaded before module i
+-- the cell is there, or the module is loaded before module i. A manifest has no roots
 abbrev pub IsGranted : ℕ → ℕ → Grant → Type 0
 IsGranted cells i (a_cell k) = k < cells
 IsGranted cells i (a_result k) = k < i
 IsGranted cells i (a_plain v) = Unit {0}
+IsGranted cells i (a_root root) = ⊥
 
 -- no name stands twice
 abbrev pub AreOnce : List (List ℕ) → Type 0

@@ -10,7 +10,7 @@ use Rattle.cajita_tree.specs.Tree as c
 use Rattle.cajita_rewrite.specs.Rewrite.{program_of}
 use Rattle.caja_units.specs.Units.{is_hidden}
 use Rattle.caja_units.proofs.Texts.{same_units-from_equal}
-use Rattle.page_deeds.specs.Deeds.{Grant, a_cell, a_result, a_plain, Grants}
+use Rattle.page_deeds.specs.Deeds.{Grant, a_cell, a_result, a_plain, a_root, Grants}
 use Rattle.event_script.specs.Events.{Asked, a_call, a_tick}
 use Rattle.page_manifest.specs.Names.{is_grant_name}
 use Rattle.page_manifest.specs.Page.{Language, Module, Page, cajita}
@@ -45,6 +45,7 @@ there : (cells i : ℕ) (g : Grant) → IsGranted cells i g → IsThere cells g
 there cells i (a_cell k) h = h
 there cells i (a_result k) h = tt
 there cells i (a_plain v) h = tt
+there cells i (a_root root) h = h
 
 grants_fit : (cells i : ℕ) (gs : Grants) → All (λ s. IsTrue (is_grant_name s)) (map (λ g. g.0) gs) → All (λ g. IsGranted cells i g.1) gs → GrantsFit cells gs
 grants_fit cells i [] names each = tt

@@ -1,5 +1,5 @@
 -- Each touch that a page tells is one of the direct run, and lies in reach.
-use Rattle.std.proofs.Common.{◌≡◌, ℕ, ◌≤◌, true, List, [], ◌∷◌, ◌++◌, refl, sym, ap, ◌∙◌, subst}
+use Rattle.std.proofs.Common.{◌≡◌, ℕ, ◌≤◌, true, List, [], ◌∷◌, ◌++◌, ap, ◌∙◌}
 use Rattle.std.proofs.lemmas.List.{append_assoc}
 use Rattle.plans.specs.Plans.{kept_of}
 use Rattle.es3_objects.specs.declared.value.Tag.{Tag}
@@ -10,8 +10,6 @@ use Rattle.heap_rows.specs.Doing.{Told, heard}
 use Rattle.cajita_tree.specs.Tree as c
 use Rattle.cajita_meaning.specs.World.{Name}
 use Rattle.cajita_meaning.specs.Direct.{Item, made, got, touched, passed, granted, said, was_revoked, changed_node, ended}
-use Rattle.cajita_laws.specs.Reach.{have}
-use Rattle.cajita_page.specs.Promises.{had_at_first}
 use Rattle.cajita_page.proofs.Reaches.{pages_reach, page_items_lie}
 use Rattle.row_simulation.specs.Correspond.{tag_of_name}
 use Rattle.row_simulation.specs.RowLaw.{shown}
@@ -67,15 +65,16 @@ module _ (m : ℕ) (op : Touch) (g : Tag) (key : List (List ℕ)) where
   find (passed by k n ∷ z) a rest e = later (passed by k n) z (find z a rest e)
   find (granted by n ∷ z) a rest e = later (granted by n) z (find z a rest e)
   find (was_revoked by p ∷ z) a rest e = later (was_revoked by p) z (find z a rest e)
-  find (changed_node r k n ∷ z) a rest e = later (changed_node r k n) z (find z a rest e)
+  find (changed_node r k n ∷ z) [] rest e = absurd cc
+  find (changed_node r k n ∷ z) (x ∷ a) rest e = later (changed_node r k n) z (find z a rest (tail_is (told.changed_node r k n) x _ _ e))
 
 module _ (p : Page) (ms : List (c.Tree c.program)) (cut : (s : ℕ) → s ≤ most_page_steps → (k : ℕ) × ((n : ℕ) → k ≤ n → IsPrefix (kept_of (programs_run p (programs_of ms) true s)).told (told_of true (kept_of (sources_run p ms n))))) where
   in_reach : (n m : ℕ) (op : Touch) (g : Tag) (key : List (List ℕ)) → IsThere m op g key (kept_of (sources_run p ms n)) → IsTouchInReach (kept_of (sources_run p ms n)) m op g key
-  in_reach n m op g key h = record { before = h.before; behind = h.behind; name = h.name; named = h.named; there = h.there; had = page_items_lie no_rules (deeds p ms) n h.before (touched m op h.name key) h.behind h.there }
+  in_reach n m op g key h = record { before = h.before; behind = h.behind; name = h.name; named = h.named; there = h.there; had = page_items_lie no_rules (λ root. []) (deeds p ms) n h.before (touched m op h.name key) h.behind h.there }
 
   pub reaches : Reaches p ms
   reaches = record {
-    sources = λ n. pages_reach no_rules (deeds p ms) n;
+    sources = λ n. pages_reach no_rules (λ root. []) (deeds p ms) n;
     touches = λ s le a b m op g key is.
         let h = cut s le in (
           h.0,

@@ -1,5 +1,5 @@
 -- What a page comes to by either meaning, and what that shows: a log, and how the page ended.
-use Rattle.std.specs.Prelude.{ℕ, Bool, List, length}
+use Rattle.std.specs.Prelude.{ℕ, Bool, List, [], length}
 use Rattle.plans.specs.Plans.{over, stopped, out, kept_of}
 use Rattle.es3_tree.specs.Tree as t
 use Rattle.rows.specs.Nodes.{no_rules}
@@ -36,10 +36,10 @@ programs_run p ps touching s = run_in page_store p ps touching s
 abbrev pub texts_run : Page → List (t.Tree t.program) → Bool → ℕ → es3.Run
 texts_run p ps touching s = run_in texts_store p ps touching s
 
--- ---- the direct meaning, of the modules themselves
+-- ---- the direct meaning, of the modules themselves; there are no nodes
 
 abbrev pub sources_run : Page → List (c.Tree c.program) → ℕ → direct.Run
-sources_run p ms n = direct_page no_rules (deeds p ms) n
+sources_run p ms n = direct_page no_rules (λ root. []) (deeds p ms) n
 
 -- ---- what they show
 

@@ -41,11 +41,14 @@ say_kept by m self args h z own (Ok us) = record {
   told = ap (λ t. z.told ++ saying_by t us) (sym own);
   cells = λ cell. refl;
   queues = λ n. refl;
+  nodes = λ root. refl;
+  facets = λ root. refl;
+  handlers = λ root. refl;
   runtime = refl;
   imports = refl;
   touching = refl;
 }
-say_kept by m self args h z own (Err f) = record { reply = refl; heap = refl; told = sym (append-nil z.told); cells = λ cell. refl; queues = λ n. refl; runtime = refl; imports = refl; touching = refl }
+say_kept by m self args h z own (Err f) = record { reply = refl; heap = refl; told = sym (append-nil z.told); cells = λ cell. refl; queues = λ n. refl; nodes = λ root. refl; facets = λ root. refl; handlers = λ root. refl; runtime = refl; imports = refl; touching = refl }
 
 pub say_does_its_row : (m : ℕ) → DoesItsRow (c.Say m) r.say (tag.Own m 0)
 say_does_its_row m rules by this self args h z own =
@@ -101,11 +104,14 @@ later_kept by m self args more h z own n =
       told = sym (append-nil z.told);
       cells = λ cell. ap (λ q. (queueing_by q f (page_of z)).cells cell) own;
       queues = λ k. ap (λ q. (queueing_by q f (page_of z)).queues k) own ∙ ap (λ x. if nat_eq k m then queue_of m z.waiting ++ x ∷ [] else queue_of k z.waiting) (argument_held place_of 0 self args more) ∙ queue_is k m (argument 0 args) z.waiting;
+      nodes = λ root. ap (λ q. (queueing_by q f (page_of z)).nodes root) own;
+      facets = λ root. ap (λ q. (queueing_by q f (page_of z)).facets root) own;
+      handlers = λ root. ap (λ q. (queueing_by q f (page_of z)).handlers root) own;
       runtime = refl;
       imports = refl;
       touching = refl;
     })
-    (record { reply = refl; heap = refl; told = sym (append-nil z.told); cells = λ cell. refl; queues = λ k. refl; runtime = refl; imports = refl; touching = refl })
+    (record { reply = refl; heap = refl; told = sym (append-nil z.told); cells = λ cell. refl; queues = λ k. refl; nodes = λ root. refl; facets = λ root. refl; handlers = λ root. refl; runtime = refl; imports = refl; touching = refl })
     n h (argument 0 args)
 
 pub later_does_its_row : (m : ℕ) → DoesItsRow (c.Later m) r.later (tag.Own m 1)
@@ -123,6 +129,9 @@ get_does_its_row cell rules by this self args h z own = record {
   told = sym (append-nil z.told);
   cells = λ i. refl;
   queues = λ n. refl;
+  nodes = λ root. refl;
+  facets = λ root. refl;
+  handlers = λ root. refl;
   runtime = refl;
   imports = refl;
   touching = refl;
@@ -135,6 +144,9 @@ set_does_its_row cell rules by this self args h z own = let x = value_in place_o
   told = sym (append-nil z.told);
   cells = λ i. ap (λ q. (keeping_by q x (page_of z)).cells i) own ∙ ap (λ a. if nat_eq i cell then a else cell_value i z.cells) (held_now self args) ∙ sym (put_is v.Undefined cell (argument 0 args) z.cells i);
   queues = λ n. ap (λ q. (keeping_by q x (page_of z)).queues n) own;
+  nodes = λ root. ap (λ q. (keeping_by q x (page_of z)).nodes root) own;
+  facets = λ root. ap (λ q. (keeping_by q x (page_of z)).facets root) own;
+  handlers = λ root. ap (λ q. (keeping_by q x (page_of z)).handlers root) own;
   runtime = refl;
   imports = refl;
   touching = refl;

@@ -60,7 +60,7 @@ tells items z = record z { told = z.told ++ heard z.touching items }
 abbrev pub first_kept : Kept
 first_kept = importing 0 imports_id (new_kept runtime_id false)
 
--- what is kept, as rows see it: nothing waits in a queue in which nothing was put, and a cell into which nothing was put holds nothing
+-- what is kept, as rows see it: nothing waits in a queue in which nothing was put, and a cell into which nothing was put holds nothing. There is no node
 
 abbrev pub queue_of : ℕ → List (List Value) → List Value
 queue_of m qs = get_or qs m []
@@ -69,7 +69,7 @@ abbrev pub cell_value : ℕ → List Value → Value
 cell_value cell cells = get_or cells cell v.Undefined
 
 abbrev pub page_of : Kept → Page
-page_of z = record { cells = λ cell. cell_value cell z.cells; queues = λ m. queue_of m z.waiting }
+page_of z = record { cells = λ cell. cell_value cell z.cells; queues = λ m. queue_of m z.waiting; nodes = λ root. []; facets = λ root. []; handlers = λ root. [] }
 
 -- the callees by their numbers: the built-in functions, `loadModule`, the guards; and behind them four for each module and cell
 

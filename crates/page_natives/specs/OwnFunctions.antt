@@ -15,13 +15,16 @@ use Rattle.page_natives.specs.declared.natives.Callee.{Callee}
 use Rattle.page_natives.specs.Answered.{turn_of}
 use Rattle.page_natives.specs.Natives.{Kept, page_of, callee_of, done_by, kept_by, turn_by}
 
--- a row came to what a callee comes to: the same answer and objects; what was told grows by the row's items; the cells and the queues are the same afterwards
+-- a row came to what a callee comes to: the same answer and objects; what was told grows by the row's items; the cells and the queues are the same afterwards, and there is no node
 pub record IsKept (came : Came) (d : Done) (z kept : Kept) : Type 0 where
   pub reply : came.done.reply ≡ d.reply
   pub heap : came.done.heap ≡ d.heap
   pub told : kept.told ≡ z.told ++ came.done.items
   pub cells : (cell : ℕ) → came.page.cells cell ≡ (page_of kept).cells cell
   pub queues : (m : ℕ) → came.page.queues m ≡ (page_of kept).queues m
+  pub nodes : (root : ℕ) → came.page.nodes root ≡ []
+  pub facets : (root : ℕ) → came.page.facets root ≡ []
+  pub handlers : (root : ℕ) → came.page.handlers root ≡ []
   pub runtime : kept.runtime ≡ z.runtime
   pub imports : kept.imports ≡ z.imports
   pub touching : kept.touching ≡ z.touching

@@ -1,7 +1,7 @@
 -- What a page comes to by the meaning of ECMAScript 3 of its programs: the same deeds, over the natives of a page.
 use Rattle.std.specs.Prelude.{ℕ, List, [], ◌∷◌, map, length, nat_eq, if◌then◌else◌}
 use Rattle.plans.specs.Plans.{Run as RunOf}
-use Rattle.page_deeds.specs.Deeds.{Deed as DeedOf, to_load, to_call, to_tick, label_of}
+use Rattle.page_deeds.specs.Deeds.{Deed as DeedOf, to_load, to_call, to_tick, to_click, to_input, label_of}
 use Rattle.page_deeds.specs.Shown.{Ended, by_return, by_throw, by_nothing}
 use Rattle.pages.specs.Pages.{Begun as BegunOf, Evaluator, page}
 use Rattle.es3_tree.specs.Tree as t
@@ -31,12 +31,14 @@ abbrev pub tick_begun : ℕ → List Value → Store → Kept → Begun
 tick_begun m [] s z = record { store = s; kept = z; turns = [] }
 tick_begun m (f ∷ fs) s z = record { store = s; kept = without_first m z; turns = (λ x y. tick_plan m f x) ∷ [] }
 
--- among so many modules
+-- among so many modules. The page keeps no nodes, so nothing is to be called where something happens to one
 abbrev pub begin : ℕ → Deed → Results → Store → Kept → Begun
 begin modules (to_load m p gs) r s z =
     record { store = with_heap s (with_imports_of m (granted_pairs modules r gs) s.heap); kept = importing m (length s.heap.list) z; turns = (λ x y. program_plan p m x) ∷ [] }
 begin modules (to_call k m key args) r s z = record { store = s; kept = z; turns = (λ x y. key_plan m key (r m ∷ map plain_value args) x y) ∷ [] }
 begin modules (to_tick k m) r s z = tick_begun m ((page_of z).queues m) s z
+begin modules (to_click k id root n) r s z = record { store = s; kept = z; turns = [] }
+begin modules (to_input k id root n us) r s z = record { store = s; kept = z; turns = [] }
 
 abbrev pub end_of_turn : Objects → Completion → Ended Tag
 end_of_turn h (Normal x) = by_return (shown_value h x)

@@ -1,6 +1,6 @@
 -- Where both sides of a page are between two deeds, and what leaves them there.
 use Rattle.std.proofs.Common.{◌≡◌, ℕ, ◌+◌, ◌-◌, ◌*◌, ◌≤◌, List, [], ◌∷◌, ◌++◌, refl, subst, arith}
-use Rattle.page_deeds.specs.Deeds.{Plain, Grant, a_cell, a_result, a_plain, Grants}
+use Rattle.page_deeds.specs.Deeds.{Plain, Grant, a_cell, a_result, a_plain, a_root, Grants}
 use Rattle.page_deeds.specs.Deeds as deed
 use Rattle.es3_objects.specs.declared.value.Value.TheVariants as es
 use Rattle.es3_heap.specs.Objects.{Objects}
@@ -53,6 +53,7 @@ module _ (modules cells : ℕ) (h : Objects) (r : direct.Results) (r' : Results)
   granted_alike (a_cell c) there = places.records c there
   granted_alike (a_result m) there = results m
   granted_alike (a_plain v) there = plain_alike h v
+  granted_alike (a_root root) there = absurd there
 
   pub grants_alike : (gs : Grants) → GrantsFit cells gs → GrantsAre h (direct.granted_pairs r gs) (granted_pairs modules r' gs)
   grants_alike [] fit = tt

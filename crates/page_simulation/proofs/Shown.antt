@@ -20,6 +20,7 @@ use Rattle.cajita_meaning.specs.Direct as Source
 use Rattle.cajita_page.specs.Shown.{made_shown, object_shown, shown_in, end_in}
 use Rattle.page_log.specs.Shown.{text_units, shown_object, shown_value}
 use Rattle.row_simulation.specs.Correspond.{EsValue, Val, Named, Is, IsNamed, IsError, value_is, Stands, ObjectsAre, tag_of_name}
+use Rattle.row_simulation.proofs.Relation.{facet_class}
 use Rattle.page_runner.specs.Page.{end_of_turn}
 use Rattle.cajita_simulation.specs.Sides.{GivenIs}
 
@@ -56,7 +57,7 @@ named_alike w h (cell_name k (suc j)) i o named there is = of_class h i class.Fu
 named_alike w h (own_name m j) i o named there is = of_class h i class.Function (own_name m j) (ap heap.class_of there ∙ is.1.is.class) named
 named_alike w h (built_name f) i o named there is = of_class h i class.Function (built_name f) (ap heap.class_of there ∙ is.1.is.class) named
 named_alike w h (tools_name t) i o named there is = of_class h i class.Object (tools_name t) (ap heap.class_of there ∙ is.class) named
-named_alike w h (facet_name root k) i o named there is = absurd is
+named_alike w h (facet_name root k) i o named there is = of_class h i class.Node (facet_name root k) (ap heap.class_of there ∙ facet_class root k o is) named
 named_alike w h (forward_name m p k j) i o named there is = absurd is
 
 standing_alike : (w : State) (h : Objects) (n : Name) (i : ℕ) → Named h n i → Stands w.objects h n i → shown_value h (es.Obj i) ≡ renamed tag_of_name (object_shown w n)

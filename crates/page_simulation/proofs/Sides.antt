@@ -1,7 +1,7 @@
 -- The two pages side by side.
 use Rattle.std.proofs.Common.{◌≡◌, ℕ, true, List, [], ◌∷◌, refl, sym, ◌∙◌}
 use Rattle.std.proofs.lemmas.List.{append-nil}
-use Rattle.page_deeds.specs.Deeds.{to_load, to_call, to_tick, label_of}
+use Rattle.page_deeds.specs.Deeds.{to_load, to_call, to_tick, to_click, to_input, label_of}
 use Rattle.page_deeds.specs.Shown.{by_nothing}
 use Rattle.pages.specs.Pages.{GrowsOn}
 use Rattle.pages.specs.Pairs.{PageSides}
@@ -37,6 +37,8 @@ pub begun_kept : (d : direct.Deed) (r : direct.Results) (w : World) (z : List It
 begun_kept (to_load m p gs) r w z = prefix_refl z
 begun_kept (to_call k m key args) r w z = prefix_refl z
 begun_kept (to_tick k m) r w z = tick_kept m (w.queues m) w z
+begun_kept (to_click k id root n) r w z = prefix_refl z
+begun_kept (to_input k id root n us) r w z = prefix_refl z
 
 abbrev pub left_grows : (rules : Rules) → GrowsOn (direct.evaluator rules) IsPrefix
 left_grows rules = record {
@@ -58,6 +60,8 @@ pub begun_kept' : (modules : ℕ) (d : es3.Deed) (r : Results) (s : Store) (y : 
 begun_kept' modules (to_load m p gs) r s y = told_before y (es3.begin modules (to_load m p gs) r s y).kept refl refl
 begun_kept' modules (to_call k m key args) r s y = as_before y
 begun_kept' modules (to_tick k m) r s y = tick_kept' m ((page_of y).queues m) s y
+begun_kept' modules (to_click k id root n) r s y = as_before y
+begun_kept' modules (to_input k id root n us) r s y = as_before y
 
 abbrev pub right_grows : (modules : ℕ) → GrowsOn (es3.evaluator modules) TellsMore
 right_grows modules = record {

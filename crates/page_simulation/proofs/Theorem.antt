@@ -2,7 +2,7 @@
 use Rattle.std.proofs.Common.{◌≡◌, ℕ, suc, ◌+◌, ◌*◌, ◌≤◌, Bool, List, [], ◌∷◌, refl, sym, ap, ◌∙◌, subst, arith}
 use Rattle.plans.specs.Plans.{over, stopped, out, count_of, kept_of}
 use Rattle.matching.specs.Sentences.{IsFinished, Together, SimulatedTo}
-use Rattle.page_deeds.specs.Deeds.{to_load, to_call, to_tick}
+use Rattle.page_deeds.specs.Deeds.{to_load, to_call, to_tick, to_click, to_input}
 use Rattle.pages.specs.Pairs.{DeedsPair, done}
 use Rattle.pages.proofs.Steady.{page_grows}
 use Rattle.pages.proofs.Whole.{page_simulated}
@@ -35,6 +35,8 @@ deeds_pair rules modules cells few i [] fit = tt
 deeds_pair rules modules cells few i (to_load m p gs ∷ ds) fit = (load_pair rules modules cells few i m p gs fit.0, deeds_pair rules modules cells few (suc i) ds fit.1)
 deeds_pair rules modules cells few i (to_call k m key args ∷ ds) fit = (call_pair rules modules cells few i k m key args fit.0, deeds_pair rules modules cells few (suc i) ds fit.1)
 deeds_pair rules modules cells few i (to_tick k m ∷ ds) fit = (tick_pair rules modules cells few i k m fit.0, deeds_pair rules modules cells few (suc i) ds fit.1)
+deeds_pair rules modules cells few i (to_click k id root n ∷ ds) fit = absurd fit.0
+deeds_pair rules modules cells few i (to_input k id root n us ∷ ds) fit = absurd fit.0
 
 module _ (rules : Rules) (modules cells : ℕ) (few : modules ≤ 64) (touching : Bool) (ds : List direct.Deed) (fit : DeedsFit modules cells 0 ds) where
   -- where a page begins

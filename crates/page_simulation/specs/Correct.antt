@@ -1,5 +1,5 @@
 -- A page of programs does in the interpreter what the page of the modules that they stand for does directly.
-use Rattle.std.specs.Prelude.{◌≡◌, ℕ, ◌+◌, ◌*◌, ◌≤◌, Bool, List}
+use Rattle.std.specs.Prelude.{◌≡◌, ℕ, ◌+◌, ◌*◌, ◌≤◌, Bool, List, []}
 use Rattle.plans.specs.Plans.{over, stopped, out, count_of, kept_of}
 use Rattle.matching.specs.Sentences.{IsFinished}
 use Rattle.rows.specs.Nodes.{Rules}
@@ -32,9 +32,9 @@ ConvertsNothing (over r s y n) = Unit {0}
 ConvertsNothing (stopped f s y n) = GuestFault f
 ConvertsNothing (out s y n) = Unit {0}
 
--- the two pages, with n steps of the one and k of the other
+-- the two pages, with n steps of the one and k of the other; neither has nodes
 abbrev pub source_page : Rules → List direct.Deed → ℕ → direct.Run
-source_page rules ds n = direct_page rules ds n
+source_page rules ds n = direct_page rules (λ root. []) ds n
 
 abbrev pub program_page : ℕ → ℕ → Bool → List direct.Deed → ℕ → es3.Run
 program_page modules cells touching ds k = es3_page modules (program_deeds ds) (page_store modules cells) (new_kept runtime_id touching) k

@@ -120,7 +120,7 @@ object_written by o k x us h class.Function y is =
     function_sight (λ s. Alike (finish place_of by (write_end (pub_set s us) s (held 0) us (held 2)) (before o k x ++ []) h y) (unless (is_bad us) (codes "bad key") by h (unless (is_frozen h o) (codes "not writable") by h (throws (codes "not writable") by h))))
     (λ q. other_written by us (before o k x ++ []) h y (r.a_function q) (is_frozen h o)) (other_written by us (before o k x ++ []) h y (r.a_stranger true) (is_frozen h o)) (is_some (own h o simple_mark)) (callable_of (object_at h o))
 object_written by o k x us h class.Error y is = other_written by us (before o k x ++ []) h y (see_object 3 h o class.Error).sight (is_frozen h o)
-object_written by o k x us h class.Node y is = other_written by us (before o k x ++ []) h y (r.a_stranger false) (is_frozen h o)
+object_written by o k x us h class.Node y is = other_written by us (before o k x ++ []) h y r.a_node (is_frozen h o)
 
 value_written : (by : ℕ) (o k x : Value) (us : List ℕ) (h : Objects) (y : List Told) →
     let seen = see h 3 o in

@@ -17,7 +17,7 @@ use Rattle.es3_objects.specs.Reading.{kind_of}
 use Rattle.es3_convert.specs.Conversions.{items_from, array_items}
 use Rattle.rows.specs.Rows as r
 use Rattle.rows.specs.Rows.{Native, Handle, held, handles, keyed_handles}
-use Rattle.rows.specs.Names.{method, is_of_text, text_methods, array_methods, function_methods}
+use Rattle.rows.specs.Names.{method, is_of_text, text_methods, array_methods, function_methods, node_methods}
 use Rattle.rows.specs.Public.{value_at, item_at, of_value, or_undefined, property, pub_get}
 use Rattle.heap_rows.specs.Marks.{is_frozen, simple_mark}
 use Rattle.heap_rows.specs.Doing.{value_in, guests, sort_seen, text_in, see, see_object}
@@ -164,7 +164,7 @@ object_property o n rest more h class.Function us len seen = function_property (
 object_property o n rest more h class.Error us len seen =
     let part : List ℕ → List ℕ = λ k. text_in (value_of (own h o k)) in
     error_part part us ((v.Obj o ∷ rest) ++ ([] ++ more))
-object_property o n rest more h class.Node us len seen = refl
+object_property o n rest more h class.Node us len seen = object_method o (rest ++ ([] ++ more)) node_methods us
 
 -- the first value's property, among all that is seen of it and more behind
 pub property_stands : (o : Value) (rest : List Value) (h : Objects) (us : List ℕ) →

@@ -10,7 +10,7 @@ use Rattle.es3_objects.specs.declared.value.Class.TheVariants as class
 use Rattle.es3_heap.specs.Objects.{Objects, object_at, class_of}
 use Rattle.es3_heap.specs.Properties.{own, value_of, length_key, length_of}
 use Rattle.rows.specs.Rows.{Native}
-use Rattle.rows.specs.Names.{text_methods, array_methods, function_methods}
+use Rattle.rows.specs.Names.{text_methods, array_methods, function_methods, node_methods}
 use Rattle.heap_rows.specs.Doing.{text_in}
 use Rattle.heap_rows.specs.Opening.{place_of}
 use Rattle.guard_marks.specs.Functions.{is_for_modules}
@@ -40,7 +40,7 @@ object_value class.Object h o k = value_of (own h o k)
 object_value class.Array h o k = if same_units k length_key then v.Num (pos (item_count h o)) else item_or_method (array_index k) h o k
 object_value class.Function h o k = if is_for_modules h o then method_value function_methods k else v.Undefined
 object_value class.Error h o k = if same_units k (codes "name") || same_units k (codes "message") then v.Text (text_in (value_of (own h o k))) else v.Undefined
-object_value class.Node h o k = v.Undefined
+object_value class.Node h o k = method_value node_methods k
 
 abbrev pub public_value : Objects → Value → List ℕ → Value
 public_value h (v.Text us) k = if same_units k length_key then v.Num (pos (length us)) else method_value text_methods k

@@ -13,7 +13,7 @@ use caja_units::{Memory, Units};
 use es3_convert::{array_item, array_len, own_value};
 use es3_heap::{Class, Heap, ObjId, Value};
 use guard_marks::is_for_modules;
-use row_outcomes::{ARRAY_METHODS, FUNCTION_METHODS, TEXT_METHODS};
+use row_outcomes::{ARRAY_METHODS, FUNCTION_METHODS, NODE_METHODS, TEXT_METHODS};
 use std::alloc::Global;
 
 /// How many units a text has (ES3 15.5.5.1).
@@ -27,8 +27,7 @@ fn text_len(text: &Units) -> Whole
 fn item_count(alloc: Global, h: &Heap, o: ObjId) -> Result<Whole, Memory>
     ensures { IfOk result (λ n. n ≡ pos (item_count h.now o)) }
 {
-    let key = Units::from_ascii(alloc, b"length")?;
-    let count = match own_value(alloc, h, o, &key)? {
+    let count = match own_value(alloc, h, o, h.length_key())? {
         Value::Num(n) => n.get().unsigned_abs(),
         _other => 0,
     };
@@ -69,7 +68,8 @@ fn object_value(alloc: Global, h: &Heap, o: ObjId, k: &Units) -> Result<Value, M
         Class::Error if is_key(alloc, k, b"name")? || is_key(alloc, k, b"message")? => {
             Ok(Value::Text(error_text(alloc, h, o, k)?))
         }
-        Class::Function | Class::Error | Class::Node => Ok(Value::Undefined),
+        Class::Node => method(alloc, &NODE_METHODS, k),
+        Class::Function | Class::Error => Ok(Value::Undefined),
     }
 }
 

@@ -19,7 +19,7 @@ use caja_num::Whole;
 use caja_units::{Memory, Units};
 use es3_convert::{out_of_memory, to_number, to_text};
 use es3_heap::{Heap, ObjId, Proto, Stop, Value};
-pub use methods::{ARRAY_METHODS, FUNCTION_METHODS, TEXT_METHODS};
+pub use methods::{ARRAY_METHODS, FUNCTION_METHODS, NODE_METHODS, TEXT_METHODS};
 pub use places::{clamped, place};
 use std::alloc::Global;
 

@@ -26,3 +26,20 @@ pub const ARRAY_METHODS: [(&[u8], u32); 8] = [
     (b"shift", 67),
     (b"reverse", 68),
 ];
+
+/// The methods of nodes.
+pub const NODE_METHODS: [(&[u8], u32); 13] = [
+    (b"getTagName", 69),
+    (b"getParentNode", 70),
+    (b"getChildNodes", 71),
+    (b"getElementById", 72),
+    (b"getAttribute", 73),
+    (b"setAttribute", 74),
+    (b"getText", 75),
+    (b"setText", 76),
+    (b"createElement", 77),
+    (b"createTextNode", 78),
+    (b"appendChild", 79),
+    (b"removeChild", 80),
+    (b"on", 81),
+];

@@ -7,10 +7,10 @@ use Rattle.es3_heap.specs.Objects as heap
 use Rattle.es3_heap.specs.Objects.{Objects, object_at, with_object}
 use Rattle.es3_heap.specs.Properties.{find}
 use Rattle.rows.specs.Rows as r
-use Rattle.cajita_meaning.specs.World.{Name, made_name, built_name, Object}
+use Rattle.cajita_meaning.specs.World.{Name, made_name, built_name, facet_name, Object}
 use Rattle.heap_rows.specs.Marks.{read_mark, set_mark}
 use Rattle.row_simulation.proofs.Names.{name_there}
-use Rattle.row_simulation.proofs.Relation.{Named, tag_of_name, Stands, IsMarked, ObjectsAre, Keeps, named_keep}
+use Rattle.row_simulation.proofs.Relation.{Named, tag_of_name, Stands, IsMarked, ObjectsAre, Keeps, NoNewNode, named_keep}
 use Rattle.row_simulation.proofs.Row.{objects_step}
 use Rattle.row_simulation.proofs.Changes.{IsNew, cases_at, get-push-other, named_within}
 
@@ -26,9 +26,16 @@ added_keeps h x unmade = record {
   older = λ m k i t lt. cases_at h.list x i (λ q. heap.tag_of q ≡ tag.Made m k → Named h (made_name m k) i) (λ less f. f) (λ at f. absurd (unmade m k f)) (λ f. absurd (name_there (made_name m k) f)) t;
 }
 
+-- and it is no node
+pub added_no_node : (h : Objects) (x : heap.Object) → ((root k : ℕ) → x.tag ≡ tag.Facet root k → ⊥) → NoNewNode h (with_object h x)
+added_no_node h x other = record { older = λ root k i t. cases_at h.list x i (λ q. heap.tag_of q ≡ tag.Facet root k → Named h (facet_name root k) i) (λ less f. f) (λ at f. absurd (other root k f)) (λ f. absurd (name_there (facet_name root k) f)) t }
+
 -- one that awaits its name
 pub awaiting_keeps : (h : Objects) (x : heap.Object) → x.tag ≡ tag.None → Keeps h (with_object h x)
 awaiting_keeps h x bare = added_keeps h x (λ m k e. name_there (made_name m k) (sym bare ∙ e))
+
+pub awaiting_no_node : (h : Objects) (x : heap.Object) → x.tag ≡ tag.None → NoNewNode h (with_object h x)
+awaiting_no_node h x bare = added_no_node h x (λ root k e. name_there (facet_name root k) (sym bare ∙ e))
 
 module _ {first : Objects} {places : r.Native → ℕ} {m : ℕ} (objects : ℕ → List Object) (h : Objects) (x : heap.Object) (old : ObjectsAre first places objects h m) (new : IsNew first x) where
   there : (i : ℕ) → i < length h.list → object_at (with_object h x) i ≡ object_at h i

@@ -29,16 +29,16 @@ use Rattle.heap_rows.specs.Doing as es3
 use Rattle.row_simulation.proofs.Keys.{not_true, ends_as, apart_too, hidden_read, hidden_set, read_frozen, set_frozen, set_mark_hidden}
 use Rattle.row_simulation.proofs.Items.{closed_is}
 use Rattle.row_simulation.proofs.ItemsSet.{items_set_are}
-use Rattle.row_simulation.proofs.Relation.{EsValue, Named, Val, Vals, closing, IsArray, Is, IsNamed, ObjectsAre, val_keep}
+use Rattle.row_simulation.proofs.Relation.{EsValue, Named, Val, Vals, closing, IsArray, Is, IsNamed, ObjectsAre, val_keep, facet_class}
 use Rattle.row_simulation.proofs.Names.{made_known, cell_known, tools_known}
 use Rattle.row_simulation.specs.Among.{IsHandleAmong, AreHandlesAmong}
 use Rattle.row_simulation.proofs.SetMarks.{stays, MarksGo, others_stay}
 use Rattle.row_simulation.proofs.Props.{props_frozen}
-use Rattle.row_simulation.proofs.Row.{by_value, DoneIs, keeps_refl, objects_step, handle_is, handles_are, EndLaw}
+use Rattle.row_simulation.proofs.Row.{by_value, EndIs, keeps_refl, objects_step, handle_is, handles_are, EndLaw}
 use Rattle.row_simulation.proofs.Sights.{frozen_no_index, closing_found}
-use Rattle.row_simulation.proofs.Changes.{revised, revised_keeps, made_there, made_length, made_still, objects_revised, IsNew}
+use Rattle.row_simulation.proofs.Changes.{revised, revised_keeps, revised_no_node, made_there, made_length, made_still, objects_revised, IsNew}
 use Rattle.row_simulation.specs.RowLaw.{IsFirst}
-use Rattle.row_simulation.proofs.Ends.{quiet, shown_got, shown_all, makes_law}
+use Rattle.row_simulation.proofs.Ends.{quiet, shown_got, shown_all, same_end, makes_law}
 use Rattle.row_simulation.proofs.Writes.{Changed, unchanged, same_made, revised_same, OnKept, define_at, freeze_record}
 
 -- an index ends in a digit
@@ -115,10 +115,10 @@ pub array_law : {first : Objects} {places : Native → ℕ} (by : ℕ) → by < 
 array_law {first = first} {places = places} by below f frozen xs a s es w h z y m few p o is =
     let vs = map (direct.value_of s.values) xs in
     let us = map (es3.value_in places es) xs in
-    by_length (length xs) (λ b. DoneIs first places h m (cond b (direct.makes direct.gives by (an_array frozen vs) w (z ++ direct.got_all by s xs)) (direct.too_long w z)) (cond b (es3.makes value_reply by (es3.frozen_if frozen (array_object us)) h y) (es3.too_long h y)))
+    by_length (length xs) (λ b. EndIs first places h m (cond b (direct.makes direct.gives by (an_array frozen vs) w (z ++ direct.got_all by s xs)) (direct.too_long w z)) (cond b (es3.makes value_reply by (es3.frozen_if frozen (array_object us)) h y) (es3.too_long h y)))
     (λ short. let n : length us < 4294967296 = subst (λ k. k < 4294967296) (sym (length-map xs (es3.value_in places es))) short in
     makes_law by below direct.gives value_reply (λ g v e q. q) (an_array frozen vs) _ w h _ y m few (array_new f frozen us n) (array_is h frozen vs us n (handles_are o xs a s.values es p)) o (quiet z _ y is (shown_all by s xs)))
-    (record { reply = refl; objects = objects_step o; items = is; keeps = keeps_refl })
+    (same_end (record { reply = refl; objects = objects_step o; items = is; keeps = keeps_refl }))
 
 -- an array's items
 
@@ -137,6 +137,7 @@ revised_array {h = h} w old a b i c frozen frozen' vs ws us name there known is 
       (record { object = an_array frozen' ws; known = made_there w a b (an_array frozen vs) (an_array frozen' ws) known; is = record { class = is.class; no_call = is.no_call; proto = is.proto; items = us; props = refl; few = few; are = p } })
       (λ k o ne x. made_still w h a b (an_array frozen' ws) k o ne x) (λ k. made_length w a b k (an_array frozen' ws)) (λ k q e. absurd (none-some q (sym (no_read frozen' us k few) ∙ e))) (λ k q e. absurd (none-some q (sym (no_set frozen' us k few) ∙ e)));
   keeps = revised_keeps h (made_name a b) i c (array_props frozen' us) name there (array_no_function is);
+  no_node = revised_no_node h i c (array_props frozen' us) there;
 }
 
 array_closed : (h : Objects) (i : ℕ) (c : heap.Object) (frozen : Bool) (vs : List Value) → object_at h i ≡ Some c → IsArray h frozen vs c → is_frozen h i ≡ frozen
@@ -167,18 +168,18 @@ on_array {first = first} {places = places} {m = m} {h = h} w old ws us few q =
     by_name (own_name a b) i p c there is = rw is.1.is.class (unchanged old)
     by_name (built_name f) i p c there is = rw is.1.is.class (unchanged old)
     by_name (tools_name t) i p c there is = rw is.class (unchanged old)
-    by_name (facet_name root k) i p c there is = absurd is
+    by_name (facet_name root k) i p c there is = rw (facet_class root k c is) (unchanged old)
     by_name (forward_name a b d e) i p c there is = absurd is
 
 pub items_law : {first : Objects} {places : Native → ℕ} (by : ℕ) (x : Handle) (xs : List Handle) (v : Handle) → IsHandleAmong x × AreHandlesAmong xs × IsHandleAmong v → EndLaw first places by (r.sets_items x xs v)
 items_law {first = first} {places = places} by x xs v a s es w h z y m few p o is =
     let ws = map (direct.value_of s.values) xs in
     let us = map (es3.value_in places es) xs in
-    by_length (length xs) (λ b. DoneIs first places h m (cond b (direct.answered by v s (direct.changed (direct.with_items ws) (direct.value_of s.values x) w) z) (direct.too_long w z)) (cond b (es3.gives (es3.value_in places es v) (es3.on_object (es3.value_in places es x) h (λ i. es3.of_array (heap.class_of (object_at h i)) (cond (is_frozen h i) h (set_items h i us)) h)) y) (es3.too_long h y)))
+    by_length (length xs) (λ b. EndIs first places h m (cond b (direct.answered by v s (direct.changed (direct.with_items ws) (direct.value_of s.values x) w) z) (direct.too_long w z)) (cond b (es3.gives (es3.value_in places es v) (es3.on_object (es3.value_in places es x) h (λ i. es3.of_array (heap.class_of (object_at h i)) (cond (is_frozen h i) h (set_items h i us)) h)) y) (es3.too_long h y)))
     (λ short. let n : length us < 4294967296 = subst (λ k. k < 4294967296) (sym (length-map xs (es3.value_in places es))) short in
     let c = on_array w o ws us n (handles_are o xs a.1 s.values es p) (direct.value_of s.values x) (es3.value_in places es x) (handle_is o x a.0 s.values es p) in
-    record { reply = val_keep c.keeps (direct.value_of s.values v) (es3.value_in places es v) (handle_is o v a.2 s.values es p); objects = objects_step c.left; items = quiet z _ y is (shown_got by s v); keeps = c.keeps })
-    (record { reply = refl; objects = objects_step o; items = is; keeps = keeps_refl })
+    record { done = record { reply = val_keep c.keeps (direct.value_of s.values v) (es3.value_in places es v) (handle_is o v a.2 s.values es p); objects = objects_step c.left; items = quiet z _ y is (shown_got by s v); keeps = c.keeps }; no_node = c.no_node })
+    (same_end (record { reply = refl; objects = objects_step o; items = is; keeps = keeps_refl }))
 
 -- freezing
 
@@ -242,10 +243,10 @@ freezes_it {first = first} {places = places} {m = m} {h = h} w old =
     by_name (own_name a b) i p c there is = rw is.1.is.class (unchanged old)
     by_name (built_name f) i p c there is = rw is.1.is.class (unchanged old)
     by_name (tools_name t) i p c there is = rw is.class (freeze_kept w old (tools_name t) i c _ p (tools_known t) there is (λ x r. r))
-    by_name (facet_name root k) i p c there is = absurd is
+    by_name (facet_name root k) i p c there is = rw (facet_class root k c is) (unchanged old)
     by_name (forward_name a b d e) i p c there is = absurd is
 
 pub freezes_law : {first : Objects} {places : Native → ℕ} (by : ℕ) (x : Handle) → IsHandleAmong x → EndLaw first places by (r.freezes x)
 freezes_law {places = places} by x a s es w h z y m few p o is =
     let c = freezes_it w o (direct.value_of s.values x) (es3.value_in places es x) (handle_is o x a s.values es p) in
-    record { reply = val_keep c.keeps (direct.value_of s.values x) (es3.value_in places es x) (handle_is o x a s.values es p); objects = objects_step c.left; items = quiet z _ y is (shown_got by s x); keeps = c.keeps }
+    record { done = record { reply = val_keep c.keeps (direct.value_of s.values x) (es3.value_in places es x) (handle_is o x a s.values es p); objects = objects_step c.left; items = quiet z _ y is (shown_got by s x); keeps = c.keeps }; no_node = c.no_node }

@@ -1,88 +1,25 @@
 -- A page that begins with modules and cells: each object with a name that is added leaves what corresponds.
-use Rattle.std.proofs.Common.{◌≡◌, ℕ, zero, suc, ◌+◌, ◌<◌, true, List, [], ◌∷◌, ◌++◌, length, Option, Some, None, refl, sym, ap, ◌∙◌, subst, arith}
+use Rattle.std.proofs.Common.{◌≡◌, ℕ, zero, suc, ◌+◌, ◌<◌, true, List, [], ◌∷◌, ◌++◌, length, Option, Some, refl, ap, ◌∙◌, subst, arith}
 use Rattle.std.specs.Prelude.{codes}
-use Rattle.std.proofs.lemmas.Option.{none-some}
 use Rattle.std.proofs.lemmas.List.{length-append}
 use Rattle.es3_objects.specs.declared.value.FuncKind.TheVariants.{Simple}
 use Rattle.es3_objects.specs.declared.value.Tag.{Tag}
 use Rattle.es3_objects.specs.declared.value.Tag.TheVariants as tag
 use Rattle.es3_heap.specs.Objects as heap
-use Rattle.es3_heap.specs.Objects.{Objects, object_at, with_object}
-use Rattle.es3_heap.specs.Properties.{find}
+use Rattle.es3_heap.specs.Objects.{Objects, with_object}
 use Rattle.rows.specs.Rows as r
-use Rattle.cajita_meaning.specs.World.{Name, cell_name, own_name, built_name, Object, empty_world}
+use Rattle.cajita_meaning.specs.World.{Name, cell_name, own_name, facet_name, Object, empty_world}
 use Rattle.cajita_meaning.specs.Doing.{get_and_set}
-use Rattle.heap_rows.specs.Marks.{read_mark, set_mark}
 use Rattle.heap_rows.specs.Natives.{own_number, cell_number}
 use Rattle.heap_rows.specs.Opening.{first, first_count, place_of, opened, named_function, own_function, cell_function, cell_record, with_module, with_cell, with_modules, begun, empty_page}
 use Rattle.row_simulation.specs.RowLaw.{PagesAre}
 use Rattle.row_simulation.proofs.Frozen.{frozen_props, all_guests, no_read, no_set, frozen_are}
-use Rattle.row_simulation.proofs.Names.{name_there, name_at, known_name, own_known, cell_known}
-use Rattle.row_simulation.proofs.Relation.{Named, tag_of_name, PropsAre, IsNative, IsNamed, Stands, IsMarked, ObjectsAre, Keeps, named_keep}
-use Rattle.row_simulation.proofs.Changes.{cases_at, get-push, get-push-other}
-use Rattle.row_simulation.proofs.Added.{added_keeps}
+use Rattle.row_simulation.proofs.Names.{name_at, own_known, cell_known}
+use Rattle.row_simulation.proofs.Relation.{Named, tag_of_name, PropsAre, IsNative, IsNamed, ObjectsAre}
+use Rattle.row_simulation.proofs.Changes.{get-push, get-push-other}
+use Rattle.row_simulation.proofs.Fresh.{Fresh, IsFresh, named_added, fresh_still, was_or_is}
 use Rattle.row_simulation.proofs.First.{first_many, up_few}
-use Rattle.row_simulation.proofs.Opening.{opened_corresponds, no_own, no_cell}
-
-abbrev Fresh : Objects → Name → Type 0
-Fresh h n = (i : ℕ) → Named h n i → ⊥
-
--- one more object, with a name that none has
-record IsFresh (first : Objects) (objects : ℕ → List Object) (h : Objects) (n : Name) (x : heap.Object) : Type 0 where
-  known : name_at (tag_of_name n) ≡ Some n
-  tagged : x.tag ≡ tag_of_name n
-  fresh : Fresh h n
-  is : IsNamed objects h n x
-  above : (p : ℕ) → x.proto ≡ Some p → p < length first.list
-  reads : (k : List ℕ) → find (read_mark k) x.props ≡ None
-  sets : (k : List ℕ) → find (set_mark k) x.props ≡ None
-  unmade : (m k : ℕ) → x.tag ≡ tag.Made m k → ⊥
-
-named_added : {first : Objects} {places : r.Native → ℕ} {m : ℕ} {objects : ℕ → List Object} {h : Objects} → ObjectsAre first places objects h m → (n : Name) (x : heap.Object) → IsFresh first objects h n x → ObjectsAre first places objects (with_object h x) m
-named_added {first = first} {objects = objects} {h = h} old n x new = record {
-  each = λ k i t. cases_at h.list x i (λ q. heap.tag_of q ≡ tag_of_name k → Stands objects (with_object h x) k i) (λ lt f. still k i lt (old.each k i f)) (λ at f. newest k i at f) (λ f. absurd (name_there k f)) t;
-  once = λ k i j t u. one k i j t u;
-  natives = λ f common. keeps.named (built_name f) _ (old.natives f common);
-  reads = λ i k p e. cases_at h.list x i (λ q. find (read_mark k) (heap.props_of q) ≡ Some p → IsMarked (with_object h x) i) (λ lt f. marked_still i lt (old.reads i k p f)) (λ at f. absurd (none-some p (sym (new.reads k) ∙ f))) (λ f. absurd (none-some p f)) e;
-  sets = λ i k p e. cases_at h.list x i (λ q. find (set_mark k) (heap.props_of q) ≡ Some p → IsMarked (with_object h x) i) (λ lt f. marked_still i lt (old.sets i k p f)) (λ at f. absurd (none-some p (sym (new.sets k) ∙ f))) (λ f. absurd (none-some p f)) e;
-  above = λ i p e. cases_at h.list x i (λ q. heap.proto_of q ≡ Some p → p < length first.list) (λ lt f. old.above i p f) (λ at f. new.above p f) (λ f. absurd (none-some p f)) e;
-  count = old.count;
-  few = old.few;
-  opened = λ i lt. there i (omega (arith, lt, old.large)) ∙ old.opened i lt;
-  unnamed = λ i k lt t. old.unnamed i k lt (ap heap.tag_of (sym (there i (omega (arith, lt, old.large)))) ∙ t);
-  large = let l = length-append h.list (x ∷ []) in omega (arith, l, old.large);
-}
-  where
-    keeps : Keeps h (with_object h x)
-    keeps = added_keeps h x new.unmade
-
-    there : (i : ℕ) → i < length h.list → object_at (with_object h x) i ≡ object_at h i
-    there i lt = get-push-other h.list i x lt
-
-    still : (k : Name) (i : ℕ) → i < length h.list → Stands objects h k i → Stands objects (with_object h x) k i
-    still k i lt s = record { stored = s.stored; there = there i lt ∙ s.there; is = named_keep objects (added_keeps h x new.unmade) k s.stored s.is }
-
-    newest : (k : Name) (i : ℕ) → i ≡ length h.list → x.tag ≡ tag_of_name k → Stands objects (with_object h x) k i
-    newest k i at t =
-        let alike : k ≡ n = known_name n k new.known (sym t ∙ new.tagged) in
-        record { stored = x; there = rw at (get-push h.list x); is = subst (λ q. IsNamed objects (with_object h x) q x) (sym alike) (named_keep objects (added_keeps h x new.unmade) n x new.is) }
-
-    marked_still : (i : ℕ) → i < length h.list → IsMarked h i → IsMarked (with_object h x) i
-    marked_still i lt q = record { name = q.name; named = ap heap.tag_of (there i lt) ∙ q.named; class = ap heap.class_of (there i lt) ∙ q.class }
-
-    taken : (k : Name) (i : ℕ) → Named h k i → x.tag ≡ tag_of_name k → ⊥
-    taken k i t u = new.fresh i (t ∙ sym u ∙ new.tagged)
-
-    one : (k : Name) (i j : ℕ) → Named (with_object h x) k i → Named (with_object h x) k j → i ≡ j
-    one k i j t u =
-        cases_at h.list x i (λ q. heap.tag_of q ≡ tag_of_name k → i ≡ j)
-        (λ lt f. cases_at h.list x j (λ q. heap.tag_of q ≡ tag_of_name k → i ≡ j) (λ lt2 f2. old.once k i j f f2) (λ at2 f2. absurd (taken k i f f2)) (λ f2. absurd (name_there k f2)) u)
-        (λ at f. cases_at h.list x j (λ q. heap.tag_of q ≡ tag_of_name k → i ≡ j) (λ lt2 f2. absurd (taken k j f2 f)) (λ at2 f2. at ∙ sym at2) (λ f2. absurd (name_there k f2)) u)
-        (λ f. absurd (name_there k f)) t
-
--- a name stays fresh where another one comes
-fresh_still : (h : Objects) (x : heap.Object) (n : Name) → Fresh h n → (x.tag ≡ tag_of_name n → ⊥) → Fresh (with_object h x) n
-fresh_still h x n fresh other i t = cases_at h.list x i (λ q. heap.tag_of q ≡ tag_of_name n → ⊥) (λ lt f. fresh i f) (λ at f. other f) (λ f. name_there n f) t
+use Rattle.row_simulation.proofs.Opening.{opened_corresponds, no_own, no_cell, no_facet}
 
 -- the new objects
 
@@ -133,16 +70,16 @@ record Begins (n k : ℕ) (h : Objects) : Type 0 where
   objects : ObjectsAre first place_of empty_world.objects h 0
   modules : (m i j : ℕ) → Named h (own_name m i) j → m < n
   cells : (c i j : ℕ) → Named h (cell_name c i) j → c < k
-
--- a name that was there, or that of the new object
-was_or_is : (h : Objects) (x : heap.Object) (n : Name) (P : Type 0) → ((j : ℕ) → Named h n j → P) → (x.tag ≡ tag_of_name n → P) → (j : ℕ) → Named (with_object h x) n j → P
-was_or_is h x n P was is j t = cases_at h.list x j (λ q. heap.tag_of q ≡ tag_of_name n → P) (λ lt f. was j f) (λ at f. is f) (λ f. absurd (name_there n f)) t
+  nodes : (root i j : ℕ) → Named h (facet_name root i) j → ⊥
 
 own_apart : (m i d j : ℕ) → tag.Own m i ≡ tag.Own d j → (m ≡ d) × (i ≡ j)
 own_apart m i d j e = (cc, cc)
 
 cell_apart : (m i d j : ℕ) → tag.Cell m i ≡ tag.Cell d j → (m ≡ d) × (i ≡ j)
 cell_apart m i d j e = (cc, cc)
+
+own_no_facet : (m i d j : ℕ) → tag.Own m i ≡ tag.Facet d j → ⊥
+own_no_facet m i d j e = cc
 
 own_no_cell : (m i d j : ℕ) → tag.Own m i ≡ tag.Cell d j → ⊥
 own_no_cell m i d j e = cc
@@ -153,6 +90,7 @@ module_begins {n = n} {k = k} {h = h} b = record {
   objects = named_added first_added (own_name n 1) _ (function_fresh empty_world.objects h1 (own_name n 1) (own_number n 1) (own_known n 1) (fresh_still h (own_function n 0) (own_name n 1) (fresh 1) (λ e. let q = (own_apart n 0 n 1 e).1 in omega (arith, q))) (omega arith, function_is (own_number n 1) (tag.Own n 1)) (own_unmade n 1));
   modules = λ m i j t. was_or_is h1 (own_function n 1) (own_name m i) (m < suc n) (λ j t. was_or_is h (own_function n 0) (own_name m i) (m < suc n) (λ j t. let q = b.modules m i j t in omega (arith, q)) (λ e. let q = (own_apart n 0 m i e).0 in omega (arith, q)) j t) (λ e. let q = (own_apart n 1 m i e).0 in omega (arith, q)) j t;
   cells = λ c i j t. was_or_is h1 (own_function n 1) (cell_name c i) (c < k) (λ j t. was_or_is h (own_function n 0) (cell_name c i) (c < k) (λ j t. b.cells c i j t) (λ e. absurd (own_no_cell n 0 c i e)) j t) (λ e. absurd (own_no_cell n 1 c i e)) j t;
+  nodes = λ root i j t. was_or_is h1 (own_function n 1) (facet_name root i) ⊥ (λ j t. was_or_is h (own_function n 0) (facet_name root i) ⊥ (λ j t. b.nodes root i j t) (λ e. own_no_facet n 0 root i e) j t) (λ e. own_no_facet n 1 root i e) j t;
 }
   where
     h1 : Objects
@@ -163,6 +101,9 @@ module_begins {n = n} {k = k} {h = h} b = record {
 
     first_added : ObjectsAre first place_of empty_world.objects (with_object h (own_function n 0)) 0
     first_added = named_added b.objects (own_name n 0) _ (function_fresh empty_world.objects h (own_name n 0) (own_number n 0) (own_known n 0) (fresh 0) (omega arith, function_is (own_number n 0) (tag.Own n 0)) (own_unmade n 0))
+
+cell_no_facet : (m i d j : ℕ) → tag.Cell m i ≡ tag.Facet d j → ⊥
+cell_no_facet m i d j e = cc
 
 cell_no_own : (m i d j : ℕ) → tag.Cell m i ≡ tag.Own d j → ⊥
 cell_no_own m i d j e = cc
@@ -209,10 +150,11 @@ module _ {n k : ℕ} {h : Objects} (b : Begins n k h) where
     objects = with_all;
     modules = λ m i j t. of_cell (own_name m i) (m < n) (λ j t. b.modules m i j t) (λ a e. absurd (cell_no_own k a m i e)) j t;
     cells = λ c i j t. of_cell (cell_name c i) (c < suc k) (λ j t. let q = b.cells c i j t in omega (arith, q)) (λ a e. let q = (cell_apart k a c i e).0 in omega (arith, q)) j t;
+    nodes = λ root i j t. of_cell (facet_name root i) ⊥ (λ j t. b.nodes root i j t) (λ a e. cell_no_facet k a root i e) j t;
   }
 
 modules_begin : (n : ℕ) → Begins n 0 (with_modules n opened)
-modules_begin zero = record { objects = opened_corresponds; modules = λ m i j t. absurd (no_own m i j t); cells = λ c i j t. absurd (no_cell c i j t) }
+modules_begin zero = record { objects = opened_corresponds; modules = λ m i j t. absurd (no_own m i j t); cells = λ c i j t. absurd (no_cell c i j t); nodes = λ root i j t. no_facet root i j t }
 modules_begin (suc n) = module_begins (modules_begin n)
 
 cells_begin : (n k : ℕ) → Begins n k (begun n k)
@@ -222,5 +164,18 @@ cells_begin n (suc k) = cell_begins (cells_begin n k)
 pub begun_corresponds : (n k : ℕ) → ObjectsAre first place_of empty_world.objects (begun n k) 0
 begun_corresponds n k = (cells_begin n k).objects
 
+-- a page that keeps nothing, where no object stands for a node
+pub empty_pages : (h : Objects) → ((root k i : ℕ) → Named h (facet_name root k) i → ⊥) → PagesAre h empty_world empty_page
+empty_pages h none = record {
+  cells = λ c. tt;
+  queues = λ m. tt;
+  nodes = λ root. refl;
+  within = λ root. tt;
+  facets = λ root k lt. absurd (omega (arith, lt));
+  as_many = λ root. refl;
+  known = λ root k i t. absurd (none root k i t);
+  handlers = λ root. tt;
+}
+
 pub page_corresponds : (n k : ℕ) → PagesAre (begun n k) empty_world empty_page
-page_corresponds n k = record { cells = λ c. tt; queues = λ m. tt }
+page_corresponds n k = empty_pages (begun n k) (λ root i j t. (cells_begin n k).nodes root i j t)

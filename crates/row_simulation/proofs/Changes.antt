@@ -13,10 +13,10 @@ use Rattle.es3_heap.specs.Properties.{find}
 use Rattle.es3_heap.specs.Making.{count_at, raised, named, is_untagged}
 use Rattle.es3_heap.proofs.Laws.{object_at-with_object}
 use Rattle.rows.specs.Rows as r
-use Rattle.cajita_meaning.specs.World.{Name, made_name, built_name, Object, World, with_list, with_last, with_made}
+use Rattle.cajita_meaning.specs.World.{Name, made_name, built_name, facet_name, Object, World, with_list, with_last, with_made}
 use Rattle.heap_rows.specs.Marks.{read_mark, set_mark}
 use Rattle.row_simulation.proofs.Names.{name_there, name_at, known_name, made_known}
-use Rattle.row_simulation.proofs.Relation.{Named, tag_of_name, Is, IsNamed, Stands, IsMarked, ObjectsAre, Keeps, named_keep}
+use Rattle.row_simulation.proofs.Relation.{Named, tag_of_name, Is, IsNamed, Stands, IsMarked, ObjectsAre, Keeps, NoNewNode, named_keep}
 
 -- lists
 
@@ -87,6 +87,9 @@ revised_keeps h n i o ps name there no_function = record {
   counted = λ m. omega arith;
   older = λ m k j t lt. sym (revised_tag h i j o ps there) ∙ t;
 }
+
+pub revised_no_node : (h : Objects) (i : ℕ) (o : heap.Object) (ps : List Property) → object_at h i ≡ Some o → NoNewNode h (revised h i o ps)
+revised_no_node h i o ps there = record { older = λ root k j t. sym (revised_tag h i j o ps there) ∙ t }
 
 -- the world's side
 
@@ -263,6 +266,14 @@ named_keeps h x by few = record {
   long = let l = length-append h.list (tagged x (tag.Made by (count_at (slice_get h.counts by))) ∷ []) in omega (arith, l);
   counted = λ m. grown h by m few;
   older = λ m k i t lt. cases_at h.list (tagged x (tag.Made by (count_at (slice_get h.counts by)))) i (λ q. heap.tag_of q ≡ tag.Made m k → Named h (made_name m k) i) (λ less f. f) (λ at f. absurd (next_number h by m k f lt)) (λ f. absurd (name_there (made_name m k) f)) t;
+}
+
+made_no_facet : (m n root k : ℕ) → tag.Made m n ≡ tag.Facet root k → ⊥
+made_no_facet m n root k e = cc
+
+pub named_no_node : (h : Objects) (x : heap.Object) (by : ℕ) → NoNewNode h (with_named h x by)
+named_no_node h x by = record {
+  older = λ root k i t. cases_at h.list (tagged x (tag.Made by (count_at (slice_get h.counts by)))) i (λ q. heap.tag_of q ≡ tag.Facet root k → Named h (facet_name root k) i) (λ less f. f) (λ at f. absurd (made_no_facet by (count_at (slice_get h.counts by)) root k f)) (λ f. absurd (name_there (facet_name root k) f)) t;
 }
 
 -- what stood there stands there

@@ -24,6 +24,7 @@ use Rattle.heap_rows.specs.Doing as es3
 use Rattle.row_simulation.specs.Correspond.{EsValue, Named, Val, Vals, IsRecord, IsFunction, Is, IsNamed, ObjectsAre, closing}
 use Rattle.row_simulation.specs.RowLaw.{Conversions, IsFirst, proto_above}
 use Rattle.row_simulation.proofs.Items.{array_items_are, closed_is}
+use Rattle.row_simulation.proofs.Relation.{facet_class}
 use Rattle.row_simulation.proofs.Sights.{seen_alike}
 
 -- named objects have no conversion of their own making, nor has a prototype below that of Object, whose conversions are the built-in ones: so no conversion runs code
@@ -108,7 +109,9 @@ named_plain objects h (cell_name k (suc l)) i c there is = function_plain h i c 
 named_plain objects h (own_name k l) i c there is = function_plain h i c r.simple there is.1.is
 named_plain objects h (built_name f) i c there is = function_plain h i c (sort_of f) there is.1.is
 named_plain objects h (tools_name t) i c there is = record_plain h i c true _ there is
-named_plain objects h (facet_name root k) i c there is = absurd is
+named_plain objects h (facet_name root k) i c there is =
+    let t : object_at h i ≡ Some (es3.facet_object root k) = there ∙ ap (λ o. let q : Option heap.Object = Some o in q) is in
+    record { up = proto.Node; above = ap (λ (o : heap.Object). o.proto) is; no_text = rw t refl; no_value = rw t refl }
 named_plain objects h (forward_name k l d e) i c there is = absurd is
 
 plainly : {first : Objects} {places : r.Native → ℕ} {m : ℕ} {objects : ℕ → List Object} {h : Objects} → IsFirst first → ObjectsAre first places objects h m → Plainly h
@@ -171,7 +174,7 @@ kind_same h w (cell_name k (suc l)) i c there is a b array = rw is.1.is.class re
 kind_same h w (own_name k l) i c there is a b array = rw is.1.is.class refl
 kind_same h w (built_name f) i c there is a b array = rw is.1.is.class refl
 kind_same h w (tools_name t) i c there is a b array = rw is.class refl
-kind_same h w (facet_name root k) i c there is a b array = absurd is
+kind_same h w (facet_name root k) i c there is a b array = rw (facet_class root k c is) refl
 kind_same h w (forward_name k l d e) i c there is a b array = absurd is
 
 text_same : {first : Objects} {places : r.Native → ℕ} {m : ℕ} {h : Objects} (n : ℕ) (w : World) → ObjectsAre first places w.objects h m → Plainly h → Texts (direct.text_within n w) (text_within n h) h

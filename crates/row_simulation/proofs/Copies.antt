@@ -17,7 +17,7 @@ use Rattle.heap_rows.specs.Marks.{read_mark, set_mark, frozen_mark}
 use Rattle.heap_rows.specs.Doing as es3
 use Rattle.heap_rows.specs.Doing.{guests}
 use Rattle.row_simulation.proofs.Keys.{apart, apart_too, hidden_read, hidden_set, read_frozen, set_frozen, set_mark_hidden}
-use Rattle.row_simulation.proofs.Relation.{EsValue, Val, PairsAre, Once, PropsAre, IsRecord, Is, IsNamed, ObjectsAre}
+use Rattle.row_simulation.proofs.Relation.{EsValue, Val, PairsAre, Once, PropsAre, IsRecord, Is, IsNamed, ObjectsAre, facet_class}
 use Rattle.row_simulation.specs.Among.{IsHandleAmong}
 use Rattle.row_simulation.proofs.Row.{by_value, handle_is, EndLaw}
 use Rattle.row_simulation.proofs.SetMarks.{all_stay}
@@ -108,7 +108,7 @@ copy_of {h = h} w o =
     by_name (own_name a b) i c there is = rw is.1.is.class (empty_props h)
     by_name (built_name f) i c there is = rw is.1.is.class (empty_props h)
     by_name (tools_name t) i c there is = of_record i true _ c there is
-    by_name (facet_name root k) i c there is = absurd is
+    by_name (facet_name root k) i c there is = rw (facet_class root k c is) (empty_props h)
     by_name (forward_name a b d e) i c there is = absurd is
 
 -- a copy has no mark but that of a frozen one: all attributes are plain, and those of a mark are hidden ones

@@ -20,10 +20,10 @@ use Rattle.heap_rows.specs.Doing as es3
 use Rattle.heap_rows.specs.Doing.{Told}
 use Rattle.row_simulation.proofs.Keys.{apart_too, hidden_read, hidden_set}
 use Rattle.row_simulation.proofs.Relation.{EsValue, Named, Val, Is, ObjectsAre, is_keep}
-use Rattle.row_simulation.proofs.Row.{ReplyIs, shown, shown-append, shown_gained, DoneIs, keeps_refl, objects_step, handle_is, handles_are, EndLaw}
+use Rattle.row_simulation.proofs.Row.{ReplyIs, shown, shown-append, shown_gained, DoneIs, EndIs, keeps_refl, no_node_refl, objects_step, handle_is, handles_are, EndLaw}
 use Rattle.row_simulation.specs.Among.{IsHandleAmong, AreHandlesAmong}
 use Rattle.row_simulation.specs.RowLaw.{IsFirst}
-use Rattle.row_simulation.proofs.Changes.{tagged, with_named, named_new, named_keeps, IsNew, room, objects_made}
+use Rattle.row_simulation.proofs.Changes.{tagged, with_named, named_new, named_keeps, named_no_node, IsNew, room, objects_made}
 
 -- what is told of what was got isn't printed
 
@@ -43,14 +43,17 @@ quiet z q y is e = shown-append z q ∙ rw (is, e) (append-nil y)
 
 -- nothing changes
 
+pub same_end : {first : Objects} {places : Native → ℕ} {m : ℕ} {h : Objects} {a : direct.Done} {b : Reply} {y : List Told} → DoneIs first places h m a (record { reply = b; heap = h; items = y }) → EndIs first places h m a (record { reply = b; heap = h; items = y })
+same_end d = record { done = d; no_node = no_node_refl }
+
 pub answers_law : {first : Objects} {places : Native → ℕ} (by : ℕ) (x : Handle) → IsHandleAmong x → EndLaw first places by (r.answers x)
-answers_law by x a s es w h z y m few p o is = record { reply = handle_is o x a s.values es p; objects = objects_step o; items = quiet z _ y is (shown_got by s x); keeps = keeps_refl }
+answers_law by x a s es w h z y m few p o is = same_end (record { reply = handle_is o x a s.values es p; objects = objects_step o; items = quiet z _ y is (shown_got by s x); keeps = keeps_refl })
 
 pub faults_law : {first : Objects} {places : Native → ℕ} (by : ℕ) (f : Fault) → EndLaw first places by (r.faults f)
-faults_law by f s es w h z y m few p o is = record { reply = refl; objects = objects_step o; items = is; keeps = keeps_refl }
+faults_law by f s es w h z y m few p o is = same_end (record { reply = refl; objects = objects_step o; items = is; keeps = keeps_refl })
 
 pub calls_law : {first : Objects} {places : Native → ℕ} (by : ℕ) (recorded : Bool) (f t : Handle) (xs : List Handle) → IsHandleAmong f × IsHandleAmong t × AreHandlesAmong xs → EndLaw first places by (r.calls recorded f t xs)
-calls_law by recorded f t xs a s es w h z y m few p o is = record { reply = (refl, handle_is o f a.0 s.values es p, handle_is o t a.1 s.values es p, handles_are o xs a.2 s.values es p); objects = objects_step o; items = quiet z _ y is (shown_all by s (f ∷ t ∷ xs)); keeps = keeps_refl }
+calls_law by recorded f t xs a s es w h z y m few p o is = same_end (record { reply = (refl, handle_is o f a.0 s.values es p, handle_is o t a.1 s.values es p, handles_are o xs a.2 s.values es p); objects = objects_step o; items = quiet z _ y is (shown_all by s (f ∷ t ∷ xs)); keeps = keeps_refl })
 
 -- a new object
 
@@ -60,15 +63,18 @@ is_tagged g (an_array frozen vs) x t p = record { class = p.class; no_call = p.n
 is_tagged g (a_closure f chain) x t p = record { class = p.class; proto = p.proto; kind = p.kind; no_text = p.no_text; no_value = p.no_value }
 is_tagged g (an_error maker message) x t p = record { class = p.class; no_call = p.no_call; proto = p.proto; has_name = p.has_name; has_message = p.has_message; no_text = p.no_text; no_value = p.no_value }
 
-pub makes_law : {first : Objects} {places : Native → ℕ} (by : ℕ) → by < 64 → (give : Value → direct.Outcome) (give' : EsValue → Reply) → ((g : Objects) (v : Value) (e : EsValue) → Val g v e → ReplyIs g (give v) (give' e)) → (o : Object) (x : heap.Object) (w : World) (h : Objects) (z : List direct.Item) (y : List Told) (m : ℕ) → suc m ≤ 4294967295 → IsNew first x → Is h o x → ObjectsAre first places w.objects h m → shown z ≡ y → DoneIs first places h m (direct.makes give by o w z) (es3.makes give' by x h y)
+pub makes_law : {first : Objects} {places : Native → ℕ} (by : ℕ) → by < 64 → (give : Value → direct.Outcome) (give' : EsValue → Reply) → ((g : Objects) (v : Value) (e : EsValue) → Val g v e → ReplyIs g (give v) (give' e)) → (o : Object) (x : heap.Object) (w : World) (h : Objects) (z : List direct.Item) (y : List Told) (m : ℕ) → suc m ≤ 4294967295 → IsNew first x → Is h o x → ObjectsAre first places w.objects h m → shown z ≡ y → EndIs first places h m (direct.makes give by o w z) (es3.makes give' by x h y)
 makes_law {first = first} {places = places} by below give give' reply o x w h z y m few new is old items =
     let g = with_named h x by in
     let keeps = named_keeps h x by (room by below few old) in
-    subst (λ q. DoneIs first places h m (direct.makes give by o w z) (record { reply = give' (es.Obj (length h.list)); heap = q; items = y })) (sym (named_new h x by new.bare)) (record {
-      reply = reply g (object (next_name by w)) (es.Obj (length h.list)) name;
-      objects = objects_made by w.objects below old o x few new (is_tagged g o x (tag.Made by (count_at (slice_get h.counts by))) (is_keep keeps o x is));
-      items = quiet z _ y items refl;
-      keeps = keeps;
+    subst (λ q. EndIs first places h m (direct.makes give by o w z) (record { reply = give' (es.Obj (length h.list)); heap = q; items = y })) (sym (named_new h x by new.bare)) (record {
+      no_node = named_no_node h x by;
+      done = record {
+        reply = reply g (object (next_name by w)) (es.Obj (length h.list)) name;
+        objects = objects_made by w.objects below old o x few new (is_tagged g o x (tag.Made by (count_at (slice_get h.counts by))) (is_keep keeps o x is));
+        items = quiet z _ y items refl;
+        keeps = keeps;
+      };
     })
   where
     last : {X : Type 0} (xs : List X) (q : X) → slice_get (xs ++ q ∷ []) (length xs) ≡ Some q

@@ -1,5 +1,5 @@
 -- What a row tells comes after what was told.
-use Rattle.std.proofs.Common.{◌≡◌, ℕ, Bool, true, false, List, [], ◌++◌, length, Result, Ok, Err, cond, refl, sym, ◌∙◌}
+use Rattle.std.proofs.Common.{◌≡◌, ℕ, Bool, true, false, List, [], ◌++◌, length, Option, Some, None, Result, Ok, Err, cond, refl, sym, ◌∙◌}
 use Rattle.std.specs.Prelude.{nat_lt}
 use Rattle.std.proofs.lemmas.List.{append-nil, append_assoc}
 use Rattle.plans.specs.Plans.{Fault}
@@ -53,6 +53,10 @@ result_grows : {A : Type 0} (a : Result A Fault) (w : World) (z : List direct.It
 result_grows (Ok x) w z go f = f x
 result_grows (Err k) w z go f = same_told z
 
+branch_grows : (o : Option direct.Around) (z : List direct.Item) (go : direct.Around → direct.Done) (other : direct.Done) → ((b : direct.Around) → Grows z (go b).items) → Grows z other.items → Grows z (direct.with_branch o go other).items
+branch_grows None z go other f g = g
+branch_grows (Some b) z go other f g = f b
+
 touched_first : (z a y : List direct.Item) → Grows (z ++ a) y → Grows z y
 touched_first z a y g = record { more = a ++ g.more; is = g.is ∙ append_assoc z a g.more }
 
@@ -64,4 +68,6 @@ does_grows by (r.as_number x go) s w z = result_grows (direct.number_of w (direc
 does_grows by (r.as_joined x sep go) s w z = result_grows (direct.joined_of w (direct.value_of s.values x) sep) w z (λ us. direct.does by (go us) s w z) (λ us. does_grows by (go us) s w z)
 does_grows by (r.as_same x y go) s w z = does_grows by (go _) s w z
 does_grows by (r.looks x go) s w z = does_grows by (go _) _ w z
+does_grows by (r.as_same_root x y go) s w z = does_grows by (go _) s w z
+does_grows by (r.branches x go other) s w z = branch_grows (direct.around w (length s.values) (direct.value_of s.values x)) z _ _ (λ b. does_grows by (go b.branch) _ w z) (does_grows by other s w z)
 does_grows by (r.touches t x k next) s w z = touched_first z _ _ (does_grows by next s w _)

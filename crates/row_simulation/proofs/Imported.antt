@@ -17,12 +17,13 @@ use Rattle.heap_rows.specs.Doing.{copied, record_object}
 use Rattle.heap_rows.specs.Opening.{first, place_of, place_of_tools, opened, own_function, with_module, begun, empty_page, fixed_values, with_imports, first_say, imports_id, opened_for_one}
 use Rattle.heap_rows.proofs.Made.{opened_long, begun_long}
 use Rattle.row_simulation.specs.RowLaw.{PagesAre}
+use Rattle.row_simulation.proofs.Row.{pages_keep}
 use Rattle.row_simulation.proofs.Frozen.{first_guest}
 use Rattle.row_simulation.proofs.Keys.{apart_too, hidden_read, hidden_set}
 use Rattle.row_simulation.proofs.Relation.{EsValue, Named, Val, Vals, PairsAre, ObjectsAre, Keeps}
 use Rattle.row_simulation.proofs.Changes.{IsNew, get-push}
-use Rattle.row_simulation.proofs.Added.{added_keeps, awaiting_keeps, objects_with}
-use Rattle.row_simulation.proofs.Begun.{own_unmade, proto_few, begun_corresponds}
+use Rattle.row_simulation.proofs.Added.{added_keeps, awaiting_keeps, awaiting_no_node, objects_with}
+use Rattle.row_simulation.proofs.Begun.{own_unmade, proto_few, begun_corresponds, page_corresponds}
 use Rattle.row_simulation.proofs.Opening.{natives_there, tools_there}
 
 -- pairs as the properties of an object
@@ -157,7 +158,8 @@ unfolding opened_for_one
 one_corresponds = imports_correspond empty_world.objects (begun 1 0) first_say (begun_corresponds 1 0)
 
 pub one_page : PagesAre opened_for_one empty_world empty_page
-one_page = record { cells = λ c. tt; queues = λ m. tt }
+unfolding opened_for_one
+one_page = pages_keep empty_world empty_world empty_page (awaiting_keeps (begun 1 0) (record_object (copied (fixed_values first_say))) refl) (awaiting_no_node (begun 1 0) (record_object (copied (fixed_values first_say))) refl) (refl, refl, refl, refl) (page_corresponds 1 0)
 
 one_found : (k : List ℕ) → Val opened_for_one (or_nothing (value_at k (fixed_imports 0))) (value_of (own opened_for_one imports_id k))
 unfolding opened_for_one

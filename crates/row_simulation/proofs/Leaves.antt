@@ -173,6 +173,10 @@ result_leaves : {A : Type 0} (a : Result A Fault) (w : World) (z : List direct.I
 result_leaves (Ok x) w z go f = f x
 result_leaves (Err k) w z go f = leaves_same w
 
+branch_leaves : (o : Option direct.Around) (w : World) (go : direct.Around → direct.Done) (other : direct.Done) → ((b : direct.Around) → Leaves w (go b).world) → Leaves w other.world → Leaves w (direct.with_branch o go other).world
+branch_leaves None w go other f g = g
+branch_leaves (Some b) w go other f g = f b
+
 pub does_leaves : (by : ℕ) (q : Row) (s : direct.Held) (w : World) (z : List direct.Item) → Leaves w (direct.does by q s w z).world
 does_leaves by (r.ends e) s w z = finish_leaves by e s w z
 does_leaves by (r.settles e) s w z = settle_leaves by e s w z
@@ -181,6 +185,8 @@ does_leaves by (r.as_number x go) s w z = result_leaves (direct.number_of w (dir
 does_leaves by (r.as_joined x sep go) s w z = result_leaves (direct.joined_of w (direct.value_of s.values x) sep) w z (λ us. direct.does by (go us) s w z) (λ us. does_leaves by (go us) s w z)
 does_leaves by (r.as_same x y go) s w z = does_leaves by (go _) s w z
 does_leaves by (r.looks x go) s w z = does_leaves by (go _) _ w z
+does_leaves by (r.as_same_root x y go) s w z = does_leaves by (go _) s w z
+does_leaves by (r.branches x go other) s w z = branch_leaves (direct.around w (length s.values) (direct.value_of s.values x)) w _ _ (λ b. does_leaves by (go b.branch) _ w z) (does_leaves by other s w z)
 does_leaves by (r.touches t x k next) s w z = does_leaves by next s w _
 
 pub does_scopes : (by : ℕ) (q : Row) (s : direct.Held) (w : World) (z : List direct.Item) → (direct.does by q s w z).world.scopes ≡ w.scopes

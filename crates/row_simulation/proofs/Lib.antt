@@ -10,6 +10,13 @@ pub mod Row
 pub mod Changes
 pub mod Added
 pub mod Naming
+pub mod Fresh
+pub mod Within
+pub mod Around
+pub mod Nodes
+pub mod SameRoot
+pub mod Roots
+pub mod Law
 pub mod Quiet
 pub mod Ends
 pub mod Writes

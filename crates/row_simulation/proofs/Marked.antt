@@ -13,7 +13,7 @@ use Rattle.cajita_meaning.specs.Doing as direct
 use Rattle.heap_rows.specs.Marks.{read_mark}
 use Rattle.heap_rows.specs.Doing.{guests}
 use Rattle.row_simulation.proofs.Keys.{apart}
-use Rattle.row_simulation.proofs.Relation.{Named, Val, PairsAre, IsRecord, Is, IsNamed, IsMarked, ObjectsAre}
+use Rattle.row_simulation.proofs.Relation.{Named, Val, PairsAre, IsRecord, Is, IsNamed, IsMarked, ObjectsAre, facet_class}
 
 -- no prototype has a mark, so a mark is found on the object itself
 
@@ -103,7 +103,7 @@ record_at {h = h} w a n i named plain =
     of_name (own_name b c) stored there plain is = cc (sym plain ∙ is.1.is.class)
     of_name (built_name f) stored there plain is = cc (sym plain ∙ is.1.is.class)
     of_name (tools_name t) stored there plain is = record { frozen = true; pairs = _; seen = λ j. refl; stored = stored; there = there; is = is; open_one = λ e. cc }
-    of_name (facet_name root k) stored there plain is = absurd is
+    of_name (facet_name root k) stored there plain is = cc (sym plain ∙ facet_class root k stored is)
     of_name (forward_name b c d e) stored there plain is = absurd is
 
 -- an object on which the mark for reading a key is found: its property is the value of that key

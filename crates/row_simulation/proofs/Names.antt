@@ -14,12 +14,10 @@ use Rattle.row_simulation.specs.Correspond.{tag_of_name, IsNamed}
 
 -- names that are among objects
 abbrev pub IsAmong : Name → Type 0
-IsAmong (facet_name root k) = ⊥
 IsAmong (forward_name m p c i) = ⊥
 IsAmong n = Unit {0}
 
 pub among : (objects : ℕ → List Object) (h : Objects) (n : Name) (o : heap.Object) → IsNamed objects h n o → IsAmong n
-among objects h (facet_name root k) o is = absurd is
 among objects h (forward_name m p c i) o is = absurd is
 among objects h n o is = tt
 
@@ -31,6 +29,7 @@ code_of_tag (tag.Cell c i) = 1 ∷ c ∷ i ∷ []
 code_of_tag (tag.Own m i) = 2 ∷ m ∷ i ∷ []
 code_of_tag (tag.Built n) = cond (nat_lt n 2) (4 ∷ n ∷ []) (3 ∷ n ∷ [])
 code_of_tag (tag.Service k) = 3 ∷ 58 ∷ k ∷ []
+code_of_tag (tag.Facet root k) = 5 ∷ root ∷ k ∷ []
 code_of_tag t = []
 
 pub native_back : (f : r.Native) → code_of_tag (tag_of_native f) ≡ 3 ∷ code_of f
@@ -44,7 +43,6 @@ unfolding code_of_tag
 code_back (built_name f) is = native_back f
 code_back (tools_name of_cajita) is = refl
 code_back (tools_name of_math) is = refl
-code_back (facet_name root k) is = absurd is
 code_back (forward_name m p c i) is = absurd is
 code_back (cell_name c zero) is = refl
 code_back n is = refl
@@ -57,13 +55,13 @@ tag_of (suc zero ∷ c ∷ i ∷ []) = tag.Cell c i
 tag_of (suc (suc zero) ∷ m ∷ i ∷ []) = tag.Own m i
 tag_of (suc (suc (suc zero)) ∷ rest) = tag_of_code rest
 tag_of (suc (suc (suc (suc zero))) ∷ n ∷ []) = tag.Built n
+tag_of (suc (suc (suc (suc (suc zero)))) ∷ root ∷ k ∷ []) = tag.Facet root k
 tag_of c = tag.None
 
 tag_forth : (n : Name) → IsAmong n → tag_of (name_code n) ≡ tag_of_name n
 unfolding tag_of
 tag_forth (tools_name of_cajita) is = refl
 tag_forth (tools_name of_math) is = refl
-tag_forth (facet_name root k) is = absurd is
 tag_forth (forward_name m p c i) is = absurd is
 tag_forth (cell_name c zero) is = refl
 tag_forth n is = refl
@@ -86,7 +84,7 @@ name_there (tools_name of_cajita) e = cc
 name_there (tools_name of_math) e = cc
 name_there n e = cc
 
--- names of objects that may change are known by their tags
+-- names of objects that may change, and those of nodes, are known by their tags
 
 name_of_number : ℕ → Option Name
 name_of_number zero = Some (tools_name of_cajita)
@@ -97,6 +95,7 @@ pub name_at : Tag → Option Name
 name_at (tag.Made m n) = Some (made_name m n)
 name_at (tag.Cell c i) = Some (cell_name c i)
 name_at (tag.Own m i) = Some (own_name m i)
+name_at (tag.Facet root k) = Some (facet_name root k)
 name_at (tag.Built n) = name_of_number n
 name_at t = None
 
@@ -114,7 +113,6 @@ unfolding name_at name_of_number
 name_back (built_name f) n e = absurd (none-some n (sym (native_unknown f) ∙ e))
 name_back (tools_name of_cajita) n e = some_name _ n e
 name_back (tools_name of_math) n e = some_name _ n e
-name_back (facet_name root k) n e = absurd (none-some n e)
 name_back (forward_name m p c i) n e = absurd (none-some n e)
 name_back k n e = some_name k n e
 
@@ -138,3 +136,7 @@ pub tools_known : (t : Tools) → name_at (tag_of_name (tools_name t)) ≡ Some 
 unfolding name_at name_of_number
 tools_known of_cajita = refl
 tools_known of_math = refl
+
+pub facet_known : (root k : ℕ) → name_at (tag_of_name (facet_name root k)) ≡ Some (facet_name root k)
+unfolding name_at
+facet_known root k = refl

@@ -10,10 +10,10 @@ use Rattle.es3_heap.specs.Objects.{Objects, object_at}
 use Rattle.es3_heap.specs.Properties.{find}
 use Rattle.es3_heap.specs.Making.{count_at, raised}
 use Rattle.rows.specs.Rows as r
-use Rattle.cajita_meaning.specs.World.{Name, made_name, built_name, Object, with_last}
+use Rattle.cajita_meaning.specs.World.{Name, made_name, built_name, facet_name, Object, with_last}
 use Rattle.heap_rows.specs.Marks.{read_mark, set_mark}
 use Rattle.row_simulation.proofs.Names.{name_there, known_name, made_known}
-use Rattle.row_simulation.proofs.Relation.{Named, tag_of_name, Is, Stands, IsMarked, ObjectsAre, Keeps, StillNamed, named_still}
+use Rattle.row_simulation.proofs.Relation.{Named, tag_of_name, Is, Stands, IsMarked, ObjectsAre, Keeps, NoNewNode, StillNamed, named_still}
 use Rattle.row_simulation.proofs.Changes.{get-set, get-set-other, get-push, by_number, tagged, last_there, last_other, next_number, grown, IsNew, named_grown}
 
 -- another object at a place, with the next name of a module
@@ -51,6 +51,16 @@ module _ (h : Objects) (i : ℕ) (was x : heap.Object) (by : ℕ) (there : objec
     older = λ m n j t lt. by_number j i (Named a (made_name m n) j)
         (λ same. absurd (next_number h by m n (sym (ap heap.tag_of (ap (object_at g) same ∙ where_named)) ∙ t) (let c = k.counted m in omega (arith, lt, c))))
         (λ ne. k.older m n j (sym (ap heap.tag_of (where_other j ne)) ∙ t) lt);
+  }
+
+  made_no_facet : (m n root k : ℕ) → tag.Made m n ≡ tag.Facet root k → ⊥
+  made_no_facet m n root k e = cc
+
+  pub where_no_node : {a : Objects} → NoNewNode a h → NoNewNode a (named_where h i x by)
+  where_no_node {a = a} o = record {
+    older = λ root k j t. by_number j i (Named a (facet_name root k) j)
+        (λ same. absurd (made_no_facet by (count_at (slice_get h.counts by)) root k (sym (ap heap.tag_of (ap (object_at g) same ∙ where_named)) ∙ t)))
+        (λ ne. o.older root k j (sym (ap heap.tag_of (where_other j ne)) ∙ t));
   }
 
   module _ {first : Objects} {places : r.Native → ℕ} {m : ℕ} (objects : ℕ → List Object) (o : Object) (below : by < 64) (large : length first.list ≤ i) (few : suc m ≤ 4294967295) (old : ObjectsAre first places objects h m) (new : IsNew first x) (is : Is (named_where h i x by) o (tagged x (tag.Made by (count_at (slice_get h.counts by))))) where

@@ -186,7 +186,7 @@ native_named f common (cell_name a (suc b)) e = let x : 3 ∷ code_of f ≡ 1 �
 native_named f common (own_name a b) e = let x : 3 ∷ code_of f ≡ 2 ∷ a ∷ b ∷ [] = sym (native_back f) ∙ ap code_of_tag e in let y : 3 ≡ 2 = ap (λ l. get_or l 0 9) x in absurd (omega (arith, y))
 native_named f common (tools_name of_cajita) e = let x : 3 ∷ code_of f ≡ 4 ∷ 0 ∷ [] = sym (native_back f) ∙ ap code_of_tag e in let y : 3 ≡ 4 = ap (λ l. get_or l 0 9) x in absurd (omega (arith, y))
 native_named f common (tools_name of_math) e = let x : 3 ∷ code_of f ≡ 4 ∷ 1 ∷ [] = sym (native_back f) ∙ ap code_of_tag e in let y : 3 ≡ 4 = ap (λ l. get_or l 0 9) x in absurd (omega (arith, y))
-native_named f common (facet_name a b) e = let x : 3 ∷ code_of f ≡ [] = sym (native_back f) ∙ ap code_of_tag e in let y : 3 ≡ 9 = ap (λ l. get_or l 0 9) x in absurd (omega (arith, y))
+native_named f common (facet_name a b) e = let x : 3 ∷ code_of f ≡ 5 ∷ a ∷ b ∷ [] = sym (native_back f) ∙ ap code_of_tag e in let y : 3 ≡ 5 = ap (λ l. get_or l 0 9) x in absurd (omega (arith, y))
 native_named f common (forward_name a b c d) e = let x : 3 ∷ code_of f ≡ [] = sym (native_back f) ∙ ap code_of_tag e in let y : 3 ≡ 9 = ap (λ l. get_or l 0 9) x in absurd (omega (arith, y))
 
 tools_named : (t : Tools) (n : Name) → tag_of_tools t ≡ tag_of_name n → IsNamed empty_world.objects opened n (tools_object t)
@@ -277,6 +277,11 @@ no_own m i j e = let at : 0 ≡ j = one_at (own_name m i) j e in unnamed_first j
 pub no_cell : (c i j : ℕ) → Named opened (cell_name c i) j → ⊥
 unfolding spot
 no_cell c i j e = let at : 0 ≡ j = one_at (cell_name c i) j e in unnamed_first j (cell_name c i) (omega (arith, at)) e
+
+-- nor is there a node
+pub no_facet : (root k j : ℕ) → Named opened (facet_name root k) j → ⊥
+unfolding spot
+no_facet root k j e = let at : 0 ≡ j = one_at (facet_name root k) j e in unnamed_first j (facet_name root k) (omega (arith, at)) e
 
 pub opened_corresponds : ObjectsAre first place_of empty_world.objects opened 0
 opened_corresponds = record {

@@ -12,11 +12,11 @@ use Rattle.es3_heap.specs.Objects.{Property, Objects, replaced}
 use Rattle.es3_heap.specs.Properties.{own, put, can_put, find, lengthened, written, with_props}
 use Rattle.es3_objects.proofs.Laws.{find-written-other}
 use Rattle.rows.specs.Rows as r
-use Rattle.cajita_meaning.specs.World.{Name, built_name, Object}
+use Rattle.cajita_meaning.specs.World.{Name, built_name, facet_name, Object}
 use Rattle.heap_rows.specs.Marks.{read_mark, set_mark}
 use Rattle.row_simulation.specs.Correspond.{IsPlain}
 use Rattle.row_simulation.proofs.Names.{name_there}
-use Rattle.row_simulation.proofs.Relation.{Named, IsMarked, ObjectsAre, Keeps, named_keep}
+use Rattle.row_simulation.proofs.Relation.{Named, IsMarked, ObjectsAre, Keeps, NoNewNode, named_keep}
 use Rattle.row_simulation.proofs.Changes.{by_number, get-set, get-set-other}
 
 -- it has other values now, and no other keys
@@ -122,6 +122,9 @@ quiet_keeps {h = h} {g = g} q = record {
   counted = λ m. let e = ap (λ cs. Rattle.es3_heap.specs.Making.count_at (slice_get cs m)) q.counts in omega (arith, e);
   older = λ m k i t lt. named_back q (Rattle.cajita_meaning.specs.World.made_name m k) i t;
 }
+
+pub quiet_no_node : {first h g : Objects} → Quiet first h g → NoNewNode h g
+quiet_no_node q = record { older = λ root k i t. named_back q (facet_name root k) i t }
 
 marked_after : {first h g : Objects} (q : Quiet first h g) (i : ℕ) → IsMarked h i → IsMarked g i
 marked_after q i m = let same = named_same q m.name i m.named in record { name = m.name; named = ap heap.tag_of same ∙ m.named; class = ap heap.class_of same ∙ m.class }

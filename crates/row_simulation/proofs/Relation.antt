@@ -1,10 +1,12 @@
 -- What persists of values, properties and objects that correspond.
-use Rattle.std.proofs.Common.{List, [], ◌∷◌, ℕ, zero, suc, Bool}
+use Rattle.std.proofs.Common.{◌≡◌, List, [], ◌∷◌, ℕ, zero, suc, Bool, ap}
 use Rattle.es3_objects.specs.declared.value.Value.TheVariants as es
+use Rattle.es3_objects.specs.declared.value.Class.TheVariants as class
 use Rattle.es3_heap.specs.Objects as heap
 use Rattle.es3_heap.specs.Objects.{Property, Objects}
 use Rattle.cajita_meaning.specs.World.{Value, undefined, null, truth, number, text, object, Pairs, Object, a_record, an_array, a_closure, an_error, Name, made_name, cell_name, own_name, built_name, tools_name, facet_name, forward_name}
-pub use Rattle.row_simulation.specs.Correspond.{EsValue, tag_of_name, Named, Val, Vals, PairsAre, Once, PropsAre, IsRecord, closing, IsArray, IsFunction, IsNative, value_is, IsError, Is, IsMade, IsNamed, Stands, IsMarked, ObjectsAre, Keeps}
+use Rattle.heap_rows.specs.Doing.{facet_object}
+pub use Rattle.row_simulation.specs.Correspond.{EsValue, tag_of_name, Named, Val, Vals, PairsAre, Once, PropsAre, IsRecord, closing, IsArray, IsFunction, IsNative, value_is, IsError, Is, IsMade, IsNamed, Stands, IsMarked, ObjectsAre, Keeps, NoNewNode}
 
 -- names of objects are still theirs
 pub record StillNamed (a b : Objects) : Type 0 where
@@ -51,8 +53,12 @@ named_still objects k (cell_name c (suc i)) o p = p
 named_still objects k (own_name m i) o p = p
 named_still objects k (built_name f) o p = p
 named_still objects k (tools_name t) o p = record_still k p
-named_still objects k (facet_name root i) o p = absurd p
+named_still objects k (facet_name root i) o p = p
 named_still objects k (forward_name m p c i) o q = absurd q
+
+-- the object of a node is of its class
+pub facet_class : (root k : ℕ) (o : heap.Object) → o ≡ facet_object root k → o.class ≡ class.Node
+facet_class root k o is = ap (λ (o : heap.Object). o.class) is
 
 -- so where all persists
 

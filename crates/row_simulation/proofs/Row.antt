@@ -1,10 +1,8 @@
--- What a row does in a world, it does among the objects of ES3: one law for all rows, over the laws of the ends.
-use Rattle.std.proofs.Common.{◌≡◌, ℕ, zero, suc, ◌≤◌, Bool, true, false, List, [], ◌∷◌, ◌++◌, length, Option, Some, None, Result, Ok, Err, cond, refl, sym, ap, ◌∙◌, subst, arith}
+-- What persists where a row ends: values in hand, what is told, and what the page keeps.
+use Rattle.std.proofs.Common.{◌≡◌, ℕ, zero, suc, Bool, true, false, List, [], ◌∷◌, ◌++◌, length, Option, Some, None, cond, refl, sym, ap, ◌∙◌, subst, arith}
 use Rattle.std.specs.Prelude.{slice_get, map, ℤ, nat_eq, nat_lt}
 use Rattle.std.specs.Cmp.Lexicographic.{same_text}
-use Rattle.std.proofs.lemmas.List.{append-nil}
 use Rattle.std.proofs.lemmas.Bool.Decides.{nat_tests}
-use Rattle.plans.specs.Plans.{Fault}
 use Rattle.page_deeds.specs.Shown.{end_renamed}
 use Rattle.caja_units.specs.Units.{same_units}
 use Rattle.es3_objects.specs.declared.value.Value.TheVariants as es
@@ -15,19 +13,17 @@ use Rattle.es3_heap.specs.Objects.{Objects}
 use Rattle.es3_objects.proofs.Keys.{same_key-refl}
 use Rattle.es3_convert.specs.Comparisons.{strictly_equal}
 use Rattle.rows.specs.Rows as r
-use Rattle.rows.specs.Rows.{Row, Ending, Handle, Native}
+use Rattle.rows.specs.Rows.{Ending, Handle, Native}
 use Rattle.rows.specs.Names.{is_of_text, code_of}
-use Rattle.cajita_meaning.specs.World.{Name, made_name, cell_name, own_name, built_name, tools_name, forward_name, name_code, Value, undefined, null, truth, number, text, object, Object, World}
+use Rattle.cajita_meaning.specs.World.{Name, made_name, cell_name, own_name, built_name, tools_name, facet_name, forward_name, name_code, Value, undefined, null, truth, number, text, object, Object, Handler, World}
 use Rattle.cajita_meaning.specs.Doing as direct
 use Rattle.heap_rows.specs.Natives.{is_common, tag_of_code}
 use Rattle.heap_rows.specs.Doing as es3
-use Rattle.heap_rows.specs.Doing.{Told}
-use Rattle.row_simulation.specs.Among.{IsHandleAmong, AreHandlesAmong, IsEndAmong, IsSettlingAmong, IsAmongObjects}
+use Rattle.row_simulation.specs.Among.{IsHandleAmong, AreHandlesAmong}
 use Rattle.row_simulation.proofs.Keys.{not_true}
 use Rattle.row_simulation.proofs.Names.{among, same_tag, same_code, name_there}
-use Rattle.row_simulation.proofs.Relation.{EsValue, tag_of_name, Named, Val, Vals, ObjectsAre, Keeps, val_keep, vals_keep}
-use Rattle.row_simulation.proofs.Sights.{seen_alike, seen_among}
-pub use Rattle.row_simulation.specs.RowLaw.{ReplyIs, shown, DoneIs, Conversions, EndLaw, PagesAre, CameIs}
+use Rattle.row_simulation.proofs.Relation.{EsValue, tag_of_name, Named, Val, Vals, ObjectsAre, Keeps, NoNewNode, val_keep, vals_keep}
+pub use Rattle.row_simulation.specs.RowLaw.{ReplyIs, shown, DoneIs, EndIs, Conversions, EndLaw, HandlersAre, PagesAre, CameIs}
 
 -- values that correspond, by their kinds
 pub by_value : (h : Objects) (P : Value → EsValue → Type 0) → P undefined es.Undefined → P null es.Null → ((a : Bool) → P (truth a) (es.Bool a)) → ((n : ℤ) → P (number n) (es.Num n)) → ((us : List ℕ) → P (text us) (es.Text us)) → ((n : Name) (i : ℕ) → Named h n i → P (object n) (es.Obj i)) → (v : Value) (e : EsValue) → Val h v e → P v e
@@ -39,17 +35,11 @@ by_value h P a b c d f g (text x) (es.Text y) p = subst (λ z. P (text x) (es.Te
 by_value h P a b c d f g (object n) (es.Obj i) p = g n i p
 by_value h P a b c d f g _ _ p = absurd p
 
--- the law of a row, where conversions are the same
-abbrev pub RowGoes : Objects → (Native → ℕ) → ℕ → Row → Type 0
-RowGoes first places by q =
-    (s : direct.Held) (es : List EsValue) (w : World) (h : Objects) (g : es3.Page) (z : List direct.Item) (y : List Told) (m : ℕ) → suc m ≤ 4294967295
-    → Vals h s.values es → ObjectsAre first places w.objects h m → PagesAre h w g → Conversions w h → shown z ≡ y
-    → CameIs first places h m (direct.does by q s w z) (es3.does places by q es h g y)
-
 pub shown-append : (a b : List direct.Item) → shown (a ++ b) ≡ shown a ++ shown b
 shown-append [] b = refl
 shown-append (direct.touched m t n k ∷ a) b = ap (λ l. es3.touched m t (tag_of_name n) k ∷ l) (shown-append a b)
 shown-append (direct.said m us ∷ a) b = ap (λ l. es3.said m us ∷ l) (shown-append a b)
+shown-append (direct.changed_node root k c ∷ a) b = ap (λ l. es3.changed_node root k c ∷ l) (shown-append a b)
 shown-append (direct.ended l e ∷ a) b = ap (λ x. es3.ended l (end_renamed tag_of_name e) ∷ x) (shown-append a b)
 shown-append (i ∷ a) b = shown-append a b
 
@@ -66,6 +56,12 @@ keeps_trans p q = record {
   counted = λ m. let x = p.counted m in let y = q.counted m in omega (arith, x, y);
   older = λ m k i t lt. p.older m k i (q.older m k i t (let x = p.counted m in omega (arith, lt, x))) lt;
 }
+
+pub no_node_refl : {h : Objects} → NoNewNode h h
+no_node_refl = record { older = λ root k i t. t }
+
+pub no_node_trans : {a b c : Objects} → NoNewNode a b → NoNewNode b c → NoNewNode a c
+no_node_trans p q = record { older = λ root k i t. p.older root k i (q.older root k i t) }
 
 pub objects_step : {first : Objects} {places : Native → ℕ} {objects : ℕ → List Object} {h : Objects} {m : ℕ} → ObjectsAre first places objects h m → ObjectsAre first places objects h (suc m)
 objects_step o = record { each = o.each; once = o.once; natives = o.natives; reads = o.reads; sets = o.sets; above = o.above; count = o.count; few = λ n. let f = o.few n in omega (arith, f); opened = o.opened; unnamed = o.unnamed; large = o.large }
@@ -125,37 +121,52 @@ touch_is h by t way k = by_value h (λ v e. shown (direct.touching by t way v k)
 
 -- no other end changes what the page keeps
 
-abbrev SamePage : World → World → Type 0
-SamePage a b = (a.cells ≡ b.cells) × (a.queues ≡ b.queues)
+abbrev pub SamePage : World → World → Type 0
+SamePage a b = (a.cells ≡ b.cells) × (a.queues ≡ b.queues) × (a.nodes ≡ b.nodes) × (a.handlers ≡ b.handlers)
 
 changed_page : (f : Object → Object) (v : Value) (w : World) → SamePage (direct.changed f v w) w
 changed_page f (object (made_name a b)) w = at (slice_get (w.objects a) b)
   where
     at : (o : Option Object) → SamePage (direct.changed_object f a b o w) w
-    at None = (refl, refl)
-    at (Some o) = (refl, refl)
-changed_page f v w = (refl, refl)
+    at None = (refl, refl, refl, refl)
+    at (Some o) = (refl, refl, refl, refl)
+changed_page f v w = (refl, refl, refl, refl)
 
 long_page : (b : Bool) (d : direct.Done) (w : World) (z : List direct.Item) → SamePage d.world w → SamePage (cond b d (direct.too_long w z)).world w
 long_page true d w z p = p
-long_page false d w z p = (refl, refl)
+long_page false d w z p = (refl, refl, refl, refl)
 
-finish_page : (by : ℕ) (e : Ending) (s : direct.Held) (w : World) (z : List direct.Item) → SamePage (direct.finish by e s w z).world w
-finish_page by (r.lists ks) s w z = long_page (nat_lt (length ks) r.most_items) _ w z (refl, refl)
-finish_page by (r.makes_array frozen xs) s w z = long_page (nat_lt (length xs) r.most_items) _ w z (refl, refl)
+pub finish_page : (by : ℕ) (e : Ending) (s : direct.Held) (w : World) (z : List direct.Item) → SamePage (direct.finish by e s w z).world w
+finish_page by (r.lists ks) s w z = long_page (nat_lt (length ks) r.most_items) _ w z (refl, refl, refl, refl)
+finish_page by (r.makes_array frozen xs) s w z = long_page (nat_lt (length xs) r.most_items) _ w z (refl, refl, refl, refl)
 finish_page by (r.writes_key o k x) s w z = changed_page (direct.with_key k (direct.value_of s.values x)) (direct.value_of s.values o) w
 finish_page by (r.drops_key o k) s w z = changed_page (direct.without_key k) (direct.value_of s.values o) w
 finish_page by (r.sets_items o xs x) s w z = long_page (nat_lt (length xs) r.most_items) _ w z (changed_page (direct.with_items (map (direct.value_of s.values) xs)) (direct.value_of s.values o) w)
 finish_page by (r.freezes o) s w z = changed_page direct.as_frozen (direct.value_of s.values o) w
-finish_page by e s w z = (refl, refl)
+finish_page by e s w z = (refl, refl, refl, refl)
 
-pages_keep : {h h' : Objects} (w w' : World) (g : es3.Page) → Keeps h h' → SamePage w' w → PagesAre h w g → PagesAre h' w' g
-pages_keep {h' = h'} w w' g k e p = record { cells = λ c. subst (λ f. Val h' (f c) (g.cells c)) (sym e.0) (val_keep k _ _ (p.cells c)); queues = λ m. subst (λ f. Vals h' (f m) (g.queues m)) (sym e.1) (vals_keep k _ _ (p.queues m)) }
+pub handlers_keep : {h h' : Objects} → Keeps h h' → (xs : List Handler) (ys : List es3.Handler) → HandlersAre h xs ys → HandlersAre h' xs ys
+handlers_keep k [] [] p = tt
+handlers_keep k (x ∷ xs) (y ∷ ys) p = (record { on = p.0.on; what = p.0.what; does = val_keep k x.does y.does p.0.does }, handlers_keep k xs ys p.1)
+handlers_keep k _ _ p = absurd p
+
+-- what the page keeps corresponds where all persists and no node is made
+pub pages_keep : {h h' : Objects} (w w' : World) (g : es3.Page) → Keeps h h' → NoNewNode h h' → SamePage w' w → PagesAre h w g → PagesAre h' w' g
+pages_keep {h' = h'} w w' g k o e p = record {
+  cells = λ c. subst (λ f. Val h' (f c) (g.cells c)) (sym e.0) (val_keep k _ _ (p.cells c));
+  queues = λ m. subst (λ f. Vals h' (f m) (g.queues m)) (sym e.1) (vals_keep k _ _ (p.queues m));
+  nodes = λ root. ap (λ f. f root) e.2 ∙ p.nodes root;
+  within = p.within;
+  facets = λ root j lt. val_keep k (object (facet_name root j)) (es3.facet_at (g.facets root) j) (p.facets root j lt);
+  as_many = p.as_many;
+  known = λ root j i t. p.known root j i (o.older root j i t);
+  handlers = λ root. subst (λ f. HandlersAre h' (f root) (g.handlers root)) (sym e.3) (handlers_keep k (w.handlers root) (g.handlers root) (p.handlers root));
+}
 
 -- the ends that do
 
 module _ {first : Objects} {places : Native → ℕ} {m : ℕ} (h : Objects) (w : World) (g : es3.Page) (o : ObjectsAre first places w.objects h m) (p : PagesAre h w g) where
-  kept_is : (v : Value) (e : EsValue) → Val h v e → Val h (direct.kept_in v w) (es3.kept_by (es3.named h e) g)
+  pub kept_is : (v : Value) (e : EsValue) → Val h v e → Val h (direct.kept_in v w) (es3.kept_by (es3.named h e) g)
   kept_is = by_value h (λ v e. Val h (direct.kept_in v w) (es3.kept_by (es3.named h e) g)) tt tt (λ a. tt) (λ n. tt) (λ us. tt) (λ n i q. rw q (by_name n i q))
     where
       by_code : (c : List ℕ) → Val h undefined (es3.kept_by (tag_of_code c) g)
@@ -177,7 +188,7 @@ module _ {first : Objects} {places : Native → ℕ} {m : ℕ} (h : Objects) (w 
     val_if true v e q = t
     val_if false v e q = q
 
-    keeping_is : (v : Value) (e : EsValue) → Val h v e → PagesAre h (direct.keeping v u w) (es3.keeping_by (es3.named h e) f g)
+    pub keeping_is : (v : Value) (e : EsValue) → Val h v e → PagesAre h (direct.keeping v u w) (es3.keeping_by (es3.named h e) f g)
     keeping_is = by_value h (λ v e. PagesAre h (direct.keeping v u w) (es3.keeping_by (es3.named h e) f g)) p p (λ a. p) (λ n. p) (λ us. p) (λ n i q. rw q (by_name n i q))
       where
         by_code : (c : List ℕ) → PagesAre h w (es3.keeping_by (tag_of_code c) f g)
@@ -187,7 +198,7 @@ module _ {first : Objects} {places : Native → ℕ} {m : ℕ} (h : Objects) (w 
         by_code (n ∷ k ∷ j ∷ c) = p
 
         by_name : (n : Name) (i : ℕ) → Named h n i → PagesAre h (direct.keeping (object n) u w) (es3.keeping_by (tag_of_name n) f g)
-        by_name (cell_name a b) i q = record { cells = λ c. val_if (nat_eq c a) (w.cells c) (g.cells c) (p.cells c); queues = p.queues }
+        by_name (cell_name a b) i q = record { cells = λ c. val_if (nat_eq c a) (w.cells c) (g.cells c) (p.cells c); queues = p.queues; nodes = p.nodes; within = p.within; facets = p.facets; as_many = p.as_many; known = p.known; handlers = p.handlers }
         by_name (built_name k) i q = by_code (code_of k)
         by_name (forward_name a b c d) i q = absurd (o.each (forward_name a b c d) i q).is
         by_name (tools_name Rattle.rows.specs.Names.of_cajita) i q = p
@@ -198,7 +209,7 @@ module _ {first : Objects} {places : Native → ℕ} {m : ℕ} (h : Objects) (w 
     vals_if true vs us es fs a b = a
     vals_if false vs us es fs a b = b
 
-    queueing_is : (v : Value) (e : EsValue) → Val h v e → PagesAre h (direct.queueing v u w) (es3.queueing_by (es3.named h e) f g)
+    pub queueing_is : (v : Value) (e : EsValue) → Val h v e → PagesAre h (direct.queueing v u w) (es3.queueing_by (es3.named h e) f g)
     queueing_is = by_value h (λ v e. PagesAre h (direct.queueing v u w) (es3.queueing_by (es3.named h e) f g)) p p (λ a. p) (λ n. p) (λ us. p) (λ n i q. rw q (by_name n))
       where
         by_code : (c : List ℕ) → PagesAre h w (es3.queueing_by (tag_of_code c) f g)
@@ -208,13 +219,13 @@ module _ {first : Objects} {places : Native → ℕ} {m : ℕ} (h : Objects) (w 
         by_code (n ∷ k ∷ j ∷ c) = p
 
         by_name : (n : Name) → PagesAre h (direct.queueing (object n) u w) (es3.queueing_by (tag_of_name n) f g)
-        by_name (own_name a b) = record { cells = p.cells; queues = λ m. vals_if (nat_eq m a) (w.queues a ++ u ∷ []) (w.queues m) (g.queues a ++ f ∷ []) (g.queues m) (vals_append h (w.queues a) (u ∷ []) (g.queues a) (f ∷ []) (p.queues a) (t, tt)) (p.queues m) }
+        by_name (own_name a b) = record { cells = p.cells; queues = λ m. vals_if (nat_eq m a) (w.queues a ++ u ∷ []) (w.queues m) (g.queues a ++ f ∷ []) (g.queues m) (vals_append h (w.queues a) (u ∷ []) (g.queues a) (f ∷ []) (p.queues a) (t, tt)) (p.queues m); nodes = p.nodes; within = p.within; facets = p.facets; as_many = p.as_many; known = p.known; handlers = p.handlers }
         by_name (built_name k) = by_code (code_of k)
         by_name (tools_name Rattle.rows.specs.Names.of_cajita) = p
         by_name (tools_name Rattle.rows.specs.Names.of_math) = p
         by_name n = p
 
-saying_is : (h : Objects) (us : List ℕ) (v : Value) (e : EsValue) → Val h v e → shown (direct.saying v us) ≡ es3.saying_by (es3.named h e) us
+pub saying_is : (h : Objects) (us : List ℕ) (v : Value) (e : EsValue) → Val h v e → shown (direct.saying v us) ≡ es3.saying_by (es3.named h e) us
 saying_is h us = by_value h (λ v e. shown (direct.saying v us) ≡ es3.saying_by (es3.named h e) us) refl refl (λ a. refl) (λ n. refl) (λ us. refl) (λ n i q. rw q (by_name n))
   where
     by_code : (c : List ℕ) → [] ≡ es3.saying_by (tag_of_code c) us
@@ -244,34 +255,13 @@ pub shown_handed : (by : ℕ) (v : Value) (way : List Name) (u : Value) → show
 shown_handed by (object (own_name m n)) way u = shown_waits by m way u
 shown_handed by v way u = refl
 
-keeping_objects : (v u : Value) (w : World) → (direct.keeping v u w).objects ≡ w.objects
+pub keeping_objects : (v u : Value) (w : World) → (direct.keeping v u w).objects ≡ w.objects
 keeping_objects (object (cell_name a b)) u w = refl
 keeping_objects v u w = refl
 
-queueing_objects : (v u : Value) (w : World) → (direct.queueing v u w).objects ≡ w.objects
+pub queueing_objects : (v u : Value) (w : World) → (direct.queueing v u w).objects ≡ w.objects
 queueing_objects (object (own_name a b)) u w = refl
 queueing_objects v u w = refl
-
-settle_law : {first : Objects} {places : Native → ℕ} (by : ℕ) (e : r.Settling) → IsSettlingAmong e → RowGoes first places by (r.settles e)
-settle_law by (r.answers_kept x) a s es w h g z y m few p o k c is = record {
-  done = record { reply = kept_is h w g o k (direct.value_of s.values x) _ (handle_is o x a s.values es p); objects = objects_step o; items = shown-append z _ ∙ rw (is, shown_gained by (direct.way_into s x) (direct.kept_in (direct.value_of s.values x) w)) (append-nil y); keeps = keeps_refl };
-  page = k;
-}
-settle_law {first = first} {places = places} by (r.keeps x v) a s es w h g z y m few p o k c is = record {
-  done = record { reply = tt; objects = subst (λ q. ObjectsAre first places q h (suc m)) (sym (keeping_objects (direct.value_of s.values x) (direct.value_of s.values v) w)) (objects_step o); items = is; keeps = keeps_refl };
-  page = keeping_is h w g o k (direct.value_of s.values v) _ (handle_is o v a.1 s.values es p) (direct.value_of s.values x) _ (handle_is o x a.0 s.values es p);
-}
-settle_law by (r.says x us) a s es w h g z y m few p o k c is = record {
-  done = record { reply = tt; objects = objects_step o; items = shown-append z _ ∙ rw (is, saying_is h us (direct.value_of s.values x) _ (handle_is o x a s.values es p)) refl; keeps = keeps_refl };
-  page = k;
-}
-settle_law {first = first} {places = places} by (r.queues x f) a s es w h g z y m few p o k c is = record {
-  done = record { reply = tt; objects = subst (λ q. ObjectsAre first places q h (suc m)) (sym (queueing_objects (direct.value_of s.values x) (direct.value_of s.values f) w)) (objects_step o); items = shown-append z _ ∙ rw (is, shown_handed by (direct.value_of s.values x) (direct.way_of s f) (direct.value_of s.values f)) (append-nil y); keeps = keeps_refl };
-  page = queueing_is h w g o k (direct.value_of s.values f) _ (handle_is o f a.1 s.values es p) (direct.value_of s.values x) _ (handle_is o x a.0 s.values es p);
-}
-settle_law by (r.changes_node x c y) a s es w h g z u m few p o k d is = absurd a
-settle_law by (r.adds_node x n) a s es w h g z y m few p o k c is = absurd a
-settle_law by (r.listens x us f) a s es w h g z y m few p o k c is = absurd a
 
 -- the same value
 
@@ -300,35 +290,3 @@ module _ {first : Objects} {places : Native → ℕ} {objects : ℕ → List Obj
       (λ us. by_value h (λ u f. strictly_equal (es.Text us) f ≡ direct.strictly_equal (text us) u) refl refl (λ b. refl) (λ k. refl) (λ ws. refl) (λ k j t. refl) u f q)
       (λ n i s. by_value h (λ u f. strictly_equal (es.Obj i) f ≡ direct.strictly_equal (object n) u) refl refl (λ b. refl) (λ k. refl) (λ ws. refl) (λ k j t. object_same n k i j s t) u f q)
       v e p
-
-result_is : {A : Type 0} {first : Objects} {places : Native → ℕ} {h : Objects} {m : ℕ} (w : World) (g : es3.Page) (z : List direct.Item) {y : List Told} (a : Result A Fault) (go : A → direct.Done) (go' : A → es3.Came) → ObjectsAre first places w.objects h m → PagesAre h w g → shown z ≡ y → ((x : A) → CameIs first places h m (go x) (go' x)) → CameIs first places h m (direct.with_result a w z go) (es3.with_result a h g y go')
-result_is w g z (Ok x) go go' o k is f = f x
-result_is w g z (Err f) go go' o k is l = record { done = record { reply = refl; objects = objects_step o; items = is; keeps = keeps_refl }; page = k }
-
--- every row has its law
-pub row_law : {first : Objects} {places : Native → ℕ} (by : ℕ) → ((e : Ending) → IsEndAmong e → EndLaw first places by e) → (q : Row) → IsAmongObjects q → RowGoes first places by q
-row_law by law (r.ends e) a s es w h g z y m few p o k c is = let d = law e a s es w h z y m few p o is in record { done = d; page = pages_keep w (direct.finish _ e s w z).world g d.keeps (finish_page _ e s w z) k }
-row_law by law (r.settles e) a s es w h g z y m few p o k c is = settle_law by e a s es w h g z y m few p o k c is
-row_law {first = first} {places = places} by law (r.as_text x go) a s es w h g z y m few p o k c is =
-    subst (λ t. CameIs first places h m (direct.does by (r.as_text x go) s w z) (es3.with_result t h g y (λ us. es3.does places by (go us) es h g y))) (sym (c.texts _ _ (handle_is o x a.0 s.values es p)))
-    (result_is w g z (direct.text_of w (direct.value_of s.values x)) (λ us. direct.does by (go us) s w z) (λ us. es3.does places by (go us) es h g y) o k is (λ us. row_law by law (go us) (a.1 us) s es w h g z y m few p o k c is))
-row_law {first = first} {places = places} by law (r.as_joined x sep go) a s es w h g z y m few p o k c is =
-    subst (λ t. CameIs first places h m (direct.does by (r.as_joined x sep go) s w z) (es3.with_result t h g y (λ us. es3.does places by (go us) es h g y))) (sym (c.joins _ _ sep (handle_is o x a.0 s.values es p)))
-    (result_is w g z (direct.joined_of w (direct.value_of s.values x) sep) (λ us. direct.does by (go us) s w z) (λ us. es3.does places by (go us) es h g y) o k is (λ us. row_law by law (go us) (a.1 us) s es w h g z y m few p o k c is))
-row_law {first = first} {places = places} by law (r.as_number x go) a s es w h g z y m few p o k c is =
-    subst (λ t. CameIs first places h m (direct.does by (r.as_number x go) s w z) (es3.with_result t h g y (λ n. es3.does places by (go n) es h g y))) (sym (c.numbers _ _ (handle_is o x a.0 s.values es p)))
-    (result_is w g z (direct.number_of w (direct.value_of s.values x)) (λ n. direct.does by (go n) s w z) (λ n. es3.does places by (go n) es h g y) o k is (λ n. row_law by law (go n) (a.1 n) s es w h g z y m few p o k c is))
-row_law {first = first} {places = places} by law (r.looks x go) a s es w h g z y m few p o k c is =
-    let v = direct.value_of s.values x in
-    let e = es3.value_in places es x in
-    let l = seen_alike w o (length s.values) v e (handle_is o x a.0 s.values es p) in
-    let b = direct.see w (length s.values) v in
-    let n : length s.values ≡ length es = vals_length h s.values es p in
-    subst (λ j. CameIs first places h m (direct.does by (go b.sight) (direct.and_seen s (direct.way_into s x) b.values) w z) (es3.does places by (go (es3.see h j e).sight) (es ++ (es3.see h j e).values) h g y)) n
-    (subst (λ q. CameIs first places h m (direct.does by (go b.sight) (direct.and_seen s (direct.way_into s x) b.values) w z) (es3.does places by (go q) (es ++ (es3.see h (length s.values) e).values) h g y)) l.sight
-    (row_law by law (go b.sight) (a.1 b.sight (seen_among w o (length s.values) v e (handle_is o x a.0 s.values es p))) (direct.and_seen s (direct.way_into s x) b.values) (es ++ (es3.see h (length s.values) e).values) w h g z y m few (vals_append h s.values b.values es _ p l.values) o k c is))
-row_law {first = first} {places = places} by law (r.as_same x v go) a s es w h g z y m few p o k c is =
-    subst (λ b. CameIs first places h m (direct.does by (r.as_same x v go) s w z) (es3.does places by (go b) es h g y)) (sym (same_is o _ _ (handle_is o x a.0 s.values es p) _ _ (handle_is o v a.1 s.values es p)))
-    (row_law by law (go _) (a.2 _) s es w h g z y m few p o k c is)
-row_law by law (r.touches t x ks next) a s es w h g z y m few p o k c is =
-    row_law by law next a.1 s es w h g (z ++ _) (y ++ _) m few p o k c (shown-append z _ ∙ rw is (ap (λ l. y ++ l) (touch_is h _ t _ ks _ _ (handle_is o x a.0 s.values es p))))

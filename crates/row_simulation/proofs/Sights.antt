@@ -85,7 +85,7 @@ named_alike w h n (cell_name a (suc b)) i c there is = function_alike h n i r.si
 named_alike w h n (own_name a b) i c there is = function_alike h n i r.simple c there is.1.is
 named_alike w h n (built_name f) i c there is = function_alike h n i (Rattle.rows.specs.Names.sort_of f) c there is.1.is
 named_alike w h n (tools_name t) i c there is = record_seen h n i _ c there is
-named_alike w h n (facet_name root k) i c there is = absurd is
+named_alike w h n (facet_name root k) i c there is = let t : heap.object_at h i ≡ Some (es3.facet_object root k) = there ∙ ap (λ o. let q : Option heap.Object = Some o in q) is in subst (λ q. Alike h (direct.only r.a_node) (es3.see_object n h i (heap.class_of q))) (sym t) (record { sight = refl; values = tt })
 named_alike w h n (forward_name a b d e) i c there is = absurd is
 
 pub seen_alike : {first : Objects} {places : r.Native → ℕ} {m : ℕ} {h : Objects} (w : World) → ObjectsAre first places w.objects h m → (n : ℕ) (v : Value) (e : EsValue) → Val h v e → Alike h (direct.see w n v) (es3.see h n e)
@@ -97,9 +97,9 @@ seen_alike w o n (text a) (es.Text b) p = record { sight = ap r.a_text p; values
 seen_alike {h = h} w o n (object k) (es.Obj i) p = let s = o.each k i p in named_alike w h n k i s.stored s.there s.is
 seen_alike w o n _ _ p = absurd p
 
--- what is seen is among objects: handles of what was seen are held, and no one sees nodes or forwarders
+-- what is seen is among objects: handles of what was seen are held, and no one sees forwarders
 
-pub handles_among : (n : ℕ) (vs : List Value) → AreHandlesAmong (handles n vs)
+pub handles_among : {V : Type 0} (n : ℕ) (vs : List V) → AreHandlesAmong (handles n vs)
 handles_among n [] = tt
 handles_among n (v ∷ vs) = (tt, handles_among (n + 1) vs)
 
@@ -124,7 +124,7 @@ named_among w h n (cell_name a (suc b)) c is = tt
 named_among w h n (own_name a b) c is = tt
 named_among w h n (built_name f) c is = built_among f
 named_among w h n (tools_name t) c is = keyed_among n (direct.tool_pairs (Rattle.rows.specs.Names.tools t))
-named_among w h n (facet_name root k) c is = absurd is
+named_among w h n (facet_name root k) c is = tt
 named_among w h n (forward_name a b d e) c is = absurd is
 
 pub seen_among : {first : Objects} {places : r.Native → ℕ} {m : ℕ} {h : Objects} (w : World) → ObjectsAre first places w.objects h m → (n : ℕ) (v : Value) (e : EsValue) → Val h v e → IsSightAmong (direct.see w n v).sight

@@ -1,6 +1,6 @@
 -- The rows of guards, of operators and of built-ins are among objects.
 use Rattle.std.proofs.Common.{◌≡◌, ℕ, zero, suc, ◌+◌, ◌-◌, Bool, true, false, List, [], ◌∷◌, ◌++◌, length, Option, Some, None, cond, refl, sym, subst}
-use Rattle.std.specs.Prelude.{ℤ, pos, slice_get, codes, map, is_some, nat_lt, not, ◌||◌, ◌&&◌, take, drop, reverse, int_lt}
+use Rattle.std.specs.Prelude.{ℤ, pos, slice_get, codes, map, is_some, nat_eq, nat_lt, not, ◌||◌, ◌&&◌, take, drop, reverse, int_lt}
 use Rattle.std.proofs.lemmas.List.{reverse-append}
 use Rattle.caja_units.specs.Units.{same_units, is_hidden}
 use Rattle.caja_units.specs.Index.{array_index}
@@ -10,7 +10,7 @@ use Rattle.es3_tree.specs.declared.UnOp.{UnOp}
 use Rattle.es3_tree.specs.declared.UnOp.TheVariants as un
 use Rattle.rows.specs.Rows as r
 use Rattle.rows.specs.Rows.{Handle, Native, Sight, Ending, Row}
-use Rattle.rows.specs.Names.{method, text_methods, array_methods, function_methods}
+use Rattle.rows.specs.Names.{method, text_methods, array_methods, function_methods, node_methods}
 use Rattle.rows.specs.Public as pub_
 use Rattle.rows.specs.Arguments as args
 use Rattle.rows.specs.Guards as guards
@@ -19,11 +19,12 @@ use Rattle.rows.specs.Operators as operators
 use Rattle.rows.specs.Core as core
 use Rattle.rows.specs.Arrays as arrays
 use Rattle.rows.specs.Texts as texts
+use Rattle.rows.specs.Document.{Node, attribute, Change, sets_text, appends, removes, text_node, element}
 use Rattle.rows.specs.Nodes as nodes
 use Rattle.rows.specs.Nodes.{Rules}
 use Rattle.rows.specs.Table.{row_of}
 use Rattle.heap_rows.specs.Natives.{is_common}
-use Rattle.row_simulation.specs.Among.{IsHandleAmong, AreHandlesAmong, ArePairsAmong, IsSightAmong, IsEndAmong, AreAnswersAmong, IsAmongObjects, AreTablesAmong}
+use Rattle.row_simulation.specs.Among.{IsHandleAmong, AreHandlesAmong, ArePairsAmong, IsSightAmong, IsEndAmong, AreIdsAmong, AreAnswersAmong, IsAmongObjects, AreTablesAmong}
 
 -- choices
 
@@ -126,7 +127,7 @@ property_among o (r.an_array frozen xs) k p q =
     (option_if (is_some (pub_.item_at (array_index k) xs)) (pub_.item_at (array_index k) xs) (pub_.of_value o (method array_methods k)) (item_among (array_index k) xs q) (method_among o array_methods k p (refl, (refl, (refl, (refl, (refl, (refl, (refl, (refl, tt))))))))))
 property_among o (r.a_function sort) k p q = method_among o function_methods k p (refl, (refl, tt))
 property_among o (r.an_error name message) k p q = option_if (same_units k (codes "name")) (Some (r.text name)) (cond (same_units k (codes "message")) (Some (r.text message)) None) tt (option_if (same_units k (codes "message")) (Some (r.text message)) None tt tt)
-property_among o (r.a_node b) k p q = absurd q
+property_among o r.a_node k p q = method_among o node_methods k p (refl, (refl, (refl, (refl, (refl, (refl, (refl, (refl, (refl, (refl, (refl, (refl, (refl, tt)))))))))))))
 property_among o s k p q = tt
 
 or_undefined_among : (x : Option Handle) → IsOptionAmong x → IsHandleAmong (pub_.or_undefined x)
@@ -151,7 +152,7 @@ at_key_among t o k go p q next = (p, λ s seen. on_it s seen)
     on_it (r.an_array frozen xs) seen = (q, λ us. (p, next (r.an_array frozen xs) seen us))
     on_it (r.a_function sort) seen = (q, λ us. (p, next (r.a_function sort) seen us))
     on_it (r.an_error name message) seen = (q, λ us. (p, next (r.an_error name message) seen us))
-    on_it (r.a_node b) seen = absurd seen
+    on_it r.a_node seen = (q, λ us. (p, next r.a_node seen us))
     on_it (r.a_stranger callable) seen = (q, λ us. (p, next (r.a_stranger callable) seen us))
 
 read_end_among : (s : Sight) (o : Handle) (k : List ℕ) → IsHandleAmong o → IsSightAmong s → IsEndAmong (guards.read_end s o k)
@@ -164,7 +165,7 @@ read_end_among (r.a_text us) o k p q = get_among o (r.a_text us) k p q
 read_end_among (r.an_array frozen xs) o k p q = get_among o (r.an_array frozen xs) k p q
 read_end_among (r.a_function sort) o k p q = get_among o (r.a_function sort) k p q
 read_end_among (r.an_error name message) o k p q = get_among o (r.an_error name message) k p q
-read_end_among (r.a_node b) o k p q = absurd q
+read_end_among r.a_node o k p q = get_among o r.a_node k p q
 read_end_among (r.a_stranger callable) o k p q = get_among o (r.a_stranger callable) k p q
 
 write_end_among : (c : pub_.Change) (s : Sight) (o : Handle) (k : List ℕ) (v : Handle) → IsHandleAmong o → IsHandleAmong v → IsSightAmong s → IsEndAmong (guards.write_end c s o k v)
@@ -292,7 +293,7 @@ counted_among x (r.a_record frozen ps) go p q = q x (r.a_record frozen ps) p
 counted_among x (r.an_array frozen xs) go p q = q x (r.an_array frozen xs) p
 counted_among x (r.a_function sort) go p q = q x (r.a_function sort) p
 counted_among x (r.an_error name message) go p q = q x (r.an_error name message) p
-counted_among x (r.a_node b) go p q = q x (r.a_node b) p
+counted_among x r.a_node go p q = q x r.a_node p
 counted_among x (r.a_stranger callable) go p q = q x (r.a_stranger callable) p
 
 equal_among : (x : Handle) (s : Sight) (y : Handle) (t : Sight) (go : Bool → Row) → IsHandleAmong x → IsHandleAmong y → AllGo go → IsAmongObjects (operators.equal_primitives x s y t go)
@@ -391,13 +392,42 @@ on_text_among go q = (tt, λ s seen. on_it s)
     on_it (r.a_text us) = q us
     on_it s = tt
 
--- no node is seen, so nothing becomes of a method of nodes but that its receiver is refused
-on_node_among : (go : r.Branch → Row) → IsAmongObjects (nodes.on_node go)
-on_node_among go = (tt, λ s seen. on_it s seen)
-  where
-    on_it : (s : Sight) → IsSightAmong s → IsAmongObjects (nodes.node_seen go (codes "bad receiver") s)
-    on_it (r.a_node b) seen = absurd seen
-    on_it s seen = tt
+-- nodes, with those around them
+
+when_among : (b : Bool) (message : List ℕ) (next : Row) → IsAmongObjects next → IsAmongObjects (nodes.when b message next)
+when_among b message next p = row_if b (nodes.refused message) next tt p
+
+changes_or_not : (b : Bool) (message : List ℕ) (c : Change) (x : Handle) → IsHandleAmong x → IsAmongObjects (nodes.when b message (r.settles (r.changes_node (r.held 0) c x)))
+changes_or_not true message c x p = tt
+changes_or_not false message c x p = (tt, p)
+
+append_among : (other refused cycle : Bool) (k : ℕ) (x : Handle) → IsHandleAmong x → IsAmongObjects (nodes.when other (codes "other root") (nodes.when refused (codes "not allowed") (nodes.when cycle (codes "cycle") (r.settles (r.changes_node (r.held 0) (appends k) x)))))
+append_among true refused cycle k x p = tt
+append_among false true cycle k x p = tt
+append_among false false cycle k x p = changes_or_not cycle (codes "cycle") (appends k) x p
+
+adds_among : (o : Node) → o.parent ≡ None → o.children ≡ [] → IsAmongObjects (r.settles (r.adds_node (r.held 0) o))
+adds_among o up empty = (tt, up, empty)
+
+first_or_null_among : (xs : List Handle) → AreHandlesAmong xs → IsHandleAmong (nodes.first_or_null xs)
+first_or_null_among [] p = tt
+first_or_null_among (x ∷ xs) p = p.0
+
+text_or_null_among : (o : Option (List ℕ)) → IsHandleAmong (nodes.text_or_null o)
+text_or_null_among None = tt
+text_or_null_among (Some us) = tt
+
+of_id_among : (t : List ℕ) (xs : List (Option (List ℕ) × Handle)) → AreIdsAmong xs → IsHandleAmong (nodes.of_id t xs)
+of_id_among t [] p = tt
+of_id_among t ((id, x) ∷ rest) p = handle_if (nodes.has_id t id) x (nodes.of_id t rest) p.0 (of_id_among t rest p.1)
+
+set_cleaned_among : (k : List ℕ) (o : Option (List ℕ)) → IsAmongObjects (nodes.set_cleaned k o)
+set_cleaned_among k None = tt
+set_cleaned_among k (Some us) = (tt, tt)
+
+listen_among : (known : Bool) (k : List ℕ) (f : Handle) (s : Sight) → IsHandleAmong f → IsAmongObjects (nodes.listen_row known k f s)
+listen_among true k f (r.a_function r.closure) p = (tt, p)
+listen_among known k f s p = tt
 
 -- built-ins
 
@@ -536,7 +566,19 @@ built_in rules e r.get n = tt
 built_in rules e r.set n = (tt, argument_among 0 n)
 built_in rules e r.forward_get n = (tt, λ s seen. unless_revoked_among core.get s tt)
 built_in rules e r.forward_set n = (tt, λ s seen. unless_revoked_among (core.set (args.argument 0 n)) s (tt, argument_among 0 n))
-built_in rules e f n = on_node_among _
+built_in rules e r.get_tag_name n = (tt, λ b s. tt, tt)
+built_in rules e r.get_parent_node n = (tt, λ b s. first_or_null_among b.parent s.parent, tt)
+built_in rules e r.get_child_nodes n = (tt, λ b s. s.children, tt)
+built_in rules e r.get_element_by_id n = (tt, λ b s. (argument_among 0 n, λ t. of_id_among t b.below s.below), tt)
+built_in rules e r.get_attribute n = (tt, λ b s. (argument_among 0 n, λ k. text_or_null_among (attribute k b.attributes)), tt)
+built_in rules e r.set_attribute n = (tt, λ b s. (argument_among 0 n, λ k. (argument_among 1 n, λ v. when_among (nodes.is_text b || same_units k (codes "id")) (codes "not allowed") (nodes.set_cleaned k (rules.cleaned b.tag k v)) (set_cleaned_among k (rules.cleaned b.tag k v)))), tt)
+built_in rules e r.get_text n = (tt, λ b s. tt, tt)
+built_in rules e r.set_text n = (tt, λ b s. (argument_among 0 n, λ us. changes_or_not (rules.no_content b.tag) (codes "not allowed") (sets_text us) r.undefined tt), tt)
+built_in rules e r.create_element n = (tt, λ b s. (argument_among 0 n, λ t. when_among (not (rules.listed t)) (codes "not allowed") (r.settles (r.adds_node (r.held 0) (element t))) (adds_among (element t) refl refl)), tt)
+built_in rules e r.create_text_node n = (tt, λ b s. (argument_among 0 n, λ us. adds_among (text_node us) refl refl), tt)
+built_in rules e r.append_child n = (tt, λ b s. (argument_among 0 n, λ c t. (tt, argument_among 0 n, λ same. append_among (not same) (nat_eq c.number 0 || nodes.is_text b || rules.no_content b.tag) (nodes.is_in c.number b.above) c.number (args.argument 0 n) (argument_among 0 n)), tt), tt)
+built_in rules e r.remove_child n = (tt, λ b s. (argument_among 0 n, λ c t. (tt, argument_among 0 n, λ same. changes_or_not (not (same && nodes.is_in c.number b.numbers)) (codes "bad argument") (removes c.number) (args.argument 0 n) (argument_among 0 n)), tt), tt)
+built_in rules e r.on n = (tt, λ b s. (argument_among 0 n, λ k. (argument_among 1 n, λ t seen. listen_among (nodes.is_event k) k (args.argument 1 n) t (argument_among 1 n))), tt)
 
 pub tables : AreTablesAmong
 tables = record {

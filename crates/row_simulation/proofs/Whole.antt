@@ -4,7 +4,8 @@ use Rattle.es3_heap.specs.Objects.{Objects}
 use Rattle.rows.specs.Rows as r
 use Rattle.rows.specs.Rows.{Native, Ending, Row}
 use Rattle.row_simulation.specs.Among.{IsEndAmong, IsAmongObjects}
-use Rattle.row_simulation.proofs.Row.{EndLaw, row_law}
+use Rattle.row_simulation.proofs.Row.{EndLaw}
+use Rattle.row_simulation.proofs.Law.{row_law}
 use Rattle.row_simulation.proofs.Conversions.{conversions}
 use Rattle.row_simulation.specs.RowLaw.{RowLaw, IsFirst}
 use Rattle.row_simulation.proofs.Ends.{answers_law, faults_law, calls_law, throws_law, error_law}
@@ -30,4 +31,4 @@ end_law by below f (r.freezes x) a = freezes_law by x a
 
 -- what a row does in a world, it does among the objects of ES3: every row that is among objects
 pub every_row : (first : Objects) (places : Native → ℕ) (by : ℕ) → by < 64 → IsFirst first → (q : Row) → IsAmongObjects q → RowLaw first places by q
-every_row first places by below f q a s es w h g z y m few p o k is = row_law by (end_law by below f) q a s es w h g z y m few p o k (conversions first places f w h m o) is
+every_row first places by below f q a s es w h g z y m few p o k is = row_law by f (end_law by below f) q a s es w h g z y m few p o k (conversions first places f w h m o) is

@@ -22,10 +22,10 @@ use Rattle.heap_rows.specs.Doing.{guests}
 use Rattle.row_simulation.proofs.Keys.{apart}
 use Rattle.row_simulation.specs.Among.{IsHandleAmong}
 use Rattle.row_simulation.proofs.Names.{name_at, made_known, cell_known, tools_known}
-use Rattle.row_simulation.proofs.Relation.{EsValue, tag_of_name, Named, Val, PairsAre, PropsAre, IsRecord, Is, IsNamed, ObjectsAre, Keeps}
-use Rattle.row_simulation.proofs.Row.{by_value, keeps_refl, objects_step, handle_is, EndLaw}
+use Rattle.row_simulation.proofs.Relation.{EsValue, tag_of_name, Named, Val, PairsAre, PropsAre, IsRecord, Is, IsNamed, ObjectsAre, Keeps, NoNewNode, val_keep, facet_class}
+use Rattle.row_simulation.proofs.Row.{by_value, keeps_refl, no_node_refl, objects_step, handle_is, EndLaw}
 use Rattle.row_simulation.proofs.Props.{swapped, by_key, props_read, props_written, props_set, props_frozen, props_dropped, has_new}
-use Rattle.row_simulation.proofs.Changes.{with_properties, revised, revised_there, revised_twice, revised_keeps, made_there, made_length, made_still, objects_revised}
+use Rattle.row_simulation.proofs.Changes.{with_properties, revised, revised_there, revised_twice, revised_keeps, revised_no_node, made_there, made_length, made_still, objects_revised}
 use Rattle.row_simulation.specs.RowLaw.{IsFirst}
 use Rattle.row_simulation.proofs.Ends.{quiet, shown_got}
 
@@ -50,9 +50,10 @@ same_objects w a b o known = ap (λ l. with_list a l w.objects) (set_same (w.obj
 pub record Changed (first : Objects) (places : Native → ℕ) (m : ℕ) (h : Objects) (objects : ℕ → List Object) (g : Objects) : Type 0 where
   pub left : ObjectsAre first places objects g m
   pub keeps : Keeps h g
+  pub no_node : NoNewNode h g
 
 pub unchanged : {first : Objects} {places : Native → ℕ} {m : ℕ} {h : Objects} {objects : ℕ → List Object} → ObjectsAre first places objects h m → Changed first places m h objects h
-unchanged o = record { left = o; keeps = keeps_refl }
+unchanged o = record { left = o; keeps = keeps_refl; no_node = no_node_refl }
 
 pub same_made : {first : Objects} {places : Native → ℕ} {m : ℕ} {h : Objects} (w : World) (a b : ℕ) (o : Object) → slice_get (w.objects a) b ≡ Some o → ObjectsAre first places w.objects h m → Changed first places m h (with_made a b o w).objects h
 same_made {first = first} {places = places} {m = m} {h = h} w a b o known old = subst (λ l. Changed first places m h l h) (sym (same_objects w a b o known)) (unchanged old)
@@ -67,6 +68,7 @@ revised_record {h = h} w old a b i c frozen frozen' ps qs props name there known
       (record { object = a_record frozen' qs; known = made_there w a b (a_record frozen ps) (a_record frozen' qs) known; is = record { class = is.class; no_call = is.no_call; proto = is.proto; props = new } })
       (λ k o ne x. made_still w h a b (a_record frozen' qs) k o ne x) (λ k. made_length w a b k (a_record frozen' qs)) (λ k p e. is.class) (λ k p e. is.class);
   keeps = revised_keeps h (made_name a b) i c props name there (record_no_function is);
+  no_node = revised_no_node h i c props there;
 }
 
 -- a record that is the same to modules
@@ -74,6 +76,7 @@ pub revised_same : {first : Objects} {places : Native → ℕ} {m : ℕ} {h : Ob
 revised_same {h = h} objects old n i c frozen ps props name known there is back new = record {
   left = objects_revised objects objects old n i c props name known there (record_no_function is) (back (with_properties c props) (record { class = is.class; no_call = is.no_call; proto = is.proto; props = new })) (λ k o ne x. x) (λ k. refl) (λ k p e. is.class) (λ k p e. is.class);
   keeps = revised_keeps h n i c props name there (record_no_function is);
+  no_node = revised_no_node h i c props there;
 }
 
 -- properties that are defined and deleted of an object that is there
@@ -223,7 +226,7 @@ on_record {first = first} {places = places} {m = m} {h = h} w old change g law k
     by_name (own_name a b) i p c there is = rw is.1.is.class (unchanged old)
     by_name (built_name f) i p c there is = rw is.1.is.class (unchanged old)
     by_name (tools_name t) i p c there is = rw is.class (kept (tools_name t) i c _ p (tools_known t) there is (λ x r. r))
-    by_name (facet_name root k) i p c there is = absurd is
+    by_name (facet_name root k) i p c there is = rw (facet_class root k c is) (unchanged old)
     by_name (forward_name a b d e) i p c there is = absurd is
 
 -- the ends
@@ -234,12 +237,12 @@ writes_law {places = places} by f x k v a s es w h z y m few p o is =
     let e = es3.value_in places es v in
     let q = handle_is o v a.1 s.values es p in
     let c = on_record w o (direct.with_key k u) (λ i. cond (is_frozen h i || is_bad k) h (grant_set (put h i k e) i k)) (λ a b i c frozen ps name there known rec. write_record w f o a b i c frozen ps k u e q name there known rec) (λ n i c ps name known there rec back. rw (there, rec.props.closed) (unchanged o)) (λ frozen vs. refl) (λ g chain. refl) (λ maker message. refl) (direct.value_of s.values x) (es3.value_in places es x) (handle_is o x a.0 s.values es p) in
-    record { reply = Rattle.row_simulation.proofs.Relation.val_keep c.keeps u e q; objects = objects_step c.left; items = quiet z _ y is (shown_got by s v); keeps = c.keeps }
+    record { done = record { reply = val_keep c.keeps u e q; objects = objects_step c.left; items = quiet z _ y is (shown_got by s v); keeps = c.keeps }; no_node = c.no_node }
 
 pub drops_law : {first : Objects} {places : Native → ℕ} (by : ℕ) (x : Handle) (k : List ℕ) → IsHandleAmong x → EndLaw first places by (r.drops_key x k)
 drops_law {places = places} by x k a s es w h z y m few p o is =
     let c = on_record w o (direct.without_key k) (λ i. cond (is_frozen h i || is_bad k) h (drop_marks (delete h i k) i k)) (λ a b i c frozen ps name there known rec. drop_record w o a b i c frozen ps k name there known rec) (λ n i c ps name known there rec back. rw (there, rec.props.closed) (unchanged o)) (λ frozen vs. refl) (λ g chain. refl) (λ maker message. refl) (direct.value_of s.values x) (es3.value_in places es x) (handle_is o x a s.values es p) in
-    record { reply = refl; objects = objects_step c.left; items = is; keeps = c.keeps }
+    record { done = record { reply = refl; objects = objects_step c.left; items = is; keeps = c.keeps }; no_node = c.no_node }
 
 -- nothing changes in the world where a mark is granted
 same_changed : (w : World) (v : Value) → (direct.changed (λ o. o) v w).objects ≡ w.objects
@@ -256,4 +259,4 @@ reads_law {first = first} {places = places} by x k v a s es w h z y m few p o is
     let g = λ (i : ℕ). cond (is_some (own h i k) && not (is_hidden k)) (grant_read h i k) h in
     let c = on_record w o (λ o. o) g (λ a b i c frozen ps name there known rec. subst (λ l. Changed first places m h l (g i)) (sym (same_objects w a b (a_record frozen ps) known)) (read_record w o (made_name a b) i c frozen ps k name (made_known a b) there rec (λ x r. record { object = a_record frozen ps; known = known; is = r }))) (λ n i c ps name known there rec back. read_record w o n i c true ps k name known there rec back) (λ frozen vs. refl) (λ g chain. refl) (λ maker message. refl) (direct.value_of s.values x) (es3.value_in places es x) (handle_is o x a.0 s.values es p) in
     let d = subst (λ l. Changed first places m h l (es3.on_object (es3.value_in places es x) h (λ i. es3.of_record (heap.class_of (object_at h i)) (g i) h))) (same_changed w (direct.value_of s.values x)) c in
-    record { reply = Rattle.row_simulation.proofs.Relation.val_keep d.keeps (direct.value_of s.values v) (es3.value_in places es v) q; objects = objects_step d.left; items = quiet z _ y is (shown_got by s v); keeps = d.keeps }
+    record { done = record { reply = val_keep d.keeps (direct.value_of s.values v) (es3.value_in places es v) q; objects = objects_step d.left; items = quiet z _ y is (shown_got by s v); keeps = d.keeps }; no_node = d.no_node }

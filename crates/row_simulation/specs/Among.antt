@@ -1,9 +1,9 @@
--- Rows that do nothing but what is done among the objects of ES3: none with nodes.
-use Rattle.std.specs.Prelude.{◌≡◌, ℕ, ℤ, Bool, true, List, [], ◌∷◌}
+-- Rows that do nothing but what is done among the objects of ES3.
+use Rattle.std.specs.Prelude.{◌≡◌, ℕ, ℤ, Bool, true, List, [], ◌∷◌, Option, None}
 use Rattle.es3_tree.specs.declared.BinOp.{BinOp}
 use Rattle.es3_tree.specs.declared.UnOp.{UnOp}
 use Rattle.rows.specs.Rows as r
-use Rattle.rows.specs.Rows.{Handle, Sight, Ending, Settling, Row}
+use Rattle.rows.specs.Rows.{Handle, Sight, Branch, Ending, Settling, Row}
 use Rattle.rows.specs.Guards as guards
 use Rattle.rows.specs.Events as events
 use Rattle.rows.specs.Operators as operators
@@ -25,7 +25,7 @@ abbrev pub ArePairsAmong : List (List ℕ × Handle) → Type 0
 ArePairsAmong [] = Unit {0}
 ArePairsAmong ((k, x) ∷ ps) = IsHandleAmong x × ArePairsAmong ps
 
--- what is seen among objects is no node and no forwarder
+-- what is seen among objects is no forwarder
 abbrev pub IsSortAmong : r.Sort → Type 0
 IsSortAmong (r.forwarder revoked) = ⊥
 IsSortAmong sort = Unit {0}
@@ -34,7 +34,6 @@ abbrev pub IsSightAmong : Sight → Type 0
 IsSightAmong (r.a_record frozen ps) = ArePairsAmong ps
 IsSightAmong (r.an_array frozen xs) = AreHandlesAmong xs
 IsSightAmong (r.a_function sort) = IsSortAmong sort
-IsSightAmong (r.a_node b) = ⊥
 IsSightAmong s = Unit {0}
 
 abbrev pub IsEndAmong : Ending → Type 0
@@ -57,9 +56,19 @@ IsSettlingAmong (r.answers_kept x) = IsHandleAmong x
 IsSettlingAmong (r.keeps x y) = IsHandleAmong x × IsHandleAmong y
 IsSettlingAmong (r.says x us) = IsHandleAmong x
 IsSettlingAmong (r.queues x f) = IsHandleAmong x × IsHandleAmong f
-IsSettlingAmong (r.changes_node x c y) = ⊥
-IsSettlingAmong (r.adds_node x o) = ⊥
-IsSettlingAmong (r.listens x us f) = ⊥
+IsSettlingAmong (r.changes_node x c y) = IsHandleAmong x × IsHandleAmong y
+IsSettlingAmong (r.adds_node x o) = IsHandleAmong x × (o.parent ≡ None) × (o.children ≡ [])
+IsSettlingAmong (r.listens x us f) = IsHandleAmong x × IsHandleAmong f
+
+-- a node with those around it
+abbrev pub AreIdsAmong : List (Option (List ℕ) × Handle) → Type 0
+AreIdsAmong [] = Unit {0}
+AreIdsAmong ((id, x) ∷ xs) = IsHandleAmong x × AreIdsAmong xs
+
+pub record IsBranchAmong (b : Branch) : Type 0 where
+  pub parent : AreHandlesAmong b.parent
+  pub children : AreHandlesAmong b.children
+  pub below : AreIdsAmong b.below
 
 -- whatever is seen, the row goes on among objects
 abbrev pub IsAmongObjects : Row → Type 0
@@ -70,6 +79,8 @@ IsAmongObjects (r.as_number x go) = IsHandleAmong x × ((n : ℤ) → IsAmongObj
 IsAmongObjects (r.as_joined x sep go) = IsHandleAmong x × ((us : List ℕ) → IsAmongObjects (go us))
 IsAmongObjects (r.as_same x y go) = IsHandleAmong x × IsHandleAmong y × ((b : Bool) → IsAmongObjects (go b))
 IsAmongObjects (r.looks x go) = IsHandleAmong x × ((s : Sight) → IsSightAmong s → IsAmongObjects (go s))
+IsAmongObjects (r.as_same_root x y go) = IsHandleAmong x × IsHandleAmong y × ((b : Bool) → IsAmongObjects (go b))
+IsAmongObjects (r.branches x go other) = IsHandleAmong x × ((b : Branch) → IsBranchAmong b → IsAmongObjects (go b)) × IsAmongObjects other
 IsAmongObjects (r.touches t x k next) = IsHandleAmong x × IsAmongObjects next
 
 -- what the services of the host answer is among objects

@@ -21,7 +21,7 @@ use Rattle.cajita_meaning.specs.World.{Name, made_name, cell_name, own_name, bui
 use Rattle.cajita_meaning.specs.Doing.{get_and_set, tool_pairs}
 use Rattle.heap_rows.specs.Marks.{read_mark, set_mark, frozen_mark, simple_mark}
 use Rattle.heap_rows.specs.Natives.{tag_of_native, tag_of_tools, is_common, kind_of, own_number, cell_number}
-use Rattle.heap_rows.specs.Doing.{guests, sort_seen, proto_of}
+use Rattle.heap_rows.specs.Doing.{guests, sort_seen, proto_of, facet_object}
 
 abbrev pub EsValue : Type 0
 EsValue = es_value.Value
@@ -135,7 +135,7 @@ pub record IsMade (objects : List Object) (h : Objects) (number : ℕ) (o : heap
   pub known : slice_get objects number ≡ Some object
   pub is : Is h object o
 
--- what a named object is. Nodes, forwarders and services of a host aren't among these objects: none has such a name
+-- what a named object is. Forwarders and services of a host aren't among these objects: none has such a name
 abbrev pub IsNamed : (ℕ → List Object) → Objects → Name → heap.Object → Type 0
 IsNamed objects h (made_name m n) o = IsMade (objects m) h n o
 IsNamed objects h (cell_name c zero) o = IsRecord h true (get_and_set (cell_name c 1) (cell_name c 2)) o
@@ -143,7 +143,7 @@ IsNamed objects h (cell_name c (suc i)) o = (i < 2) × IsNative r.simple (kind.S
 IsNamed objects h (own_name m i) o = (i < 2) × IsNative r.simple (kind.Simple (own_number m i)) o
 IsNamed objects h (built_name f) o = (is_common f ≡ true) × IsNative (sort_of f) (kind_of f) o
 IsNamed objects h (tools_name t) o = IsRecord h true (tool_pairs (tools t)) o
-IsNamed objects h (facet_name r k) o = ⊥
+IsNamed objects h (facet_name r k) o = o ≡ facet_object r k
 IsNamed objects h (forward_name m p c i) o = ⊥
 
 pub record Stands (objects : ℕ → List Object) (h : Objects) (n : Name) (i : ℕ) : Type 0 where
@@ -183,6 +183,10 @@ pub record Keeps (a b : Objects) : Type 0 where
   pub long : length a.list ≤ length b.list
   pub counted : (m : ℕ) → count_at (slice_get a.counts m) ≤ count_at (slice_get b.counts m)
   pub older : (m k i : ℕ) → Named b (made_name m k) i → k < count_at (slice_get a.counts m) → Named a (made_name m k) i
+
+-- and where no node is made: each object that stands for a node did so before
+pub record NoNewNode (a b : Objects) : Type 0 where
+  pub older : (root k i : ℕ) → Named b (facet_name root k) i → Named a (facet_name root k) i
 
 -- an object without a name, of the class Object, behind the first ones
 pub record IsPlain (first h : Objects) (i : ℕ) : Type 0 where

@@ -7,8 +7,8 @@
 //! Arrays.antt, Copies.antt, Lists.antt). Attributes, marks and prototypes stand in the laws of ends alone: what is left of the properties of a record after each
 //! change is proofs/Props.antt, and what is left of all objects, proofs/Changes.antt and Added.antt.
 //!
-//! No object here is a node or a forwarder of a grant: the relation has none of these names. So a row may do with nodes what it likes where it sees one, and
-//! must do without elsewhere.
+//! Each node of a root has an object of its name, which the page finds by the node's number; how nodes change, and that those around a node are among its root's, is
+//! proofs/Within.antt, Around.antt and Nodes.antt. No object is a forwarder of a grant: the relation has none of these names.
 #![tactic(auto)]
 
 ghost use Rattle.std.specs.Prelude.{ℕ, ◌<◌, Bool, List, map};
@@ -24,6 +24,7 @@ ghost use Rattle.row_simulation.specs.Correspond.{EsValue, Val, Vals, ObjectsAre
 ghost use Rattle.row_simulation.specs.Among.{IsAmongObjects, AreTablesAmong};
 ghost use Rattle.row_simulation.specs.Inline.{InlineRead, InlineWrite};
 ghost use Rattle.row_simulation.specs.RowLaw.{Conversions, PagesAre, RowLaw, IsFirst};
+ghost use Rattle.row_simulation.specs.Roots.{RootsLaw};
 ghost use Rattle.row_simulation.specs.OperatorLaw.{IsOfValues, BinaryLaw, IsTyped, UnaryLaw, NextLaw, NumberLaw, BeforeLaw, BehindLaw};
 
 /// Whatever a row is, it comes to the same on both sides, and what corresponded corresponds.
@@ -31,7 +32,7 @@ pub fn every_row_has_its_law()
     ensures { (first : Objects) (places : Native → ℕ) (by : ℕ) → by < 64 → IsFirst first → (q : Row) → IsAmongObjects q → RowLaw first places by q }
 {}
 
-/// The rows of all guards, of all operators and of all built-ins are meant, and of a call by the page itself: those of nodes too, where no node is met.
+/// The rows of all guards, of all operators and of all built-ins are meant, those of nodes too, and of a call by the page itself.
 #[tactic(auto, using(crate::proofs::Tables::tables))]
 pub fn the_tables_are_among_objects()
     ensures { AreTablesAmong }
@@ -44,6 +45,11 @@ pub fn a_page_begins_so()
     ensures prototypes { IsFirst first }
     ensures objects { (modules cells : ℕ) → ObjectsAre first place_of empty_world.objects (begun modules cells) 0 }
     ensures page { (modules cells : ℕ) → PagesAre (begun modules cells) empty_world empty_page }
+{}
+
+/// Where roots get their nodes that had none, each with its object, what corresponded corresponds.
+pub fn a_page_begins_with_its_nodes()
+    ensures { (first : Objects) (places : Native → ℕ) → IsFirst first → RootsLaw first places }
 {}
 
 /// Where the page of one module begins, its objects stand for the empty world too, and what the module may import stands for what it imports directly, name by name: the

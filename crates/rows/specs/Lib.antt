@@ -1,5 +1,6 @@
 pub mod Document
 pub mod Rows
+pub mod Branches
 pub mod Names
 pub mod Paths
 pub mod Public

@@ -38,7 +38,7 @@ property o (a_record frozen ps) k = value_at k ps
 property o (an_array frozen xs) k = if is_length k then Some (number (pos (length xs))) else if is_some (item_at (array_index k) xs) then item_at (array_index k) xs else of_value o (method array_methods k)
 property o (a_function sort) k = of_value o (method function_methods k)
 property o (an_error name message) k = if same_units k (codes "name") then Some (text name) else if same_units k (codes "message") then Some (text message) else None
-property o (a_node b) k = of_value o (method node_methods k)
+property o a_node k = of_value o (method node_methods k)
 property o s k = None
 
 abbrev pub or_undefined : Option Handle → Handle

@@ -54,10 +54,9 @@ pub data Sort : Type 0 where
   constructor : Option Maker → Sort
   exophoric : Receiver → Sort
 
--- what is seen of a node: its root and its number there; other nodes by handles. `below` has the nodes at and below it with their ids, `above` the numbers of
+-- what is seen of a node by its own methods: its number in its root; other nodes by handles. `below` has the nodes at and below it with their ids, `above` the numbers of
 -- those at and above it, and `numbers` those of its children
 pub record Branch : Type 0 where
-  pub root : ℕ
   pub number : ℕ
   pub tag : List ℕ
   pub text : List ℕ
@@ -78,7 +77,7 @@ pub data Sight : Type 0 where
   an_array : Bool → List Handle → Sight
   a_function : Sort → Sight
   an_error : List ℕ → List ℕ → Sight
-  a_node : Branch → Sight
+  a_node : Sight
   -- an object that is none of these, and whether it is a function: one of a text that no guard has seen. No module of Cajita has one
   a_stranger : Bool → Sight
 
@@ -138,6 +137,10 @@ pub data Row : Type 0 where
   -- whether two values are the same (11.9.6)
   as_same : Handle → Handle → (Bool → Row) → Row
   looks : Handle → (Sight → Row) → Row
+  -- whether two values are nodes of one root
+  as_same_root : Handle → Handle → (Bool → Row) → Row
+  -- a node is looked at with those around it; what isn't one goes the other way
+  branches : Handle → (Branch → Row) → Row → Row
   -- a touch, at a key where there is one
   touches : Touch → Handle → List (List ℕ) → Row → Row
 

@@ -1,4 +1,4 @@
-use Rattle.cajita_laws.proofs.Turns.{load_isolates, question_isolates, call_isolates, key_isolates, tick_isolates}
+use Rattle.cajita_laws.proofs.Turns.{load_isolates, question_isolates, call_isolates, key_isolates, tick_isolates, node_isolates}
 use Rattle.cajita_laws.proofs.a_turn_is_the_same_for_its_group.Goals as goal
 
 pub returns-clause-load : goal.returns-clause-load
@@ -15,3 +15,6 @@ returns-clause-key_event c = key_isolates
 
 pub returns-clause-tick : goal.returns-clause-tick
 returns-clause-tick c = tick_isolates
+
+pub returns-clause-node : goal.returns-clause-node
+returns-clause-node c = node_isolates

@@ -1,4 +1,4 @@
-use Rattle.cajita_laws.proofs.Turns.{load_reaches, question_reaches, call_reaches, closure_reaches, key_reaches, tick_reaches}
+use Rattle.cajita_laws.proofs.Turns.{load_reaches, question_reaches, call_reaches, closure_reaches, key_reaches, tick_reaches, node_reaches}
 use Rattle.cajita_laws.proofs.a_turn_lies_in_what_its_module_has.Goals as goal
 
 pub returns-clause-load : goal.returns-clause-load
@@ -18,3 +18,6 @@ returns-clause-key_event c = key_reaches
 
 pub returns-clause-tick : goal.returns-clause-tick
 returns-clause-tick c = tick_reaches
+
+pub returns-clause-node : goal.returns-clause-node
+returns-clause-node c = node_reaches

@@ -372,7 +372,7 @@ closure_match {form = form} {H = H} {T = T} {k = k} effects entries a by i (c.fu
     let sixes = six_is fs (one_each fs m6) in
     let long : length qs < 4294967296 = few (omega (arith, small)) in
     let begun0 = begun_here fs by outer chain (es.Obj i) params us qs all tag w g s below (omega (arith, small)) long is r.all.objects r.all.scopes.are r.all.closures in
-    let begun1 : Begun w2.objects s.heap tags S (one_each fs m6) = record { objects = objects_step (omega (arith, ones)) begun0.objects; keeps = begun0.keeps; closures = begun0.closures } in
+    let begun1 : Begun w2.objects s.heap tags S (one_each fs m6) = record { objects = objects_step (omega (arith, ones)) begun0.objects; keeps = begun0.keeps; no_node = begun0.no_node; closures = begun0.closures } in
     declares_match H.rules H.turn (env_of J) fs (marks fs body) None S Target.body_end next'
     (awaiting_match {J = J} params names S s.heap fs body None number place outer chain code.chain w2 done go next {h = hB} Target.body_end next' below refl guest.6 stands2 are2 (scope_runtime owner names1 sF new2.runtime r.all.scopes.runtime) captured2 guest.7 (await_here fs by outer chain (es.Obj i) params us qs all tag w g s) (subst (λ l. Placed fs place l) (sym (names_new owner names1 sF)) (placed_more params names fs place _ _ all guest.6 (placed params names fs place firsts guest.6))) (omega arith) r.all.objects.large begun1 (omega (arith, r0.all.steps, same, ones, sixes)) (ap (heard y.touching) told ∙ r0.all.items) (λ acc z2 h' told2 begun2 given later.
     let pairs = bound_pairs fs outer by w1.objects pairs1 in

@@ -9,10 +9,10 @@ use Rattle.rows.specs.Arguments as args
 use Rattle.rows.specs.Core as core
 use Rattle.rows.specs.Texts as texts
 use Rattle.rows.specs.Arrays as arrays
-use Rattle.rows.specs.Nodes.{Rules, no_rules, node_seen}
+use Rattle.rows.specs.Nodes.{Rules, no_rules}
 use Rattle.rows.specs.Table.{row_of}
 use Rattle.heap_rows.specs.Natives.{is_common}
-use Rattle.row_simulation.specs.Among.{IsSightAmong}
+use Rattle.page_natives.proofs.Nodes.{Refuses}
 use Rattle.cajita_simulation.proofs.Rows.{EndsPlainly, NoTouches}
 use Rattle.cajita_simulation.proofs.Calling.Calls.{Looked, CallsSeen, EndsCalling, IsCalling}
 
@@ -25,6 +25,8 @@ IsSilent (r.as_number x go) = (n : ℤ) → IsSilent (go n)
 IsSilent (r.as_joined x sep go) = (us : List ℕ) → IsSilent (go us)
 IsSilent (r.as_same x y go) = (b : Bool) → IsSilent (go b)
 IsSilent (r.looks x go) = (s : Sight) → IsSilent (go s)
+IsSilent (r.as_same_root x v go) = ⊥
+IsSilent (r.branches x go other) = ⊥
 IsSilent (r.touches t x k next) = ⊥
 
 silent_touches : (q : Row) → IsSilent q → NoTouches q
@@ -35,6 +37,8 @@ silent_touches (r.as_number x go) p = λ n. silent_touches (go n) (p n)
 silent_touches (r.as_joined x sep go) p = λ us. silent_touches (go us) (p us)
 silent_touches (r.as_same x y go) p = λ c. silent_touches (go c) (p c)
 silent_touches (r.looks x go) p = λ s. silent_touches (go s) (p s)
+silent_touches (r.as_same_root x v go) p = absurd p
+silent_touches (r.branches x go other) p = absurd p
 silent_touches (r.touches t x k next) p = absurd p
 
 -- what is done with a value is done in each way that it may be seen
@@ -268,20 +272,9 @@ plain_calling b (r.as_number x go) o p = λ n. plain_calling b (go n) o (p n)
 plain_calling b (r.as_joined x sep go) o p = λ us. plain_calling b (go us) o (p us)
 plain_calling b (r.as_same x y go) o p = λ c. plain_calling b (go c) o (p c)
 plain_calling b (r.looks x go) o p = λ s. plain_calling b (go s) ((x, s) ∷ o) (p s)
+plain_calling b (r.as_same_root x v go) o p = absurd p
+plain_calling b (r.branches x go other) o p = absurd p
 plain_calling b (r.touches t x k next) o p = absurd p
-
--- the rows of nodes
-
-abbrev pub refusal : Row
-refusal = r.ends (r.throws (codes "bad receiver"))
-
-abbrev pub Refuses : Row → Type 0
-Refuses (r.looks (r.held zero) go) = (s : Sight) → IsSightAmong s → go s ≡ refusal
-Refuses q = ⊥
-
-no_node : (go : r.Branch → Row) (s : Sight) → IsSightAmong s → node_seen go (codes "bad receiver") s ≡ refusal
-no_node go (r.a_node b) p = absurd p
-no_node go s p = refl
 
 -- a built-in function's row ends by itself or in such a call, whatever rules a page has; or it refuses whatever is no node; it touches nothing
 
@@ -296,19 +289,19 @@ not_common e = cc
 pub built_in_row : (f : Native) → is_common f ≡ true → IsOrdinary f ⊎ ((rules : Rules) (n : ℕ) → Refuses (row_of rules f n))
 built_in_row r.call common = inl (record { calling = call_calling; silent = call_silent; any = λ rules n. refl })
 built_in_row r.apply common = inl (record { calling = apply_calling; silent = apply_silent; any = λ rules n. refl })
-built_in_row r.get_tag_name common = inr (λ rules n s p. no_node _ s p)
-built_in_row r.get_parent_node common = inr (λ rules n s p. no_node _ s p)
-built_in_row r.get_child_nodes common = inr (λ rules n s p. no_node _ s p)
-built_in_row r.get_element_by_id common = inr (λ rules n s p. no_node _ s p)
-built_in_row r.get_attribute common = inr (λ rules n s p. no_node _ s p)
-built_in_row r.set_attribute common = inr (λ rules n s p. no_node _ s p)
-built_in_row r.get_text common = inr (λ rules n s p. no_node _ s p)
-built_in_row r.set_text common = inr (λ rules n s p. no_node _ s p)
-built_in_row r.create_element common = inr (λ rules n s p. no_node _ s p)
-built_in_row r.create_text_node common = inr (λ rules n s p. no_node _ s p)
-built_in_row r.append_child common = inr (λ rules n s p. no_node _ s p)
-built_in_row r.remove_child common = inr (λ rules n s p. no_node _ s p)
-built_in_row r.on common = inr (λ rules n s p. no_node _ s p)
+built_in_row r.get_tag_name common = inr (λ rules n. refl)
+built_in_row r.get_parent_node common = inr (λ rules n. refl)
+built_in_row r.get_child_nodes common = inr (λ rules n. refl)
+built_in_row r.get_element_by_id common = inr (λ rules n. refl)
+built_in_row r.get_attribute common = inr (λ rules n. refl)
+built_in_row r.set_attribute common = inr (λ rules n. refl)
+built_in_row r.get_text common = inr (λ rules n. refl)
+built_in_row r.set_text common = inr (λ rules n. refl)
+built_in_row r.create_element common = inr (λ rules n. refl)
+built_in_row r.create_text_node common = inr (λ rules n. refl)
+built_in_row r.append_child common = inr (λ rules n. refl)
+built_in_row r.remove_child common = inr (λ rules n. refl)
+built_in_row r.on common = inr (λ rules n. refl)
 built_in_row (r.service k) common = absurd (not_common common)
 built_in_row r.say common = absurd (not_common common)
 built_in_row r.later common = absurd (not_common common)

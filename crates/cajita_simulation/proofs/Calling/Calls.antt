@@ -64,6 +64,8 @@ IsCalling b o (r.as_number x go) = (n : ℤ) → IsCalling b o (go n)
 IsCalling b o (r.as_joined x sep go) = (us : List ℕ) → IsCalling b o (go us)
 IsCalling b o (r.as_same x y go) = (c : Bool) → IsCalling b o (go c)
 IsCalling b o (r.looks x go) = (s : Sight) → IsCalling b ((x, s) ∷ o) (go s)
+IsCalling b o (r.as_same_root x v go) = ⊥
+IsCalling b o (r.branches x go other) = ⊥
 IsCalling b o (r.touches t x k next) = IsCalling b o next
 
 pub calling_settling : (b : ℕ) (q : Row) (o : Looked) → IsCalling b o q → NoSettling q
@@ -74,6 +76,8 @@ calling_settling b (r.as_number x go) o p = λ n. calling_settling b (go n) o (p
 calling_settling b (r.as_joined x sep go) o p = λ us. calling_settling b (go us) o (p us)
 calling_settling b (r.as_same x y go) o p = λ c. calling_settling b (go c) o (p c)
 calling_settling b (r.looks x go) o p = λ s. calling_settling b (go s) ((x, s) ∷ o) (p s)
+calling_settling b (r.as_same_root x v go) o p = absurd p
+calling_settling b (r.branches x go other) o p = absurd p
 calling_settling b (r.touches t x k next) o p = calling_settling b next o p
 
 -- what such a row comes to in a world
@@ -142,7 +146,7 @@ named_few w h n (World.cell_name a (suc b)) c is = tt
 named_few w h n (World.own_name a b) c is = tt
 named_few w h n (World.built_name f) c is = tt
 named_few w h n (World.tools_name t) c is = tt
-named_few w h n (World.facet_name root k) c is = absurd is
+named_few w h n (World.facet_name root k) c is = tt
 named_few w h n (World.forward_name a b d e) c is = absurd is
 
 seen_few : {m : ℕ} {h : Objects} (w : State) → ObjectsAre first place_of w.objects h m → (n : ℕ) (v : Value) (e : EsValue) → Val h v e → FewSeen (direct.see w n v).sight
@@ -236,6 +240,8 @@ calling_row b few by (r.looks x go) o p a s es w h z v k is =
     let alike = seen_alike w k n (direct.value_of s.values x) (es3.value_in place_of es x) same in
     calling_row b few by (go seen.sight) ((x, seen.sight) ∷ o) (p seen.sight) (a.1 seen.sight (seen_among w k n (direct.value_of s.values x) (es3.value_in place_of es x) same)) _ (es ++ (es3.see h n (es3.value_in place_of es x)).values) w h z (vals_append h s.values seen.values es (es3.see h n (es3.value_in place_of es x)).values v alike.values) k
     (record { held = s.values; more = seen.values; begins = refl; number = n; is = refl; few = seen_few w k n (direct.value_of s.values x) (es3.value_in place_of es x) same }, seen_more w s.values seen.values o is)
+calling_row b few by (r.as_same_root x c go) o p a s es w h z v k is = absurd p
+calling_row b few by (r.branches x go other) o p a s es w h z v k is = absurd p
 calling_row b few by (r.touches t x j next) o p a s es w h z v k is = calling_row b few by next o p a.1 s es w h _ v k is
 
 -- both go on alike by what the row came to: with a value, a throw, or with the call

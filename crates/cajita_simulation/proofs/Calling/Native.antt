@@ -1,5 +1,5 @@
 -- The law of a call of a function that no module made, by its name.
-use Rattle.std.proofs.Common.{◌≡◌, ℕ, zero, suc, ◌≤◌, ◌<◌, Bool, true, false, List, [], ◌∷◌, ◌++◌, length, Option, Some, None, cond, inl, inr, refl, sym, ap, ◌∙◌, subst, arith, ◌-◌}
+use Rattle.std.proofs.Common.{◌≡◌, ℕ, zero, suc, ◌≤◌, ◌<◌, Bool, true, false, List, [], ◌∷◌, length, Option, Some, None, cond, inl, inr, refl, sym, ap, ◌∙◌, subst, arith, ◌-◌}
 use Rattle.plans.specs.Plans.{bind, ends, enter}
 use Rattle.acts.specs.Acts.{replied}
 use Rattle.es3_objects.specs.declared.value.Value.TheVariants as es
@@ -20,24 +20,25 @@ use Rattle.cajita_meaning.specs.Asking.{native_at, native_call}
 use Rattle.cajita_meaning.specs.Direct.{Item}
 use Rattle.heap_rows.specs.Natives.{number_of, kind_of, own_number, cell_number, is_common}
 use Rattle.heap_rows.specs.Doing as es3
-use Rattle.heap_rows.specs.Opening.{first, place_of, empty_page}
-use Rattle.row_simulation.specs.Among.{IsSightAmong, AreAnswersAmong}
+use Rattle.heap_rows.specs.Opening.{place_of, empty_page}
+use Rattle.row_simulation.specs.Among.{AreAnswersAmong}
+use Rattle.row_simulation.specs.RowLaw.{PagesAre}
 use Rattle.row_simulation.specs.Correspond.{IsNative}
 use Rattle.row_simulation.proofs.Row.{vals_length}
-use Rattle.row_simulation.proofs.Sights.{seen_alike, seen_among}
 use Rattle.row_simulation.proofs.Tables.{tables}
 use Rattle.page_natives.specs.declared.natives.Callee.TheVariants as callee
 use Rattle.page_natives.specs.Answered.{turn_of}
 use Rattle.page_natives.specs.Natives.{Kept, page_table}
+use Rattle.page_natives.proofs.Nodes.{refusal, Refuses, refused}
 use Rattle.page_natives.proofs.Numbers.{built_ins_are_their_rows, say_has_its_number, later_has_its_number, get_has_its_number, set_has_its_number}
 use Rattle.page_natives.proofs.OwnFunctions.{say_does_its_row, later_does_its_row, get_does_its_row, set_does_its_row}
 use Rattle.cajita_simulation.proofs.Doing as Source
-use Rattle.cajita_simulation.proofs.Relation.{RelAt, EsValue, Val, Vals, Named, Here, env_of, Tags, Temps, ObjectsAre, stays_refl}
+use Rattle.cajita_simulation.proofs.Relation.{RelAt, EsValue, Val, Vals, Named, Here, env_of, Tags, Temps, stays_refl}
 use Rattle.cajita_simulation.proofs.Laws.{NextAt, value_from, Cont, Cont', M}
 use Rattle.cajita_simulation.proofs.Rows.{Going}
 use Rattle.cajita_simulation.proofs.Calling.Laws.{NativeAt, ClosureAt, applied, FewValues}
 use Rattle.cajita_simulation.proofs.Calling.Receiver.{first_free, no_receiver}
-use Rattle.cajita_simulation.proofs.Calling.BuiltIns.{refusal, Refuses, built_in_row}
+use Rattle.cajita_simulation.proofs.Calling.BuiltIns.{built_in_row}
 use Rattle.cajita_simulation.proofs.Calling.Natives.{kind_entered, applied_native, self_of, Entered, native_enters, called_row}
 use Rattle.cajita_simulation.proofs.Calling.Own.{say_settled, later_settled, get_settled, set_settled, own_row}
 
@@ -65,18 +66,17 @@ self_same f common by n i this qs h =
 
 -- a row that refuses what is no node
 
-refused_here : (by : ℕ) (q : Row) → Refuses q → (v : Value) (us : List Value) (w : State) → ((n : ℕ) → IsSightAmong (direct.see w n v).sight) → direct.does by q (direct.given (v ∷ us)) w [] ≡ direct.does by refusal (direct.given []) w []
-refused_here by (r.looks (r.held zero) go) p v us w among =
-    ap (λ q. direct.does by q (direct.and_seen (direct.given (v ∷ us)) (direct.way_into (direct.given (v ∷ us)) (r.held 0)) (direct.see w (length (v ∷ us)) v).values) w []) (p (direct.see w (length (v ∷ us)) v).sight (among (length (v ∷ us))))
-refused_here by q p v us w among = absurd p
+refused_here : (by : ℕ) (q : Row) → Refuses q → (v : Value) (us : List Value) (w : State) → ((n : ℕ) → direct.around w n v ≡ None) → direct.does by q (direct.given (v ∷ us)) w [] ≡ direct.does by refusal (direct.given []) w []
+refused_here by (r.branches (r.held zero) go other) p v us w none =
+    subst (λ o. direct.with_branch o (λ b. direct.does by (go b.branch) (direct.and_seen (direct.given (v ∷ us)) (direct.way_into (direct.given (v ∷ us)) (r.held 0)) b.values) w []) (direct.does by other (direct.given (v ∷ us)) w []) ≡ direct.does by refusal (direct.given []) w []) (sym (none (length (v ∷ us))))
+    (ap (λ q. direct.does by q (direct.given (v ∷ us)) w []) p)
+refused_here by q p v us w none = absurd p
 
-refused_there : (by : ℕ) (q : Row) → Refuses q → (e : EsValue) (qs : List EsValue) (h : Objects) → ((n : ℕ) → IsSightAmong (es3.see h n e).sight) → es3.does place_of by q (e ∷ qs) h empty_page [] ≡ es3.does place_of by refusal [] h empty_page []
-refused_there by (r.looks (r.held zero) go) p e qs h among =
-    ap (λ q. es3.does place_of by q ((e ∷ qs) ++ (es3.see h (length (e ∷ qs)) e).values) h empty_page []) (p (es3.see h (length (e ∷ qs)) e).sight (among (length (e ∷ qs))))
-refused_there by q p e qs h among = absurd p
-
-seen_there : {m : ℕ} {h : Objects} (w : State) → ObjectsAre first place_of w.objects h m → (v : Value) (e : EsValue) → Val h v e → (n : ℕ) → IsSightAmong (es3.see h n e).sight
-seen_there w o v e is n = subst IsSightAmong (seen_alike w o n v e is).sight (seen_among w o n v e is)
+-- a page without nodes has no value that is one
+no_node : {h : Objects} {w : State} {g : es3.Page} → PagesAre h w g → ((root : ℕ) → g.nodes root ≡ []) → (v : Value) (e : EsValue) → Val h v e → (n : ℕ) → direct.around w n v ≡ None
+no_node {g = g} p none (object (facet_name root k)) (es.Obj i) is n = let lt : k < length (g.nodes root) = p.known root k i is in let e = ap length (none root) in absurd (omega (arith, lt, e))
+no_node p none (object (facet_name root k)) e is n = absurd is
+no_node p none v e is n = refl
 
 -- what is called by its number comes to its row
 turn_is : (f : Native) → is_common f ≡ true → (by : ℕ) (this : EsValue) (qs : List EsValue) (h : Objects) (y : Kept) (came : es3.Came) → es3.does place_of by (row_of no_rules f (suc (length qs))) (this ∷ qs) h empty_page [] ≡ came
@@ -102,8 +102,8 @@ built_in_called {form = form} {H = H} {k = k} below closures natives b lt f comm
           (is, args) r x
       | inr p ↦
           called_row {k = k} below closures natives b lt f vs (number_of f) this qs refusal tt tt 0 (omega arith) tt [] [] go next next' few
-          (refused_here H.by (row_of H.rules f (suc (length us))) (p H.rules (suc (length us))) self us w (λ n. seen_among w r.all.objects n self self' is))
-          (turn_is f common H.by this qs s.heap y (es3.does place_of H.by refusal [] s.heap empty_page []) (refused_there H.by (row_of no_rules f (suc (length qs))) (p no_rules (suc (length qs))) this qs s.heap (seen_there w r.all.objects receiver this at)))
+          (refused_here H.by (row_of H.rules f (suc (length us))) (p H.rules (suc (length us))) self us w (no_node r.all.pages (λ root. refl) self self' is))
+          (turn_is f common H.by this qs s.heap y (es3.does place_of H.by refusal [] s.heap empty_page []) (refused (row_of no_rules f (suc (length qs))) (p no_rules (suc (length qs))) H.by this qs s.heap empty_page [] (λ root. refl)))
           tt r x
     ]
 

@@ -167,7 +167,7 @@ own_row {form = form} {H = H} {T = T} {k = k} below b callee f number o i this u
     let c : CameIs first place_of s.heap m (direct.does H.by q (direct.given vs) w []) came = every_row first place_of H.by below first_is q among (direct.given vs) (es.Obj i ∷ qs) w s.heap (page_of y) [] [] m few (named, args) r.all.objects r.all.pages refl in
     let always : heard y.touching came.done.items ≡ came.done.items = subst (λ l. heard y.touching l ≡ l) c.done.items (settled.items y.touching) in
     let told : kept.told ≡ y.told ++ heard y.touching came.done.items = ok.told ∙ ap (λ l. y.told ++ l) (sym always) in
-    let keeps : KeepsRow y kept came = record { runtime = ok.runtime; imports = ok.imports; touching = (kept_more callee H.by qs s.heap y).touching; told = told; cells = ok.cells; queues = ok.queues } in
+    let keeps : KeepsRow y kept came = record { runtime = ok.runtime; imports = ok.imports; touching = (kept_more callee H.by qs s.heap y).touching; told = told; cells = ok.cells; queues = ok.queues; nodes = ok.nodes; facets = ok.facets; handlers = ok.handlers } in
     let x1 : NextAt form H T b k w g s m (Source.called_next (native_go H vs) (native_next go next)) next' = native_gives go next next' vs (omega arith) x in
     let e = (direct.does H.by q (direct.given vs) w []).outcome in
     let follows : RowNextAt form Anything H T b (suc k) w n g s m (native_go H vs) (native_next go next) next' = record {

@@ -22,8 +22,8 @@ use Rattle.row_simulation.specs.Correspond as rows
 use Rattle.row_simulation.proofs.Relation as row_relation
 use Rattle.row_simulation.proofs.Row as row_laws
 use Rattle.row_simulation.proofs.First.{first_is}
-use Rattle.row_simulation.proofs.Changes.{last_kept, objects_made, named_keeps, room}
-use Rattle.row_simulation.proofs.Added.{objects_with, awaiting_keeps}
+use Rattle.row_simulation.proofs.Changes.{last_kept, objects_made, named_keeps, named_no_node, room}
+use Rattle.row_simulation.proofs.Added.{objects_with, awaiting_keeps, awaiting_no_node}
 use Rattle.row_simulation.proofs.Arrays.{array_new, array_is}
 use Rattle.cajita_simulation.specs.Guest.{NewFuncs, is_declared}
 use Rattle.cajita_simulation.proofs.Heaps.Names.{name_value-with_name}
@@ -43,7 +43,7 @@ use Rattle.cajita_simulation.proofs.Declaring.Stores.{all_codes, bare_store, bou
 use Rattle.cajita_simulation.proofs.Declaring.Names.{Placed, name_new, declared_name, all_objects, bound_pairs, objects_world, functions_other, pairs_other}
 use Rattle.cajita_simulation.proofs.Declaring.Relation.{closures_older, codes_kept}
 use Rattle.cajita_simulation.proofs.Declaring.Awaiting.{AllAwait, await_later, Begun, Granted, granted_alike}
-use Rattle.cajita_simulation.proofs.Declaring.Bare.{objects_bare, keeps_bare, await_bare}
+use Rattle.cajita_simulation.proofs.Declaring.Bare.{objects_bare, keeps_bare, no_node_bare, await_bare}
 
 -- an array is no closure
 closures_array : (objects : ℕ → List Object) {g : Tags} {s : Store} (by : ℕ) (us : List Value) → ClosuresAre objects g s → ClosuresAre (with_last by (an_array true us) objects) g s
@@ -115,6 +115,9 @@ module _ (fs : c.Tree c.funcs) (by : ℕ) (direct chain : List ℕ) (f : EsValue
   keeps_bare_here : rows.Keeps s.heap hA
   keeps_bare_here = row_laws.keeps_trans (keeps_bare fs chain by s.codes s.heap) (awaiting_keeps (bare_store fs chain by s).heap item refl)
 
+  no_node_here : rows.NoNewNode s.heap hB
+  no_node_here = row_laws.no_node_trans (row_laws.no_node_trans (no_node_bare fs chain by s.codes s.heap) (awaiting_no_node (bare_store fs chain by s).heap item refl)) (named_no_node hA (frozen_array qs) by)
+
   -- the functions still await their names
   pub await_here : AllAwait fs chain by (length s.heap.list) (all_codes fs chain s.codes) hB
   await_here = await_later fs chain by (length s.heap.list) (all_codes fs chain s.codes) (bare_store fs chain by s).heap hB
@@ -145,6 +148,7 @@ module _ (fs : c.Tree c.funcs) (by : ℕ) (direct chain : List ℕ) (f : EsValue
     begun_here are closures = record {
       objects = objects_after;
       keeps = keeps_here;
+      no_node = no_node_here;
       closures = closures_array w.objects by us (closures_shaped w.objects {g = g} {g' = g ++ t ∷ []} {s = with_heap s hB} {s' = whole_store} refl shaped_behind are (scopes_are (activation f params qs) names_here inner_store tt are) (closures_kept {s = s} keeps_here are old closures));
     }
 
@@ -181,7 +185,7 @@ pub related_here : {T T' : Temps} {j k : ℕ} {w : State} {z : List Item} {n : �
     mm + k ≤ 64 * n → NewScopes T T' pairs (activation f params qs) (args_names f params qs all (bare_store fs chain by s)) (record s { heap = h; codes = all_codes fs chain s.codes }) → rows.IsPlain first h (length (bare_store fs chain by s).heap.list)
     → Begun (all_objects fs direct by w1.objects) s.heap tags (with_scope (activation f params qs) (args_names f params qs all (bare_store fs chain by s)) sF) mm → Related T j w z n g s y m
     → Related T' k (World.with_scope by pairs (objects_world fs direct by w1)) z n tags (with_scope (activation f params qs) (args_names f params qs all (bare_store fs chain by s)) sF) y mm)
-related_here {w = w} {g = g} {s = s} fs by direct chain f params us qs all h fits new plain begun r =
+related_here {w = w} {g = g} {s = s} {pairs = pairs} fs by direct chain f params us qs all h fits new plain begun r =
     let keeps = begun.keeps in
     let before = with_scope (activation f params qs) (args_names f params qs all (bare_store fs chain by s)) (record s { heap = h; codes = all_codes fs chain s.codes }) in
     let owned : store.Scope = record { owner = activation f params qs; names = args_names f params qs all (bare_store fs chain by s) } in
@@ -193,7 +197,7 @@ related_here {w = w} {g = g} {s = s} fs by direct chain f params us qs all h fit
       steps = fits;
       items = r.items;
       objects = begun.objects;
-      pages = record { cells = λ a. row_relation.val_keep keeps (w.cells a) _ (r.pages.cells a); queues = λ a. row_relation.vals_keep keeps (w.queues a) _ (r.pages.queues a) };
+      pages = row_laws.pages_keep w (World.with_scope by pairs (objects_world fs direct by (World.with_object by (an_array true us) w))) _ keeps begun.no_node (refl, refl, refl, refl) r.pages;
       closures = begun.closures;
       waiters = λ j. closures_wait w.objects (objects_world fs direct by (World.with_object by (an_array true us) w)).objects (λ a l q chain' e. closures_older fs direct by (World.with_object by (an_array true us) w).objects a l (World.a_closure q chain') (last_kept by a l (an_array true us) (World.a_closure q chain') w.objects e)) (w.queues j) (r.waiters j);
       scopes = scopes_shared {s = before} (s.shared ++ entry ∷ []) shared scopes;

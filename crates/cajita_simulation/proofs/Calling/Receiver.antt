@@ -44,7 +44,6 @@ PairsBehind ((k, x) ∷ ps) = IsBehind x × PairsBehind ps
 abbrev SightBehind : Sight → Type 0
 SightBehind (r.a_record frozen ps) = PairsBehind ps
 SightBehind (r.an_array frozen xs) = AreBehind xs
-SightBehind (r.a_node b) = ⊥
 SightBehind s = Unit {0}
 
 abbrev EndBehind : Ending → Type 0

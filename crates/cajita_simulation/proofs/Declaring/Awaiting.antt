@@ -22,7 +22,7 @@ use Rattle.heap_rows.specs.Opening.{first, place_of}
 use Rattle.row_simulation.specs.Correspond as rows
 use Rattle.row_simulation.proofs.Relation.{StillNamed}
 use Rattle.row_simulation.proofs.Changes.{by_number, room}
-use Rattle.row_simulation.proofs.Naming.{where_named, where_other, where_still, where_keeps, objects_where, where_given}
+use Rattle.row_simulation.proofs.Naming.{where_named, where_other, where_still, where_keeps, where_no_node, objects_where, where_given}
 use Rattle.cajita_simulation.specs.Guest.{Names, Guest, is_declared}
 use Rattle.cajita_simulation.proofs.Heaps.Names.{name_value-with_name}
 use Rattle.cajita_simulation.proofs.Heaps.Functions.{function_object, marked_object}
@@ -67,6 +67,7 @@ later_trans p q = record { still = record { named = λ n i t. q.still.named n i 
 pub record Begun (world : ℕ → List Object) (base : Objects) (g : Tags) (s : Store) (m : ℕ) : Type 0 where
   pub objects : ObjectsAre first place_of world s.heap m
   pub keeps : rows.Keeps base s.heap
+  pub no_node : rows.NoNewNode base s.heap
   pub closures : ClosuresAre world g s
 
 -- the names that the functions get
@@ -141,6 +142,7 @@ module _ (g : Tags) (S : Store) (base h : Objects) (by : ℕ) (f : c.Tree c.func
       record {
         objects = made;
         keeps = where_keeps h place _ function by awaits.there refl r.keeps new (room by below few r.objects);
+        no_node = where_no_node h place _ function by awaits.there refl r.no_node;
         closures = closures_last objects by f direct place below made (where_given h place _ function by awaits.there refl objects (a_closure f direct) below large few r.objects (marked_is_new awaits.number (length (declared_code f chain).params) by (suc place)) is) code (closures_where below are r.objects r.closures);
       }
     where

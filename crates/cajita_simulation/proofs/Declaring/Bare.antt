@@ -11,7 +11,7 @@ use Rattle.row_simulation.proofs.Added.{objects_with}
 use Rattle.cajita_simulation.proofs.Heaps.Lists.{slice_get-push}
 use Rattle.cajita_simulation.proofs.Heaps.Functions.{function_object, prototype_object, function_new}
 use Rattle.cajita_simulation.proofs.Relation.{ObjectsAre}
-use Rattle.cajita_simulation.proofs.Entering.{function_is_new, prototype_is_new, two_keep}
+use Rattle.cajita_simulation.proofs.Entering.{function_is_new, prototype_is_new, two_keep, two_no_node}
 use Rattle.cajita_simulation.proofs.Declaring.Stores.{declared_code, all_codes, bare_heap, bare_store, length-made, first_there}
 use Rattle.cajita_simulation.proofs.Declaring.Relation.{codes_kept}
 use Rattle.cajita_simulation.proofs.Declaring.Awaiting.{AllAwait}
@@ -33,6 +33,15 @@ keeps_bare (c.more_funcs f fs) chain by codes h =
     let b = prototype_object (length h.list) in
     row_laws.keeps_trans (subst (λ g. rows.Keeps h g) (sym (function_new (length codes) n by h)) (two_keep h a b (function_is_new (length codes) n by (suc (length h.list))) (prototype_is_new (length h.list))))
     (keeps_bare fs chain by (codes ++ declared_code f chain ∷ []) (new_function (length codes) n by h))
+
+pub no_node_bare : (fs : c.Tree c.funcs) (chain : List ℕ) (by : ℕ) (codes : List Code) (h : Objects) → rows.NoNewNode h (bare_heap fs chain by codes h)
+no_node_bare c.no_funcs chain by codes h = row_laws.no_node_refl
+no_node_bare (c.more_funcs f fs) chain by codes h =
+    let n = length (declared_code f chain).params in
+    let a = function_object (length codes) n by (suc (length h.list)) in
+    let b = prototype_object (length h.list) in
+    row_laws.no_node_trans (subst (λ g. rows.NoNewNode h g) (sym (function_new (length codes) n by h)) (two_no_node h a b (function_is_new (length codes) n by (suc (length h.list))) (prototype_is_new (length h.list))))
+    (no_node_bare fs chain by (codes ++ declared_code f chain ∷ []) (new_function (length codes) n by h))
 
 pub await_bare : (fs : c.Tree c.funcs) (chain : List ℕ) (by : ℕ) (s : Store) → AllAwait fs chain by (length s.heap.list) (all_codes fs chain s.codes) (bare_store fs chain by s).heap
 await_bare c.no_funcs chain by s = tt

@@ -73,7 +73,7 @@ awaiting_match {J = J} {d = d} params vars S base (c.more_funcs f fs) rest acc n
     let h1 = named_at h place (marked_object awaits.0.number (length (declared_code f chain).params) J.by (suc place)) J.by in
     left_told {p = bind (replied (functions_made fs number direct J.by w1 done) go) next} (await_mark params vars S h f fs (marks fs rest) acc chain out place {p = bind (replied (functions_made fs number direct J.by w1 done) go) next} end' next' innermost new.0 stands are runtime awaits.0 (opened_of begun.objects) there.0 (omega (arith, fits, count)) (ap (heard y.touching) told ∙ items) (λ acc1 small.
     let next1 = begun_next g S base h J.by f direct chain place awaits.0 below (omega (arith, small)) new_place large are captured guest.0 begun in
-    let begun1 : Begun w1.objects base g (with_heap S h1) (suc (suc (suc (suc (suc (suc m)))))) = record { objects = objects_step (omega arith) next1.objects; keeps = next1.keeps; closures = next1.closures } in
+    let begun1 : Begun w1.objects base g (with_heap S h1) (suc (suc (suc (suc (suc (suc m)))))) = record { objects = objects_step (omega arith) next1.objects; keeps = next1.keeps; no_node = next1.no_node; closures = next1.closures } in
     let later = await_later fs chain J.by (suc (suc place)) S.codes h h1 (λ i o le e. where_other h place _ (marked_object awaits.0.number (length (declared_code f chain).params) J.by (suc place)) J.by awaits.0.there refl i (λ same. omega (arith, le, same)) ∙ e) awaits.1 in
     awaiting_match {J = J} params vars S base fs rest acc1 number (suc (suc place)) direct chain out w1 done go next {h = h1} end' next' below innermost new.1 stands are runtime captured guest.1 later there.1 (omega (arith, new_place)) (omega (arith, large)) begun1 fits (ap (heard y.touching) told ∙ items) (λ acc2 z2 h2 same begun2 given still.
     x acc2 z2 h2 (same ∙ told) begun2 (still.still.named (made_name J.by (length (w.objects J.by))) place (named_next g S base h J.by f direct chain place awaits.0 below begun), given) (later_trans (later_next g S base h J.by f direct chain place awaits.0) still))))

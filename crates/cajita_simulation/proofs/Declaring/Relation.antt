@@ -33,7 +33,7 @@ use Rattle.cajita_simulation.proofs.Scopes.{stored_is, captured_stays}
 use Rattle.cajita_simulation.proofs.Written.{value_at-with_value}
 use Rattle.cajita_simulation.proofs.Changes.{closures_shaped, scopes_keep}
 use Rattle.cajita_simulation.proofs.Entering.{NewScopes, scopes_more, scopes_are, shaped_scope, shaped_code, scopes_coded}
-use Rattle.cajita_simulation.proofs.Closures.{marked_heap, closed_store, closure_keeps, closure_objects, closure_named, closures_with, shaped_closure}
+use Rattle.cajita_simulation.proofs.Closures.{marked_heap, closed_store, closure_keeps, closure_no_node, closure_objects, closure_named, closures_with, shaped_closure}
 use Rattle.cajita_simulation.proofs.Declaring.Stores.{declared_code, all_codes, bare_heap, bare_store, named_store, bound_names, length-marked}
 use Rattle.cajita_simulation.proofs.Declaring.Names.{all_objects, bound_pairs, objects_world, declared_name, functions_other, pairs_other}
 
@@ -87,6 +87,10 @@ keeps_all c.no_funcs g s by direct chain below few old = row_laws.keeps_refl
 keeps_all (c.more_funcs f fs) g s by direct chain {m = m} below few old =
     row_laws.keeps_trans (closure_keeps g s by f direct chain (room by below (few_first f fs m few) old))
     (keeps_all fs g (closed_store (declared_code f chain) by s) by direct chain below (few_rest f fs m few) (closure_objects g s by f direct chain below (few_first f fs m few) old))
+
+pub no_node_all : (fs : c.Tree c.funcs) (g : Tags) (s : Store) (by : ℕ) (direct chain : List ℕ) → rows.NoNewNode s.heap (named_store fs chain by s).heap
+no_node_all c.no_funcs g s by direct chain = row_laws.no_node_refl
+no_node_all (c.more_funcs f fs) g s by direct chain = row_laws.no_node_trans (closure_no_node g s by f direct chain) (no_node_all fs g (closed_store (declared_code f chain) by s) by direct chain)
 
 -- closures
 
@@ -157,7 +161,7 @@ closures_older (c.more_funcs f fs) direct by objects a l o e = closures_older fs
 -- the relation
 pub related_declared : {T T' : Temps} {j k : ℕ} {w : State} {z : List Item} {n : ℕ} {g : Tags} {s : Store} {y : Kept} {m : ℕ} {pairs : Pairs} {owner : store.Owner} {names : store.Names} {vars free : Names} (fs : c.Tree c.funcs) (by : ℕ) (direct chain : List ℕ) → by < 64 → Few fs m → one_each fs m + k ≤ 64 * n → NewScopes T T' pairs owner names (named_store fs chain by s) → Captured vars free by (g ++ tag_of_scope by (next_scope by w) ∷ []) direct chain (with_scope owner names s) → Guest vars free c.funcs fs → Related T j w z n g s y m
     → Related T' k (World.with_scope by pairs (objects_world fs direct by w)) z n (g ++ tag_of_scope by (next_scope by w) ∷ []) (with_scope owner names (named_store fs chain by s)) y (one_each fs m)
-related_declared {w = w} {g = g} {s = s} {owner = owner} {names = names} fs by direct chain below few fits new captured guest r =
+related_declared {w = w} {g = g} {s = s} {pairs = pairs} {owner = owner} {names = names} fs by direct chain below few fits new captured guest r =
     let keeps = keeps_all fs g s by direct chain below few r.objects in
     let tags = g ++ tag_of_scope by (next_scope by w) ∷ [] in
     let scoped = with_scope owner names s in
@@ -166,7 +170,7 @@ related_declared {w = w} {g = g} {s = s} {owner = owner} {names = names} fs by d
       steps = fits;
       items = r.items;
       objects = objects_all fs g s by direct chain below few r.objects;
-      pages = record { cells = λ a. row_relation.val_keep keeps (w.cells a) _ (r.pages.cells a); queues = λ a. row_relation.vals_keep keeps (w.queues a) _ (r.pages.queues a) };
+      pages = row_laws.pages_keep w (World.with_scope by pairs (objects_world fs direct by w)) _ keeps (no_node_all fs g s by direct chain) (refl, refl, refl, refl) r.pages;
       closures = closures_all fs tags scoped by direct chain below few are r.objects captured guest (closures_shaped w.objects {g = g} {s = s} refl (shaped_scope g (tag_of_scope by (next_scope by w)) owner names s) r.scopes.are are r.closures);
       waiters = λ j. closures_wait w.objects (objects_world fs direct by w).objects (λ a l q chain' e. closures_older fs direct by w.objects a l (a_closure q chain') e) (w.queues j) (r.waiters j);
       scopes = scopes_more by new (scopes_coded (all_codes fs chain s.codes) (scopes_keep keeps r.scopes));

@@ -21,7 +21,6 @@ use Rattle.cajita_meaning.specs.World.{Pairs, a_closure, World as State, next_na
 use Rattle.cajita_meaning.specs.Direct.{Item, made}
 use Rattle.heap_rows.specs.Marks.{simple_mark}
 use Rattle.page_natives.specs.Natives.{Kept}
-use Rattle.row_simulation.proofs.Relation as row_relation
 use Rattle.row_simulation.proofs.Changes.{room, last_kept}
 use Rattle.cajita_simulation.specs.Guest.{Names, GuestName, inner, without, Guest}
 use Rattle.cajita_simulation.proofs.Doing as Source
@@ -33,7 +32,8 @@ use Rattle.cajita_simulation.proofs.Relation.{closures_wait, EsValue, Named, tag
 use Rattle.cajita_simulation.proofs.Scopes.{stored_same, captured_stays, in_stays}
 use Rattle.cajita_simulation.proofs.Changes.{rel_told, closures_shaped, closures_kept, scopes_keep}
 use Rattle.cajita_simulation.proofs.Entering.{names_new, shaped_scope, scopes_are, NewScopes, scopes_more, related_code}
-use Rattle.cajita_simulation.proofs.Closures.{coded, closed_store, func_plan, closures_last, shaped_closure, function_there, closure_keeps, closure_objects, closure_named}
+use Rattle.row_simulation.proofs.Row.{pages_keep}
+use Rattle.cajita_simulation.proofs.Closures.{coded, closed_store, func_plan, closures_last, shaped_closure, function_there, closure_keeps, closure_no_node, closure_objects, closure_named}
 use Rattle.cajita_simulation.proofs.Laws.{ValueBody, M, steps_hold}
 use Rattle.cajita_simulation.proofs.Calls.{callee_match, guard_at, opened_of}
 use Rattle.cajita_simulation.proofs.Calling.Entering.{here_at, further_at, no_slot, past_end}
@@ -179,7 +179,7 @@ module _ {g : Tags} {s : Store} {T : Temps} {j : ℕ} {w : State} {z : List Item
         steps = fits;
         items = r.items;
         objects = objects;
-        pages = record { cells = λ a. row_relation.val_keep keeps (w.cells a) _ (r.pages.cells a); queues = λ a. row_relation.vals_keep keeps (w.queues a) _ (r.pages.queues a) };
+        pages = pages_keep w bound _ keeps (closure_no_node g s by f outer scoped) (refl, refl, refl, refl) r.pages;
         closures = closures_last w.objects by f outer (length s.heap.list) below objects named (new_code captured is) old;
         waiters = λ j. closures_wait w.objects bound.objects (λ a l q chain' e. last_kept by a l (a_closure f outer) (a_closure q chain') w.objects e) (w.queues j) (r.waiters j);
         scopes = scopes_more by new (scopes_keep keeps r1.scopes);

@@ -24,7 +24,7 @@ begins_with h objects page y knows told cells waiting = record {
   steps = omega arith;
   items = sym told;
   objects = objects;
-  pages = record { cells = λ c. subst (λ l. Val h undefined (cell_value c l)) (sym cells) (page.cells c); queues = λ m. subst (λ l. Vals h [] (queue_of m l)) (sym waiting) (page.queues m) };
+  pages = record { cells = λ c. subst (λ l. Val h undefined (cell_value c l)) (sym cells) (page.cells c); queues = λ m. subst (λ l. Vals h [] (queue_of m l)) (sym waiting) (page.queues m); nodes = page.nodes; within = page.within; facets = page.facets; as_many = page.as_many; known = page.known; handlers = page.handlers };
   closures = λ m n f chain known. absurd (none-some _ known);
   waiters = λ m. tt;
   scopes = record {

@@ -16,9 +16,10 @@ use Rattle.heap_rows.specs.Opening.{first, fixed_values}
 use Rattle.page_natives.specs.Natives.{Kept, imports_of, page_of}
 use Rattle.module_loader.specs.Turns.{say_place}
 use Rattle.row_simulation.specs.Correspond.{PairsAre, Keeps}
-use Rattle.row_simulation.proofs.Relation.{val_keep, vals_keep}
+use Rattle.row_simulation.proofs.Relation.{val_keep}
 use Rattle.row_simulation.proofs.Changes.{IsNew, get-push}
-use Rattle.row_simulation.proofs.Added.{awaiting_keeps, objects_with}
+use Rattle.row_simulation.proofs.Added.{awaiting_keeps, awaiting_no_node, objects_with}
+use Rattle.row_simulation.proofs.Row.{pages_keep}
 use Rattle.row_simulation.proofs.Keys.{apart_too, hidden_read, hidden_set}
 use Rattle.row_simulation.proofs.Begun.{proto_few}
 use Rattle.row_simulation.proofs.Imported.{pair_found, FixedThere, fixed_there_keep, fixed_are}
@@ -83,7 +84,7 @@ load_begins modules cells m among below names ps qs d w z n g s y i places are r
     let new = imports_new l (fixed_open (say_place m) qs (grants_open s.heap ps qs are)) in
     let changes : Changes (page_of y') w s w h (i + 64 * d) = record {
       objects = objects_with w.objects s.heap x r.objects new;
-      pages = record { cells = λ c. val_keep keeps (w.cells c) _ (r.pages.cells c); queues = λ c. vals_keep keeps (w.queues c) _ (r.pages.queues c) };
+      pages = pages_keep w w _ keeps (awaiting_no_node s.heap x refl) (refl, refl, refl, refl) r.pages;
       keeps = keeps;
       scopes = refl;
       older = λ a k f chain e. e;

@@ -1,4 +1,4 @@
-use Rattle.std.proofs.Common.{◌≡◌, ℕ, List, ◌++◌, All, length, map, rules, sym, ap, subst, ◌∙◌}
+use Rattle.std.proofs.Common.{◌≡◌, ℕ, List, [], ◌++◌, All, length, map, rules, sym, ap, subst, ◌∙◌}
 use Rattle.std.proofs.lemmas.List.{length-map}
 use Rattle.es3_tree.specs.View.{program}
 use Rattle.event_script.specs.Events.{asked}
@@ -13,7 +13,8 @@ pub returns-clause-names : goal.returns-clause-names
 returns-clause-names c =
     let ms = c.args.manifest.modules.items in
     let same : c.in_ok-module_names.field-0.items ≡ map (λ m. m.name) (map module_spec ms) = c.in_ok-module_names.ensures ∙ ap (λ l. map (λ m. m.name) l) c.deref.ensures.value ∙ sym (told_names ms) in
-    ap (λ (l : List (List ℕ)). record { modules = l; cells = c.args.manifest.cells.items }) same
+    let cells = c.args.manifest.cells.items in
+    ap (λ (l : List (List ℕ)). record { modules = c.in_ok-module_names.field-0.items; cells = cells; roots = l }) c.new.ensures.items ∙ ap (λ (l : List (List ℕ)). record { modules = l; cells = cells; roots = [] }) same
 
 pub returns-clause-fit : goal.returns-clause-fit
 returns-clause-fit c =

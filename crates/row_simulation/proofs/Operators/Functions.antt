@@ -38,7 +38,7 @@ named_whole objects h (cell_name a (suc b)) o is = function_whole r.simple o is.
 named_whole objects h (own_name a b) o is = function_whole r.simple o is.1.is
 named_whole objects h (built_name f) o is = function_whole _ o is.1.is
 named_whole objects h (tools_name t) o is = record_whole h true _ o is
-named_whole objects h (facet_name root k) o is = absurd is
+named_whole objects h (facet_name root k) o is = rw is refl
 named_whole objects h (forward_name a b d e) o is = absurd is
 
 pub typed : (first : Objects) (places : r.Native → ℕ) (objects : ℕ → List Object) (h : Objects) (m : ℕ) → ObjectsAre first places objects h m → (v : Value) (e : EsValue) → Val h v e → IsTyped h e
