@@ -77,13 +77,25 @@ fn a_page_begins_with_an_object_for_each_node(rt: HostRuntime) -> Result<(), Fai
     let alloc = rt.alloc();
     let mut h = Heap::new(alloc)?;
     let (mut d, before) = begin(alloc, &mut h)?;
-    assert_eq!(rt; h.len(), before + 5);
+    assert_eq!(rt; h.len().checked_sub(before), Some(5));
     assert_eq!(rt; object_of(&mut h, &mut d, 0, 0)?, before);
-    assert_eq!(rt; object_of(&mut h, &mut d, 0, 1)?, before + 1);
-    assert_eq!(rt; object_of(&mut h, &mut d, 0, 2)?, before + 2);
-    assert_eq!(rt; object_of(&mut h, &mut d, 1, 0)?, before + 3);
-    assert_eq!(rt; object_of(&mut h, &mut d, 1, 1)?, before + 4);
-    assert_eq!(rt; h.len(), before + 5);
+    assert_eq!(rt;
+        object_of(&mut h, &mut d, 0, 1)?.checked_sub(before),
+        Some(1)
+    );
+    assert_eq!(rt;
+        object_of(&mut h, &mut d, 0, 2)?.checked_sub(before),
+        Some(2)
+    );
+    assert_eq!(rt;
+        object_of(&mut h, &mut d, 1, 0)?.checked_sub(before),
+        Some(3)
+    );
+    assert_eq!(rt;
+        object_of(&mut h, &mut d, 1, 1)?.checked_sub(before),
+        Some(4)
+    );
+    assert_eq!(rt; h.len().checked_sub(before), Some(5));
     Ok(())
 }
 
@@ -100,13 +112,16 @@ fn a_new_node_has_its_object_at_once(rt: HostRuntime) -> Result<(), Fail> {
         (1, 0),
         "i",
     )?;
-    assert_eq!(rt; h.len(), before + 6);
-    assert_eq!(rt; object(&made)?, before + 5);
+    assert_eq!(rt; h.len().checked_sub(before), Some(6));
+    assert_eq!(rt; object(&made)?.checked_sub(before), Some(5));
     answer(alloc, &mut h, &mut d, NodeMethod::SetText, (0, 1), "z")?;
-    assert_eq!(rt; h.len(), before + 7);
-    assert_eq!(rt; object_of(&mut h, &mut d, 0, 3)?, before + 6);
+    assert_eq!(rt; h.len().checked_sub(before), Some(7));
+    assert_eq!(rt;
+        object_of(&mut h, &mut d, 0, 3)?.checked_sub(before),
+        Some(6)
+    );
     answer(alloc, &mut h, &mut d, NodeMethod::SetText, (0, 3), "w")?;
-    assert_eq!(rt; h.len(), before + 7);
+    assert_eq!(rt; h.len().checked_sub(before), Some(7));
     let again = answer(
         alloc,
         &mut h,
@@ -115,7 +130,7 @@ fn a_new_node_has_its_object_at_once(rt: HostRuntime) -> Result<(), Fail> {
         (0, 0),
         "p",
     )?;
-    assert_eq!(rt; object(&again)?, before + 1);
-    assert_eq!(rt; h.len(), before + 7);
+    assert_eq!(rt; object(&again)?.checked_sub(before), Some(1));
+    assert_eq!(rt; h.len().checked_sub(before), Some(7));
     Ok(())
 }
