@@ -6,7 +6,7 @@ use Rattle.std.specs.Prelude.{All, IsTrue, not, ◌&&◌, codes}
 use Rattle.caja_units.specs.Units.{same_units, is_hidden}
 use Rattle.es3_tokens.specs.Tokens.{is_one_of}
 use Rattle.cajita_names.specs.Rules.{fixed_names}
-use Rattle.page_manifest.specs.Names.{is_grant_name, taken_names}
+use Rattle.manifest_names.specs.Names.{is_grant_name, taken_names}
 use Rattle.cajita_simulation.specs.Guest.{is_among, GuestName}
 use Rattle.accepted_modules.proofs.Declared.{not_true, or_left, or_right, both_true, never, either, guest_same}
 

@@ -14,7 +14,7 @@ ghost use Rattle.cajita_tree.specs.Tree as c;
 ghost use Rattle.cajita_rules.specs.Faults.{faults, first};
 ghost use Rattle.scope_rules.specs.Resolve.{module_of};
 ghost use Rattle.source_sizes.specs.Sizes.{temps_everywhere};
-ghost use Rattle.page_manifest.specs.Names.{is_grant_name};
+ghost use Rattle.manifest_names.specs.Names.{is_grant_name};
 ghost use Rattle.cajita_simulation.specs.Guest.{is_among, GuestName, GuestModule};
 
 /// The module of a tree that tokens spell and that breaks no rule is a guest, whatever names it is granted that a module may use; temporaries have names of their own

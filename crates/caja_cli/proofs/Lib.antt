@@ -4,3 +4,4 @@ pub mod Rests
 pub mod Lengths
 pub mod Planned
 pub mod Statuses
+pub mod Documents

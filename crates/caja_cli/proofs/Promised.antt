@@ -1,13 +1,12 @@
 -- What is promised of the manifest of a page, and of a module that is alone.
-use Rattle.std.proofs.Common.{◌≡◌, ◌≤◌, ℕ, zero, suc, true, false, List, [], ◌∷◌, All, Option, None, Some, Ok, length, refl, ap, subst, arith}
+use Rattle.std.proofs.Common.{◌≡◌, ◌≤◌, ℕ, zero, suc, true, false, List, [], ◌∷◌, All, Option, None, Some, Ok, length, refl, sym, ap, subst, arith}
 use Rattle.std.specs.Prelude.{slice_get, codes, IsTrue}
 use Rattle.std.proofs.lemmas.List.Elements.{All-nil, All-cons}
 use Rattle.page_cajole.proofs.Outcomes.{is_cajoled_page}
-use Rattle.page_manifest.specs.Page.{Module, Page, cajita}
+use Rattle.page_manifest.specs.Page.{Granted, Module, Page, cajita}
 use Rattle.page_manifest.specs.Read.{page_of}
 use Rattle.page_manifest.specs.Valid.{IsGranted, IsModule, IsAsked, IsValid}
-use Rattle.page_manifest.specs.Names.{is_name, is_grant_name}
-use Rattle.page_deeds.specs.Deeds.{Grant}
+use Rattle.manifest_names.specs.Names.{is_name, is_grant_name}
 use Rattle.page_manifest.proofs.Validity.{valid}
 use Rattle.page_manifest.proofs.Languages.{modules_in_language}
 use Rattle.page_manifest.proofs.Arguments.{few_arguments}
@@ -17,14 +16,23 @@ use Rattle.page_meaning.proofs.Texts.{is_text}
 use Rattle.page_meaning.proofs.Meant.{is_meant}
 use Rattle.page_agreement.proofs.Isolated.{isolated}
 use Rattle.caja_cli.specs.Output.{lone_page}
-use Rattle.caja_cli.specs.Promised.{longest_manifest, IsManifest, IsOfTexts, AreIsolated}
+use Rattle.html_grammar.specs.Trees.{none}
+use Rattle.html_grammar.specs.Document.{nothing, Spells}
+use Rattle.std.proofs.lemmas.Str.{chars-nil, is_utf8-from_IsUtf8, IsUtf8-nil}
+use Rattle.page_documents.specs.Documents.{page_urls, IsDocument}
+use Rattle.page_documents.proofs.Html.{is_html, to_cleaned}
+use Rattle.page_documents.proofs.Outcome.{is_outcome}
+use Rattle.caja_cli.specs.Promised.{longest_manifest, IsDocumented, IsManifest, IsOfTexts, AreIsolated}
 
 -- the page of a manifest of `page`
 is_page : (input : List ℕ) (p : Page) → length input ≤ longest_manifest → page_of false input ≡ Ok p → IsPage p
 is_page input p le e = record { valid = valid false input p e; cajita = modules_in_language false input p e; few = few_arguments false input p (omega (arith, le)) e }
 
+is_documented : (p : Page) → IsDocumented p
+is_documented p = record { html = is_html (page_urls p) p.html; outcome = is_outcome p }
+
 pub is_manifest : (input : List ℕ) → IsManifest input
-is_manifest input = record { valid = λ p le e. is_page input p le e; meant = λ p le e. is_meant p (is_page input p le e) }
+is_manifest input = record { valid = λ p le e. is_page input p le e; documented = λ p e. is_documented p; meant = λ p le e. is_meant p (is_page input p le e) }
 
 pub are_isolated : (input : List ℕ) → AreIsolated input
 are_isolated input p le e = isolated p (is_page input p le e)
@@ -34,7 +42,7 @@ all_texts [] = All-nil (λ m. IsText m.source)
 all_texts (m ∷ ms) = All-cons (λ m. IsText m.source) m ms (is_text m.source) (all_texts ms)
 
 pub is_of_texts : (input : List ℕ) → IsOfTexts input
-is_of_texts input = record { valid = λ p e. valid true input p e; texts = λ p e. all_texts p.modules; accepted = λ p e. is_cajoled_page p }
+is_of_texts input = record { valid = λ p e. valid true input p e; documented = λ p e. is_documented p; texts = λ p e. all_texts p.modules; accepted = λ p e. is_cajoled_page p }
 
 -- the page of a module that is alone
 
@@ -45,7 +53,7 @@ found other None = other
 lone_module : (source : List ℕ) (i : ℕ) (m : Module) → slice_get (lone_page source).modules i ≡ Some m → IsModule 0 i m
 lone_module source zero m is =
     let same : main ≡ m = ap (found main) is in
-    subst (IsModule 0 0) {x = main} same (record { named = refl; few = omega arith; spelled = All-nil (λ s. IsTrue (is_grant_name s)); once = refl; granted = All-nil (λ (g : List ℕ × Grant). IsGranted 0 0 g.1) })
+    subst (IsModule 0 0) {x = main} same (record { named = refl; few = omega arith; spelled = All-nil (λ s. IsTrue (is_grant_name s)); once = refl; granted = All-nil (λ (g : List ℕ × Granted). IsGranted 0 0 g.1) })
   where
     main : Module
     main = record { name = codes "main"; language = cajita; source = source; grants = [] }
@@ -65,3 +73,9 @@ lone_is_valid source = record {
 
 pub lone_is_meant : (source : List ℕ) → IsMeant (lone_page source)
 lone_is_meant source = is_meant (lone_page source) (record { valid = lone_is_valid source; cajita = All-cons (λ m. m.language ≡ cajita) _ [] refl (All-nil (λ m. m.language ≡ cajita)); few = tt })
+
+-- it has an empty document
+pub lone_document : (source : List ℕ) → IsDocument (lone_page source) none
+lone_document source =
+    let p = lone_page source in
+    record { clean = to_cleaned (page_urls p) [] none (record { utf8 = is_utf8-from_IsUtf8 [] IsUtf8-nil; source = none; spelled = subst (Spells none) (sym chars-nil) (true, nothing 0 [] true []); kept = refl }); bound = refl }

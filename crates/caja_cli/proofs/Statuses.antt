@@ -1,6 +1,8 @@
 -- The status of each output is an answer.
 use Rattle.std.proofs.Common.{◌≡◌, ℕ, List, [], Bool, Result, Ok, Err, false, true, sym, subst}
 use Rattle.std.specs.Prelude.{IfOk}
+use Rattle.html_grammar.specs.Trees.{Tree, many}
+use Rattle.page_documents.specs.Documents.{NoDocument, no_html, no_id, document_outcome}
 use Rattle.page_cajole.specs.Cajoled.{Outcome, uncut, unread, broken, cajoled, outcome}
 use Rattle.page_cajole.specs.Formatted.{Formatted, formatted}
 use Rattle.page_cajole.specs.Formatted as f
@@ -16,7 +18,7 @@ use Rattle.command_words.specs.declared.Options.{Options}
 use Rattle.command_words.specs.declared.Command.{Command}
 use Rattle.command_words.specs.declared.Command.TheVariants.{Solo, Cajole, Format, Run, Page as OfPage}
 use Rattle.caja_cli.specs.declared.status.Status.{Status}
-use Rattle.caja_cli.specs.Output.{Written, page_steps, programs_in, end_status, cajoled_parts, texts_parts, of_page, page_output, of_manifest, lone_page, cajoled_line, source_output, format_output, command_output}
+use Rattle.caja_cli.specs.Output.{Written, page_steps, programs_in, end_status, cajoled_parts, texts_parts, Makes, of_page, of_document, page_output, of_manifest, lone_page, cajoled_line, source_output, format_output, command_output}
 use Rattle.caja_cli.specs.Answered.{IsAnswer}
 
 of_end : (e : End) → IsAnswer (end_status e)
@@ -26,18 +28,24 @@ of_end the_end.Depth = tt
 of_end the_end.Convert = tt
 of_end the_end.Steps = tt
 
-of_cajoled : (framed : Bool) (o : Options) (p : Page) (rs : List Runnable) → IsAnswer (cajoled_parts framed o p rs).1
-of_cajoled framed o p rs = of_end (end_of (programs_run p (programs_in rs) o.touch (page_steps o.steps)))
+of_cajoled : (framed : Bool) (o : Options) (p : Page) (ts : Tree many) (rs : List Runnable) → IsAnswer (cajoled_parts framed o p ts rs).1
+of_cajoled framed o p ts rs = of_end (end_of (programs_run p ts (programs_in rs) o.touch (page_steps o.steps)))
 
-of_texts : (o : Options) (p : Page) (rs : List Runnable) → IsAnswer (texts_parts o p rs).1
-of_texts o p rs = of_end (end_of (texts_run p (programs_in rs) o.touch o.steps))
+of_texts : (o : Options) (p : Page) (ts : Tree many) (rs : List Runnable) → IsAnswer (texts_parts o p ts rs).1
+of_texts o p ts rs = of_end (end_of (texts_run p ts (programs_in rs) o.touch o.steps))
 
-of_modules : (make : Page → List Runnable → Written) → ((p : Page) (rs : List Runnable) → IsAnswer (make p rs).1) → (p : Page) (r : Result (List Runnable) (ℕ × Refusal)) → IsAnswer (of_page make p r).1
-of_modules make each p (Ok rs) = each p rs
-of_modules make each p (Err r) = tt
+module _ (make : Makes) (each : (p : Page) (ts : Tree many) (rs : List Runnable) → IsAnswer (make p ts rs).1) where
+  of_modules : (p : Page) (ts : Tree many) (r : Result (List Runnable) (ℕ × Refusal)) → IsAnswer (of_page make p ts r).1
+  of_modules p ts (Ok rs) = each p ts rs
+  of_modules p ts (Err r) = tt
 
-of_a_page : (make : Page → List Runnable → Written) → ((p : Page) (rs : List Runnable) → IsAnswer (make p rs).1) → (p : Page) → IsAnswer (page_output make p).1
-of_a_page make each p = of_modules make each p (page_outcome p)
+  of_its_document : (p : Page) (r : Result (Tree many) NoDocument) → IsAnswer (of_document make p r).1
+  of_its_document p (Ok ts) = of_modules p ts (page_outcome p)
+  of_its_document p (Err (no_html f)) = tt
+  of_its_document p (Err (no_id f)) = tt
+
+  of_a_page : (p : Page) → IsAnswer (page_output make p).1
+  of_a_page p = of_its_document p (document_outcome p)
 
 of_found : (make : Page → Written) → ((p : Page) → IsAnswer (make p).1) → (found : Found Page) → IsAnswer (of_manifest make found).1
 of_found make each (Ok p) = each p

@@ -2,6 +2,7 @@
 use Rattle.std.specs.Prelude.{ℕ, ◌+◌, ◌*◌, ◌++◌, Bool, true, false, List, [], ◌∷◌, Option, Some, None, Result, Ok, Err, length, map, nat_lt, codes, if◌then◌else◌}
 use Rattle.caja_units.specs.Index.{number_units}
 use Rattle.caja_units.specs.Utf8.{utf8_of}
+use Rattle.html_grammar.specs.Trees.{Tree, many}
 use Rattle.es3_tree.specs.Tree as t
 use Rattle.es3_printed.specs.Tokens.{printed}
 use Rattle.page_cajole.specs.Cajoled.{Outcome, uncut, unread, broken, cajoled, outcome}
@@ -14,9 +15,10 @@ use Rattle.page_manifest.specs.Page.{Module, Page, cajita}
 use Rattle.page_manifest.specs.Read.{page_of}
 use Rattle.reach_report.specs.Pages.{page_groups}
 use Rattle.page_runner.specs.Page.{Run as PageRun}
-use Rattle.page_runner.specs.Outcome.{log_of, end_of}
+use Rattle.page_runner.specs.Outcome.{log_of, html_of, end_of}
 use Rattle.page_runner.specs.declared.running.End.{End}
 use Rattle.page_runner.specs.declared.running.End.TheVariants as the_end
+use Rattle.page_documents.specs.Documents.{NoDocument, no_html, no_id, document_outcome}
 use Rattle.manifest_deeds.specs.Names.{page_names}
 use Rattle.page_meaning.specs.PageRuns.{programs_run, texts_run}
 use Rattle.command_words.specs.Words.{command_of, longest_input}
@@ -66,9 +68,13 @@ refusal who stage number place = codes "refused " ++ who ++ codes " " ++ stage +
 
 -- ---- the parts of an output
 
+-- `LENGTH`, and the text
+abbrev pub sized : List ℕ → List ℕ
+sized text = number_units (length text) ++ line_end ++ text ++ line_end
+
 -- `module NAME LENGTH`, and the text
 abbrev pub module_part : List ℕ → List ℕ → List ℕ
-module_part name text = codes "module " ++ utf8_of name ++ codes " " ++ number_units (length text) ++ line_end ++ text ++ line_end
+module_part name text = codes "module " ++ utf8_of name ++ codes " " ++ sized text
 
 -- of each module, the text that stands for it
 abbrev pub module_parts : List Module → List Runnable → List ℕ
@@ -90,9 +96,9 @@ abbrev pub group_lines : List (List ℕ) → List (List ℕ) → List ℕ
 group_lines names [] = []
 group_lines names (g ∷ gs) = group_line names g ++ group_lines names gs
 
--- `html LENGTH`, and the text of the document: there is none
-abbrev pub html_part : List ℕ
-html_part = codes "html 0" ++ line_end ++ line_end
+-- `html LENGTH`, and the text of the document
+abbrev pub html_part : List ℕ → List ℕ
+html_part text = codes "html " ++ sized text
 
 abbrev pub end_word : End → List ℕ
 end_word the_end.Done = codes "done"
@@ -117,12 +123,12 @@ end_status the_end.Steps = status.Steps
 abbrev pub framed_groups : Bool → Page → List ℕ
 framed_groups framed p = if framed then group_lines (page_names p).modules (page_groups p) else []
 
-abbrev pub framed_html : Bool → List ℕ
-framed_html framed = if framed then html_part else []
+abbrev pub framed_html : Bool → List ℕ → List ℕ
+framed_html framed text = if framed then html_part text else []
 
--- its groups, its log and its document, and how it ended; and the status
+-- its groups, its log, its document as it stands then, and how it ended; and the status
 abbrev pub run_parts : Bool → Page → PageRun → List ℕ
-run_parts framed p r = framed_groups framed p ++ log_of (page_names p) r ++ framed_html framed ++ end_line (end_of r)
+run_parts framed p r = framed_groups framed p ++ log_of (page_names p) r ++ framed_html framed (html_of r) ++ end_line (end_of r)
 
 abbrev pub run_status : PageRun → Status
 run_status r = end_status (end_of r)
@@ -131,32 +137,46 @@ run_status r = end_status (end_of r)
 abbrev pub module_refused : Page → ℕ × Refusal → Written
 module_refused p r = (refusal (name_in (page_names p).modules r.0) r.1.stage r.1.number r.1.at, status.Refused)
 
--- the texts that stand for the modules, and what their page comes to by the interpreter's meaning, with the steps for so many direct ones
-abbrev pub cajoled_parts : Bool → Options → Page → List Runnable → Written
-cajoled_parts framed o p rs =
-    let r = programs_run p (programs_in rs) o.touch (page_steps o.steps) in
+-- a stage refuses the document: its HTML, or the ids that the page speaks of
+abbrev pub no_document : NoDocument → Written
+no_document (no_html f) = (refusal the_page (codes "html") f.0 f.1, status.Refused)
+no_document (no_id f) = (refusal the_page (codes "page") f.0 f.1, status.Refused)
+
+-- the texts that stand for the modules, and what their page comes to by the interpreter's meaning, with the steps for so many direct ones, over the trees that its HTML is cleaned to
+abbrev pub cajoled_parts : Bool → Options → Page → Tree many → List Runnable → Written
+cajoled_parts framed o p ts rs =
+    let r = programs_run p ts (programs_in rs) o.touch (page_steps o.steps) in
     (module_parts p.modules rs ++ run_parts framed p r, run_status r)
 
 -- texts that run as they stand
-abbrev pub texts_parts : Options → Page → List Runnable → Written
-texts_parts o p rs = let r = texts_run p (programs_in rs) o.touch o.steps in (run_parts true p r, run_status r)
+abbrev pub texts_parts : Options → Page → Tree many → List Runnable → Written
+texts_parts o p ts rs = let r = texts_run p ts (programs_in rs) o.touch o.steps in (run_parts true p r, run_status r)
+
+-- what is made of the trees that stand for the HTML of a page and of what runs for it
+abbrev pub Makes : Type 0
+Makes = Page → Tree many → List Runnable → Written
 
 -- what is made of what runs for a page, or the refusal
-abbrev pub of_page : (Page → List Runnable → Written) → Page → Result (List Runnable) (ℕ × Refusal) → Written
-of_page make p (Ok rs) = make p rs
-of_page make p (Err r) = module_refused p r
+abbrev pub of_page : Makes → Page → Tree many → Result (List Runnable) (ℕ × Refusal) → Written
+of_page make p ts (Ok rs) = make p ts rs
+of_page make p ts (Err r) = module_refused p r
 
-abbrev pub page_output : (Page → List Runnable → Written) → Page → Written
-page_output make p = of_page make p (page_outcome p)
+-- the document comes first
+abbrev pub of_document : Makes → Page → Result (Tree many) NoDocument → Written
+of_document make p (Ok ts) = of_page make p ts (page_outcome p)
+of_document make p (Err e) = no_document e
+
+abbrev pub page_output : Makes → Page → Written
+page_output make p = of_document make p (document_outcome p)
 
 -- what is made of the page that a manifest is of, or the first fault of the manifest
 abbrev pub of_manifest : (Page → Written) → Found Page → Written
 of_manifest make (Ok p) = make p
 of_manifest make (Err f) = (refusal the_page (codes "page") f.0 f.1, status.Refused)
 
--- the page of one module, without grants and events
+-- the page of one module, without HTML, grants and events
 abbrev pub lone_page : List ℕ → Page
-lone_page source = record { cells = []; modules = record { name = main_name; language = cajita; source = source; grants = [] } ∷ []; events = [] }
+lone_page source = record { html = []; cells = []; modules = record { name = main_name; language = cajita; source = source; grants = [] } ∷ []; events = [] }
 
 -- ---- single sources
 

@@ -5,7 +5,9 @@ ghost use Rattle.std.specs.Prelude.{◌≡◌, ◌≢◌, ◌≤◌, [], map, st
 ghost use Rattle.caja_io.specs.Count.{Rose};
 ghost use Rattle.caja_io.specs.Source.{TakesUpTo};
 ghost use Rattle.caja_io.specs.Sink.{Appends, AppendsPart};
+ghost use Rattle.html_grammar.specs.Trees.{none};
 ghost use Rattle.page_cajole.specs.Formatted.{IsFormatted};
+ghost use Rattle.page_documents.specs.Documents.{IsDocument};
 ghost use Rattle.page_meaning.specs.Sources.{IsSource};
 ghost use Rattle.page_meaning.specs.Meant.{IsMeant};
 ghost use Rattle.caja_cli.specs.Output.{is_command, command_output, most_read, lone_page, too_long as too_long_line};
@@ -28,8 +30,8 @@ use std::alloc::Global;
 
 /// Reads the words and then the whole input, does what the words say, and gives all that is written to the sink at once.
 ///
-/// The words are those behind the program's name. With `page` the input is the manifest of a page of modules, and the output is the cajoled text of each, the groups, the log of the page and
-/// how it ended; `solo` is that of a page of one module, whose source is the input, without groups and document. With `cajole` the output is the cajoled text alone, and a line end. With
+/// The words are those behind the program's name. With `page` the input is the manifest of a page of modules, and the output is the cajoled text of each, the groups, the log of the page, its
+/// document and how it ended; `solo` is that of a page of one module, whose source is the input, without groups and document. With `cajole` the output is the cajoled text alone, and a line end. With
 /// `format` the input is a source of ECMAScript 3, and the output its printed text and a line end. With `run` it is the manifest of a page of texts of ECMAScript 3 that run as they stand. Where
 /// the words are no command, nothing is read, and the line `usage` is written.
 #[tactic(auto, using(crate::proofs::Promised::is_manifest, crate::proofs::Promised::is_of_texts, page_meaning::proofs::Sources::is_source, page_cajole::proofs::Formats::is_formatted))]
@@ -43,11 +45,12 @@ pub fn caja<S: Source, K: Sink>(
     ensures answer { IsAnswer result
         → Wrote (map string_bytes words.now) result (S.left source.old) (S.left source.new) (K.written sink.old) (K.written sink.new) }
 
-    // The headline. Of each page whose manifest is read, and of the page of one module: every module becomes the text that its source and the names of its grants alone decide; where all are
-    // accepted, the log is what the interpreter's meaning gives for these texts and what the direct meaning gives for the sources, over all loads and events; it ends for the causes for which
-    // it does; and each touch lies in its module's reach.
+    // The headline. Of each page whose manifest is read, and of the page of one module: every module becomes the text that its source and the names of its grants alone decide; where its document
+    // and all modules are accepted, the log is what the interpreter's meaning gives for these texts and what the direct meaning gives for the sources, over all loads and events, and so are the
+    // nodes of the document's roots; it ends for the causes for which it does; and each touch lies in its module's reach.
     ensures page { (input : List ℕ) → IsManifest input }
     ensures solo { (source : List ℕ) → IsMeant (lone_page source) }
+    ensures lone { (source : List ℕ) → IsDocument (lone_page source) none }
 
     // Each page that agrees with it on a group of its modules, and whose modules are accepted too, gives that group the same lines and the same texts, whatever else there is on either page.
     ensures isolated { (input : List ℕ) → AreIsolated input }

@@ -1,8 +1,11 @@
 // The commands that run a page: `page` and `run` over a manifest, and `solo`, the page of one module.
 
 ghost use Rattle.std.specs.Prelude.{◌≡◌, ◌++◌, ◌<◌, ◌^◌, true, false, length, map, IfOk, OnOk};
+ghost use Rattle.html_grammar.specs.Trees.{Tree, many};
 ghost use Rattle.es3_tree.specs.View.{program as program_view};
 ghost use Rattle.page_cajole.specs.PageAnswers.{refusal_of, runnable};
+ghost use Rattle.page_documents.specs.Answered.{Has};
+ghost use Rattle.page_documents.specs.Documents.{document_outcome};
 ghost use Rattle.page_log.specs.Log.{name_in};
 ghost use Rattle.page_manifest.specs.Read.{page_of};
 ghost use Rattle.page_manifest.specs.Valid.{IsValid};
@@ -11,7 +14,7 @@ ghost use Rattle.manifest_deeds.specs.Names.{page_names};
 ghost use Rattle.caja_cli.specs.Output.{lone_page, of_manifest, page_output, cajoled_parts, texts_parts, module_parts, programs_in, module_refused, framed_groups, framed_html, end_line as end_line_of};
 
 use crate::ending::{end_line, end_status};
-use crate::parts::{NO_DOCUMENT, push_groups, push_module, push_name};
+use crate::parts::{push_groups, push_html, push_module, push_name};
 use crate::refusal::refused;
 use crate::status::Status;
 use caja_units::{Memory, Units};
@@ -19,6 +22,7 @@ use command_words::Options;
 use es3_tree::Program;
 use manifest_deeds::page_of as planned;
 use page_cajole::{CajoleError, CajoledModule, Stage, cajole_all};
+use page_documents::{DocumentError, PageDocument, document_of};
 use page_manifest::{Lang, ModuleSpec, Page, PageError, read_page};
 use page_runner::{End, run_page, run_texts};
 use reach_report::page_groups;
@@ -33,7 +37,7 @@ pub const MAIN: &[u8] = b"main";
 /// The number of the only refusal of the stage `label`.
 const BAD_LABEL: u8 = 1;
 
-/// The page of one module, without grants and events.
+/// The page of one module, without HTML, grants and events.
 fn lone_page(alloc: Global, source: &[u8]) -> Result<Page, Memory>
     ensures { IfOk result (λ p. page_view p ≡ lone_page source.now) }
 {
@@ -44,6 +48,7 @@ fn lone_page(alloc: Global, source: &[u8]) -> Result<Page, Memory>
         grants: Vec::new(alloc),
     };
     Ok(Page {
+        html: Vec::new(alloc),
         cells: Vec::new(alloc),
         modules: vec![in alloc; main]?,
         events: Vec::new(alloc),
@@ -127,11 +132,17 @@ fn push_page_groups(alloc: Global, out: &mut Vec<u8>, page: &Page) -> Result<(),
 }
 
 /// Appends the document, where one is written, and the last line.
-fn push_end(out: &mut Vec<u8>, end: End, framed: bool) -> Result<(), Memory>
-    ensures { OnOk result (out.new.items ≡ out.old.items ++ (framed_html framed ++ end_line_of end)) }
+fn push_end(
+    alloc: Global,
+    out: &mut Vec<u8>,
+    html: &[u8],
+    end: End,
+    framed: bool,
+) -> Result<(), Memory>
+    ensures { OnOk result (out.new.items ≡ out.old.items ++ (framed_html framed html.now ++ end_line_of end)) }
 {
     if framed {
-        out.extend_from_slice(NO_DOCUMENT)?;
+        push_html(alloc, out, html)?;
     }
     out.extend_from_slice(end_line(end))?;
     Ok(())
@@ -141,25 +152,27 @@ fn push_end(out: &mut Vec<u8>, end: End, framed: bool) -> Result<(), Memory>
 fn run_cajoled(
     alloc: Global,
     page: Page,
+    found: PageDocument,
     cajoled: Vec<CajoledModule>,
     options: Options,
     framed: bool,
 ) -> Result<(Vec<u8>, Status), Memory>
     requires valid { IsValid (page_view page) }
+    requires found { Has (page_view page) found }
     requires same { length cajoled.items ≡ length page.modules.items }
-    ensures text { IfOk result (λ r. r.0.items ≡ (cajoled_parts framed options (page_view page) (map runnable cajoled.items)).0) }
-    ensures status { IfOk result (λ r. r.1 ≡ (cajoled_parts framed options (page_view page) (map runnable cajoled.items)).1) }
+    ensures text { IfOk result (λ r. (ts : Tree many) → document_outcome (page_view page) ≡ Ok ts → r.0.items ≡ (cajoled_parts framed options (page_view page) ts (map runnable cajoled.items)).0) }
+    ensures status { IfOk result (λ r. (ts : Tree many) → document_outcome (page_view page) ≡ Ok ts → r.1 ≡ (cajoled_parts framed options (page_view page) ts (map runnable cajoled.items)).1) }
 {
     let mut out = Vec::new(alloc);
     push_texts(alloc, &mut out, &page, &cajoled)?;
     if framed {
         push_page_groups(alloc, &mut out, &page)?;
     }
-    let plan = planned(alloc, page, programs_of(alloc, cajoled)?)?;
+    let plan = planned(alloc, page, found, programs_of(alloc, cajoled)?)?;
     let steps = STEPS_OF_ONE * u64::from(options.steps);
     let outcome = run_page(alloc, plan, steps, options.touch)?;
     out.extend_from_slice(&outcome.log)?;
-    push_end(&mut out, outcome.end, framed)?;
+    push_end(alloc, &mut out, &outcome.html, outcome.end, framed)?;
     Ok((out, end_status(outcome.end)))
 }
 
@@ -167,24 +180,65 @@ fn run_cajoled(
 fn run_as_they_stand(
     alloc: Global,
     page: Page,
+    found: PageDocument,
     texts: Vec<CajoledModule>,
     options: Options,
 ) -> Result<(Vec<u8>, Status), Memory>
     requires valid { IsValid (page_view page) }
+    requires found { Has (page_view page) found }
     requires same { length texts.items ≡ length page.modules.items }
-    ensures text { IfOk result (λ r. r.0.items ≡ (texts_parts options (page_view page) (map runnable texts.items)).0) }
-    ensures status { IfOk result (λ r. r.1 ≡ (texts_parts options (page_view page) (map runnable texts.items)).1) }
+    ensures text { IfOk result (λ r. (ts : Tree many) → document_outcome (page_view page) ≡ Ok ts → r.0.items ≡ (texts_parts options (page_view page) ts (map runnable texts.items)).0) }
+    ensures status { IfOk result (λ r. (ts : Tree many) → document_outcome (page_view page) ≡ Ok ts → r.1 ≡ (texts_parts options (page_view page) ts (map runnable texts.items)).1) }
 {
     let mut out = Vec::new(alloc);
     push_page_groups(alloc, &mut out, &page)?;
-    let plan = planned(alloc, page, programs_of(alloc, texts)?)?;
+    let plan = planned(alloc, page, found, programs_of(alloc, texts)?)?;
     let outcome = run_texts(alloc, plan, u64::from(options.steps), options.touch)?;
     out.extend_from_slice(&outcome.log)?;
-    push_end(&mut out, outcome.end, true)?;
+    push_end(alloc, &mut out, &outcome.html, outcome.end, true)?;
     Ok((out, end_status(outcome.end)))
 }
 
-/// What is written of a page, where its modules are accepted or one is refused.
+/// What is written of a page with its document, where its modules are accepted or one is refused.
+fn run_modules(
+    alloc: Global,
+    page: Page,
+    found: PageDocument,
+    options: Options,
+    framed: bool,
+) -> Result<(Vec<u8>, Status), Memory>
+    requires valid { IsValid (page_view page) }
+    requires found { Has (page_view page) found }
+    ensures text { IfOk result (λ r. r.0.items ≡ (page_output (cajoled_parts framed options) (page_view page)).0) }
+    ensures status { IfOk result (λ r. r.1 ≡ (page_output (cajoled_parts framed options) (page_view page)).1) }
+{
+    match cajole_all(alloc, &page) {
+        Ok(cajoled) => run_cajoled(alloc, page, found, cajoled, options, framed),
+        Err(CajoleError::Module(at, stage)) => refused_module(alloc, &page, at, stage),
+        Err(CajoleError::Memory) => Err(Memory),
+    }
+}
+
+/// The same of a page of texts.
+fn run_all_texts(
+    alloc: Global,
+    page: Page,
+    found: PageDocument,
+    options: Options,
+) -> Result<(Vec<u8>, Status), Memory>
+    requires valid { IsValid (page_view page) }
+    requires found { Has (page_view page) found }
+    ensures text { IfOk result (λ r. r.0.items ≡ (page_output (texts_parts options) (page_view page)).0) }
+    ensures status { IfOk result (λ r. r.1 ≡ (page_output (texts_parts options) (page_view page)).1) }
+{
+    match cajole_all(alloc, &page) {
+        Ok(texts) => run_as_they_stand(alloc, page, found, texts, options),
+        Err(CajoleError::Module(at, stage)) => refused_module(alloc, &page, at, stage),
+        Err(CajoleError::Memory) => Err(Memory),
+    }
+}
+
+/// What is written of a page, where it has a document or none.
 fn run_sources(
     alloc: Global,
     page: Page,
@@ -195,23 +249,29 @@ fn run_sources(
     ensures text { IfOk result (λ r. r.0.items ≡ (page_output (cajoled_parts framed options) (page_view page)).0) }
     ensures status { IfOk result (λ r. r.1 ≡ (page_output (cajoled_parts framed options) (page_view page)).1) }
 {
-    match cajole_all(alloc, &page) {
-        Ok(cajoled) => run_cajoled(alloc, page, cajoled, options, framed),
-        Err(CajoleError::Module(at, stage)) => refused_module(alloc, &page, at, stage),
-        Err(CajoleError::Memory) => Err(Memory),
+    match document_of(alloc, &page) {
+        Ok(found) => run_modules(alloc, page, found, options, framed),
+        Err(DocumentError::Html(number, place)) => refused(alloc, b"-", "html", number, place),
+        Err(DocumentError::Ids(number, place)) => refused(alloc, b"-", "page", number, place),
+        Err(DocumentError::Memory) => Err(Memory),
     }
 }
 
 /// The same of a page of texts.
-fn run_all_texts(alloc: Global, page: Page, options: Options) -> Result<(Vec<u8>, Status), Memory>
+fn run_manifest_texts(
+    alloc: Global,
+    page: Page,
+    options: Options,
+) -> Result<(Vec<u8>, Status), Memory>
     requires valid { IsValid (page_view page) }
     ensures text { IfOk result (λ r. r.0.items ≡ (page_output (texts_parts options) (page_view page)).0) }
     ensures status { IfOk result (λ r. r.1 ≡ (page_output (texts_parts options) (page_view page)).1) }
 {
-    match cajole_all(alloc, &page) {
-        Ok(texts) => run_as_they_stand(alloc, page, texts, options),
-        Err(CajoleError::Module(at, stage)) => refused_module(alloc, &page, at, stage),
-        Err(CajoleError::Memory) => Err(Memory),
+    match document_of(alloc, &page) {
+        Ok(found) => run_all_texts(alloc, page, found, options),
+        Err(DocumentError::Html(number, place)) => refused(alloc, b"-", "html", number, place),
+        Err(DocumentError::Ids(number, place)) => refused(alloc, b"-", "page", number, place),
+        Err(DocumentError::Memory) => Err(Memory),
     }
 }
 
@@ -242,7 +302,7 @@ pub fn run(alloc: Global, input: &[u8], options: Options) -> Result<(Vec<u8>, St
     ensures status { IfOk result (λ r. r.1 ≡ (of_manifest (page_output (texts_parts options)) (page_of true input.now)).1) }
 {
     match read_page(alloc, input, true) {
-        Ok(page) => run_all_texts(alloc, page, options),
+        Ok(page) => run_manifest_texts(alloc, page, options),
         Err(PageError::Fault(number, place)) => refused(alloc, b"-", "page", number, place),
         Err(PageError::Memory) => Err(Memory),
     }

@@ -1,14 +1,23 @@
-// The parts of an output: the texts of modules, the groups, and what stands for the document.
+// The parts of an output: the texts of modules, the groups, and the text of the document.
 
 ghost use Rattle.std.specs.Prelude.{◌≡◌, ◌++◌, map, OnOk};
 ghost use Rattle.page_log.specs.Log.{name_in};
-ghost use Rattle.caja_cli.specs.Output.{module_part, group_words, group_line, group_lines};
+ghost use Rattle.caja_cli.specs.Output.{sized, module_part, html_part, group_words, group_line, group_lines};
 
 use caja_units::{Memory, Units};
 use std::alloc::Global;
 
-/// What is written of a document: there is none.
-pub const NO_DOCUMENT: &[u8] = b"html 0\n\n";
+/// Appends `LENGTH`, and the text.
+fn push_sized(alloc: Global, out: &mut Vec<u8>, text: &[u8]) -> Result<(), Memory>
+    ensures { OnOk result (out.new.items ≡ out.old.items ++ sized text.now) }
+{
+    let length = text.len().to_string(alloc)?;
+    out.extend_from_slice(length.as_bytes())?;
+    out.push(b'\n')?;
+    out.extend_from_slice(text)?;
+    out.push(b'\n')?;
+    Ok(())
+}
 
 /// Appends `module NAME LENGTH`, and the text.
 pub fn push_module(
@@ -22,12 +31,15 @@ pub fn push_module(
     out.extend_from_slice(b"module ")?;
     name.push_utf8(out)?;
     out.push(b' ')?;
-    let length = text.len().to_string(alloc)?;
-    out.extend_from_slice(length.as_bytes())?;
-    out.push(b'\n')?;
-    out.extend_from_slice(text)?;
-    out.push(b'\n')?;
-    Ok(())
+    push_sized(alloc, out, text)
+}
+
+/// Appends `html LENGTH`, and the text.
+pub fn push_html(alloc: Global, out: &mut Vec<u8>, text: &[u8]) -> Result<(), Memory>
+    ensures { OnOk result (out.new.items ≡ out.old.items ++ html_part text.now) }
+{
+    out.extend_from_slice(b"html ")?;
+    push_sized(alloc, out, text)
 }
 
 /// Appends bytes.

@@ -8,7 +8,7 @@ use Rattle.page_deeds.specs.Deeds.{Plain, Grant, a_cell, a_result, a_plain, a_ro
 use Rattle.page_deeds.specs.Shown.{by_nothing}
 use Rattle.pages.specs.Pages.{Turn as TurnOf, Begun as BegunOf, Evaluator, page}
 use Rattle.caja_units.specs.Units.{same_units}
-use Rattle.rows.specs.Document.{Node, changed, sets_attribute}
+use Rattle.rows.specs.Document.{Node, node_at, is_text, changed, sets_attribute}
 use Rattle.rows.specs.Nodes.{Rules}
 use Rattle.cajita_tree.specs.Tree as c
 use Rattle.cajita_meaning.specs.World.{Name, cell_name, facet_name, Value, undefined, null, truth, number, text, object, Pairs, Handler, World, with_queue, with_nodes}
@@ -91,9 +91,13 @@ abbrev pub node_turns : Name → List Value → List Turn
 node_turns node [] = []
 node_turns node (f ∷ fs) = (λ w z. answers (node_event node f w)) ∷ node_turns node fs
 
--- a text stands in a node; nothing is told of that
+-- a text stands in an element; what is none has no text in it
+abbrev pub put_in : List ℕ → ℕ → List Node → List Node
+put_in us n ns = if is_text (node_at ns n) then ns else changed (sets_attribute (codes "value") us) n ns
+
+-- nothing is told of that
 abbrev pub with_input : ℕ → ℕ → List ℕ → World → World
-with_input root n us w = with_nodes root (changed (sets_attribute (codes "value") us) n (w.nodes root)) w
+with_input root n us w = with_nodes root (put_in us n (w.nodes root)) w
 
 abbrev pub begin : Deed → Results → World → List Item → Begun
 begin (to_load m p gs) r w z = record { store = w; kept = z; turns = load_turn m p (granted_pairs r gs) ∷ [] }

@@ -13,4 +13,5 @@ pub mod Receiver
 pub mod BuiltIns
 pub mod Natives
 pub mod Own
+pub mod Nodes
 pub mod Native

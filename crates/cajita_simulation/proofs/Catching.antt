@@ -14,7 +14,7 @@ use Rattle.page_natives.specs.Natives.{Kept}
 use Rattle.cajita_simulation.specs.Guest.{GuestName, inner}
 use Rattle.cajita_simulation.specs.Scopes.{stored_name}
 use Rattle.cajita_simulation.proofs.Heaps.Lists.{slice_get-push}
-use Rattle.cajita_simulation.proofs.Relation.{EsValue, Val, OptVal, tag_of_scope, Tags, Here, Temps, Slot, unknown, declared, holds, keys, SlotIs, names_at, AreScopes, Place, In, Rel, Stays, keeps_refl}
+use Rattle.cajita_simulation.proofs.Relation.{EsValue, Val, OptVal, tag_of_scope, Tags, Here, Temps, Slot, unknown, declared, holds, keys, SlotIs, names_at, AreScopes, Place, In, Related, Rel, Stays, keeps_refl}
 use Rattle.cajita_simulation.proofs.Scopes.{passes, stored_same, in_stays}
 use Rattle.cajita_simulation.proofs.Writes.{differs}
 use Rattle.cajita_simulation.proofs.Entering.{NewScopes, names_new, shaped_scope, scopes_are, related_scope}
@@ -138,5 +138,5 @@ pub stays_catch : {w : World} {g : Tags} {s : Store} {m : ℕ} (by : ℕ) (x : L
 stays_catch {w = w} {g = g} {s = s} by x v e = record { heap = keeps_refl; shaped = shaped_scope g (tag_of_scope by (next_scope by w)) caught ((x, e) ∷ []) s; closed = record { closures = λ m n f chain q. q } }
 
 -- what was found along the shorter chain is found there again
-pub rel_back : {H J : Here} {T : Temps} {k : ℕ} {w0 w : World} {z : List Item} {n : ℕ} {g0 g : Tags} {s0 s : Store} {y : Kept} {i m : ℕ} → AreScopes s0 → In H g0 s0 → Stays w0 g0 s0 i w g s m → Rel J T k w z n g s y m → Rel H T k w z n g s y m
-rel_back are here keep r = record { all = r.all; here = in_stays keep.shaped are r.all.scopes.are here }
+pub rel_back : {H J : Here} {T : Temps} {k : ℕ} {w0 w : World} {z : List Item} {n : ℕ} {g0 g : Tags} {s0 s : Store} {y : Kept} {i m : ℕ} → J.rules ≡ H.rules → AreScopes s0 → In H g0 s0 → Stays w0 g0 s0 i w g s m → Rel J T k w z n g s y m → Rel H T k w z n g s y m
+rel_back {T = T} {k = k} {w = w} {z = z} {n = n} {g = g} {s = s} {y = y} {m = m} same are here keep r = record { all = subst (λ l. Related l T k w z n g s y m) same r.all; here = in_stays keep.shaped are r.all.scopes.are here }

@@ -1,5 +1,5 @@
 -- What a change of objects leaves of the relation, and what is told.
-use Rattle.std.proofs.Common.{Bool, ◌≡◌, ℕ, ◌+◌, ◌*◌, ◌≤◌, List, [], ◌++◌, length, Option, Some, refl, sym, ap, ◌∙◌, subst, arith}
+use Rattle.std.proofs.Common.{Bool, ◌≡◌, ◌⊎◌, ℕ, ◌+◌, ◌*◌, ◌≤◌, List, [], ◌++◌, length, Option, Some, refl, sym, ap, ◌∙◌, subst, arith}
 use Rattle.std.specs.Prelude.{slice_get, is_some}
 use Rattle.std.proofs.lemmas.Option.{slice_get_within}
 use Rattle.es3_objects.specs.declared.value.Class.TheVariants as class
@@ -8,6 +8,7 @@ use Rattle.es3_heap.specs.Objects.{Objects}
 use Rattle.es3_heap.specs.Properties.{find}
 use Rattle.es3_heap.specs.Making.{count_at}
 use Rattle.es3_language.specs.Store.{Store, with_heap}
+use Rattle.rows.specs.Nodes.{Rules}
 use Rattle.cajita_tree.specs.Tree as c
 use Rattle.cajita_meaning.specs.World.{made_name, Pairs, Object, a_closure, World}
 use Rattle.cajita_meaning.specs.Direct.{Item}
@@ -20,7 +21,10 @@ use Rattle.row_simulation.specs.RowLaw.{shown, PagesAre}
 use Rattle.row_simulation.proofs.Changes.{named_within}
 use Rattle.row_simulation.proofs.Relation as row_relation
 use Rattle.cajita_simulation.specs.Alike.{heard_by}
-use Rattle.cajita_simulation.specs.Related.{KnowsPage}
+use Rattle.doc_views.specs.Came.{IsRuled}
+use Rattle.tamed_dom.specs.Lent.{Lent}
+use Rattle.node_rows.specs.Whole.{IsWhole}
+use Rattle.cajita_simulation.specs.Related.{KnowsPage, IsBare}
 use Rattle.cajita_simulation.proofs.Relation.{WaitersAre, RelAt, Named, ObjectsAre, Tags, AreScopes, Temps, Slot, unknown, declared, holds, keys, SlotIs, ScopesAre, Here, CodeIs, ClosuresAre, Related, Closed, Shaped, Stays, optval_keep, list_keep}
 use Rattle.row_simulation.proofs.Quiet.{Quiet, quiet_keeps, quiet_no_node, objects_quiet}
 use Rattle.row_simulation.proofs.Row.{pages_keep}
@@ -39,8 +43,13 @@ pub record Changes (g : Page) (w : World) (s : Store) (w' : World) (h' : Objects
   pub waiters : WaitersAre w → WaitersAre w'
 
 -- the natives still know where these are
-pub knows_still : {y y' : Kept} → y'.runtime ≡ y.runtime → y'.imports ≡ y.imports → KnowsPage y → KnowsPage y'
-knows_still runtime imports k = record { runtime = runtime ∙ k.runtime; imports = ap length imports ∙ k.imports }
+pub knows_still : {rules : Rules} {y y' : Kept} → y'.runtime ≡ y.runtime → y'.imports ≡ y.imports → y'.dom ≡ y.dom → y'.answers ≡ y.answers → KnowsPage rules y → KnowsPage rules y'
+knows_still {rules = rules} {y = y} {y' = y'} runtime imports dom answers k = record {
+  runtime = runtime ∙ k.runtime;
+  imports = ap length imports ∙ k.imports;
+  whole = subst IsWhole (sym dom) k.whole;
+  ruled = subst (λ (l : Lent). IsBare l.doc ⊎ IsRuled y'.answers rules) (sym dom) (subst (λ a. IsBare y.dom.doc ⊎ IsRuled a rules) (sym answers) k.ruled);
+}
 
 -- other objects, and the same scopes
 pub shaped_heap : (g : Tags) (s : Store) (h' : Objects) → Shaped g s g (with_heap s h')
@@ -66,7 +75,7 @@ closures_shaped objects same shaped are are' r = λ m n f chain known.
     let p = r m n f chain known in
     (p.0, λ i named. code_stays (ap (λ h. heap.object_at h i) same) shaped are are' (p.1 i (sym (ap (λ h. heap.tag_of (heap.object_at h i)) same) ∙ named)))
 
-closure_class : {objects : List Object} {h : Objects} {n : ℕ} {f : c.Tree c.func} {chain : List ℕ} {o : heap.Object} → slice_get objects n ≡ Some (a_closure f chain) → rows.IsMade objects h n o → o.class ≡ class.Function
+pub closure_class : {objects : List Object} {h : Objects} {n : ℕ} {f : c.Tree c.func} {chain : List ℕ} {o : heap.Object} → slice_get objects n ≡ Some (a_closure f chain) → rows.IsMade objects h n o → o.class ≡ class.Function
 closure_class {h = h} {f = f} {chain = chain} {o = o} known p =
     let is = subst (λ q. rows.Is h q o) (same p.object (a_closure f chain) (sym p.known ∙ known)) p.is in
     is.class
@@ -115,7 +124,7 @@ pub stays_changed : {p : Page} {w w' : World} {h' : Objects} {s : Store} {m m' :
 stays_changed {h' = h'} {s = s} g x le = record { heap = record { objects = x.keeps; more = le }; shaped = shaped_heap g s h'; closed = x.closed }
 
 -- what natives keep may change too, and what is printed
-pub related_settled : {T : Temps} {j k : ℕ} {w w' : World} {h' : Objects} {z z' : List Item} {n : ℕ} {g : Tags} {s : Store} {y y' : Kept} {m m' : ℕ} → Changes (page_of y') w s w' h' m' → KnowsPage y' → heard_by y' z' ≡ y'.told → m ≤ m' → m' + k ≤ 64 * n → Related T j w z n g s y m → Related T k w' z' n g (with_heap s h') y' m'
+pub related_settled : {rules : Rules} {T : Temps} {j k : ℕ} {w w' : World} {h' : Objects} {z z' : List Item} {n : ℕ} {g : Tags} {s : Store} {y y' : Kept} {m m' : ℕ} → Changes (page_of y') w s w' h' m' → KnowsPage rules y' → heard_by y' z' ≡ y'.told → m ≤ m' → m' + k ≤ 64 * n → Related rules T j w z n g s y m → Related rules T k w' z' n g (with_heap s h') y' m'
 related_settled {T = T} {h' = h'} {g = g} {s = s} x knows items le fits r = record {
   steps = fits;
   items = items;
@@ -128,20 +137,20 @@ related_settled {T = T} {h' = h'} {g = g} {s = s} x knows items le fits r = reco
   kept = knows;
 }
 
-pub rel_settled : {form : Bool} {H : Here} {T : Temps} {j k : ℕ} {w w' : World} {h' : Objects} {z z' : List Item} {n : ℕ} {g : Tags} {s : Store} {y y' : Kept} {m m' : ℕ} → Changes (page_of y') w s w' h' m' → KnowsPage y' → heard_by y' z' ≡ y'.told → m ≤ m' → m' + k ≤ 64 * n → RelAt form H T j w z n g s y m → RelAt form H T k w' z' n g (with_heap s h') y' m'
+pub rel_settled : {form : Bool} {H : Here} {T : Temps} {j k : ℕ} {w w' : World} {h' : Objects} {z z' : List Item} {n : ℕ} {g : Tags} {s : Store} {y y' : Kept} {m m' : ℕ} → Changes (page_of y') w s w' h' m' → KnowsPage H.rules y' → heard_by y' z' ≡ y'.told → m ≤ m' → m' + k ≤ 64 * n → RelAt form H T j w z n g s y m → RelAt form H T k w' z' n g (with_heap s h') y' m'
 rel_settled {form = form} {H = H} {h' = h'} {g = g} {s = s} x knows items le fits r = record {
   all = related_settled x knows items le fits r.all;
   here = stands_stays form H (shaped_heap g s h') r.all.scopes.are r.all.scopes.are r.here;
 }
 
-pub related_changed : {T : Temps} {j k : ℕ} {w w' : World} {h' : Objects} {z : List Item} {n : ℕ} {g : Tags} {s : Store} {y : Kept} {m m' : ℕ} → Changes (page_of y) w s w' h' m' → m ≤ m' → m' + k ≤ 64 * n → Related T j w z n g s y m → Related T k w' z n g (with_heap s h') y m'
+pub related_changed : {rules : Rules} {T : Temps} {j k : ℕ} {w w' : World} {h' : Objects} {z : List Item} {n : ℕ} {g : Tags} {s : Store} {y : Kept} {m m' : ℕ} → Changes (page_of y) w s w' h' m' → m ≤ m' → m' + k ≤ 64 * n → Related rules T j w z n g s y m → Related rules T k w' z n g (with_heap s h') y m'
 related_changed x le fits r = related_settled x r.kept r.items le fits r
 
 pub rel_changed : {form : Bool} {H : Here} {T : Temps} {j k : ℕ} {w w' : World} {h' : Objects} {z : List Item} {n : ℕ} {g : Tags} {s : Store} {y : Kept} {m m' : ℕ} → Changes (page_of y) w s w' h' m' → m ≤ m' → m' + k ≤ 64 * n → RelAt form H T j w z n g s y m → RelAt form H T k w' z n g (with_heap s h') y m'
 rel_changed x le fits r = rel_settled x r.all.kept r.all.items le fits r
 
 -- objects without names change
-quiet_changes : {T : Temps} {k : ℕ} {w : World} {z : List Item} {n : ℕ} {g : Tags} {s : Store} {y : Kept} {m : ℕ} {h' : Objects} → Quiet first s.heap h' → Related T k w z n g s y m → Changes (page_of y) w s w h' m
+quiet_changes : {rules : Rules} {T : Temps} {k : ℕ} {w : World} {z : List Item} {n : ℕ} {g : Tags} {s : Store} {y : Kept} {m : ℕ} {h' : Objects} → Quiet first s.heap h' → Related rules T k w z n g s y m → Changes (page_of y) w s w h' m
 quiet_changes {w = w} q r =
     let keeps = quiet_keeps q in
     record {
@@ -162,7 +171,7 @@ stays_quiet {s = s} {h' = h'} g q = record { heap = record { objects = quiet_kee
 
 -- what is told that no page tells
 
-pub related_told : {T : Temps} {k : ℕ} {w : World} {z z' : List Item} {n : ℕ} {g : Tags} {s : Store} {y : Kept} {m : ℕ} → shown z' ≡ shown z → Related T k w z n g s y m → Related T k w z' n g s y m
+pub related_told : {rules : Rules} {T : Temps} {k : ℕ} {w : World} {z z' : List Item} {n : ℕ} {g : Tags} {s : Store} {y : Kept} {m : ℕ} → shown z' ≡ shown z → Related rules T k w z n g s y m → Related rules T k w z' n g s y m
 related_told {y = y} same r = record { steps = r.steps; items = ap (heard y.touching) same ∙ r.items; objects = r.objects; pages = r.pages; closures = r.closures; waiters = r.waiters; scopes = r.scopes; globals = r.globals; kept = r.kept }
 
 pub rel_told : {form : Bool} {H : Here} {T : Temps} {k : ℕ} {w : World} {z : List Item} {n : ℕ} {g : Tags} {s : Store} {y : Kept} {m : ℕ} (more : List Item) → shown more ≡ [] → RelAt form H T k w z n g s y m → RelAt form H T k w (z ++ more) n g s y m
@@ -171,6 +180,6 @@ rel_told {z = z} more quiet r = record { all = related_told (shown_quiet z more 
 -- what both sides tell
 pub rel_tells : {form : Bool} {H : Here} {T : Temps} {k : ℕ} {w : World} {z : List Item} {n : ℕ} {g : Tags} {s : Store} {y : Kept} {m : ℕ} (is : List Item) (items : List Told) → shown is ≡ items → RelAt form H T k w z n g s y m → RelAt form H T k w (z ++ is) n g s (tells items y) m
 rel_tells {z = z} {y = y} is items same r = record {
-  all = record { steps = r.all.steps; items = items_told y z is items same r.all.items; objects = r.all.objects; pages = r.all.pages; closures = r.all.closures; waiters = r.all.waiters; scopes = r.all.scopes; globals = r.all.globals; kept = knows_still refl refl r.all.kept };
+  all = record { steps = r.all.steps; items = items_told y z is items same r.all.items; objects = r.all.objects; pages = r.all.pages; closures = r.all.closures; waiters = r.all.waiters; scopes = r.all.scopes; globals = r.all.globals; kept = knows_still refl refl refl refl r.all.kept };
   here = r.here;
 }

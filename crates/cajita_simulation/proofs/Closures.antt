@@ -14,6 +14,7 @@ use Rattle.es3_heap.specs.Making.{count_at, named}
 use Rattle.es3_language.specs.Store.{Store, Code, with_heap, with_code, new_function}
 use Rattle.es3_language.specs.Hoisting.{code_of}
 use Rattle.es3_language.specs.Meaning as Target
+use Rattle.rows.specs.Nodes.{Rules}
 use Rattle.cajita_tree.specs.Tree as c
 use Rattle.cajita_rewrite.specs.Rewrite.{rewritten}
 use Rattle.cajita_meaning.specs.World as World
@@ -173,7 +174,7 @@ module _ (g : Tags) (s : Store) (by : ℕ) (f : c.Tree c.func) (direct chain : L
   closures_with {objects = objects} below few are old captured guest r = closures_last objects by f direct (length s.heap.list) below (closure_objects below few old) (closure_named below old) (new_code are captured guest) (closures_kept {s = coded code s} (closure_keeps (room by below few old)) are old r)
 
   -- the relation with the closure, for which the interpreter takes a step
-  pub related_closure : {T : Temps} {vars free : Names} {j k : ℕ} {w : State} {z : List Item} {n : ℕ} {y : Kept} {m : ℕ} → by < 64 → suc m ≤ 4294967295 → suc m + k ≤ 64 * n → Captured vars free by g direct chain s → Guest vars free c.func f → Related T j w z n g s y m → Related T k (World.with_object by (a_closure f direct) w) z n g after y (suc m)
+  pub related_closure : {rules : Rules} {T : Temps} {vars free : Names} {j k : ℕ} {w : State} {z : List Item} {n : ℕ} {y : Kept} {m : ℕ} → by < 64 → suc m ≤ 4294967295 → suc m + k ≤ 64 * n → Captured vars free by g direct chain s → Guest vars free c.func f → Related rules T j w z n g s y m → Related rules T k (World.with_object by (a_closure f direct) w) z n g after y (suc m)
   related_closure {w = w} below few fits captured guest r =
       let keeps = closure_keeps (room by below few r.objects) in
       let r1 = related_code code r in

@@ -12,6 +12,7 @@ use Rattle.es3_heap.specs.Objects.{Objects, with_object}
 use Rattle.es3_language.specs.Store as store
 use Rattle.es3_language.specs.Store.{Store, Code, name_value, with_code}
 use Rattle.es3_language.specs.Arguments.{is_fixed}
+use Rattle.rows.specs.Nodes.{Rules}
 use Rattle.cajita_rewrite.specs.Rewrite.{runtime_name}
 use Rattle.cajita_meaning.specs.World.{Pairs, World, with_last, with_scope, scope_at, next_scope}
 use Rattle.cajita_meaning.specs.Direct.{Item}
@@ -179,7 +180,7 @@ module _ {T T' : Temps} {pairs : Pairs} {owner : store.Owner} {names : store.Nam
   }
 
 -- the relation with a scope more
-pub related_scope : {T T' : Temps} {k : ℕ} {w : World} {z : List Item} {n : ℕ} {g : Tags} {s : Store} {y : Kept} {i : ℕ} {pairs : Pairs} {owner : store.Owner} {names : store.Names} (m : ℕ) → NewScopes T T' pairs owner names s → Related T k w z n g s y i → Related T' k (with_scope m pairs w) z n (g ++ tag_of_scope m (next_scope m w) ∷ []) (store.with_scope owner names s) y i
+pub related_scope : {rules : Rules} {T T' : Temps} {k : ℕ} {w : World} {z : List Item} {n : ℕ} {g : Tags} {s : Store} {y : Kept} {i : ℕ} {pairs : Pairs} {owner : store.Owner} {names : store.Names} (m : ℕ) → NewScopes T T' pairs owner names s → Related rules T k w z n g s y i → Related rules T' k (with_scope m pairs w) z n (g ++ tag_of_scope m (next_scope m w) ∷ []) (store.with_scope owner names s) y i
 related_scope {w = w} {g = g} {s = s} {pairs = pairs} {owner = owner} {names = names} m new r = record {
   steps = r.steps;
   items = r.items;
@@ -227,7 +228,7 @@ two_keep h a b new new' =
 pub two_no_node : (h : Objects) (a b : heap.Object) → IsNew first a → IsNew first b → row_relation.NoNewNode h (with_object (with_object h a) b)
 two_no_node h a b new new' = no_node_trans (awaiting_no_node h a new.bare) (awaiting_no_node (with_object h a) b new'.bare)
 
-function_changes : {T : Temps} {k : ℕ} {w : World} {z : List Item} {n : ℕ} {g : Tags} {s : Store} {y : Kept} {m : ℕ} (code params maker : ℕ) → Related T k w z n g s y m → Changes (page_of y) w s w (store.new_function code params maker s.heap) (suc (suc m))
+function_changes : {rules : Rules} {T : Temps} {k : ℕ} {w : World} {z : List Item} {n : ℕ} {g : Tags} {s : Store} {y : Kept} {m : ℕ} (code params maker : ℕ) → Related rules T k w z n g s y m → Changes (page_of y) w s w (store.new_function code params maker s.heap) (suc (suc m))
 function_changes {w = w} {s = s} {y = y} {m = m} code params maker r =
     let a = function_object code params maker (suc (length s.heap.list)) in
     let b = prototype_object (length s.heap.list) in
@@ -258,7 +259,7 @@ pub scopes_coded : {T : Temps} {g : Tags} {scopes : ℕ → List Pairs} {s : Sto
 scopes_coded {s = s} l r = record { same = r.same; once = r.once; known = r.known; count = r.count; temps = λ c x hidden. slot_coded l s c x _ (r.temps c x hidden); runtime = r.runtime; are = λ c. r.are c; shared = r.shared }
 
 -- a code more
-pub related_code : {T : Temps} {k : ℕ} {w : World} {z : List Item} {n : ℕ} {g : Tags} {s : Store} {y : Kept} {m : ℕ} (code : Code) → Related T k w z n g s y m → Related T k w z n g (record s { codes = s.codes ++ code ∷ [] }) y m
+pub related_code : {rules : Rules} {T : Temps} {k : ℕ} {w : World} {z : List Item} {n : ℕ} {g : Tags} {s : Store} {y : Kept} {m : ℕ} (code : Code) → Related rules T k w z n g s y m → Related rules T k w z n g (record s { codes = s.codes ++ code ∷ [] }) y m
 related_code {w = w} {g = g} {s = s} code r = record {
   steps = r.steps;
   items = r.items;
@@ -272,5 +273,5 @@ related_code {w = w} {g = g} {s = s} code r = record {
 }
 
 -- the relation with such a function
-pub related_function : {T : Temps} {j k : ℕ} {w : World} {z : List Item} {n : ℕ} {g : Tags} {s : Store} {y : Kept} {m : ℕ} (code : Code) (maker : ℕ) → suc (suc m) + k ≤ 64 * n → Related T j w z n g s y m → Related T k w z n g (with_code code maker s) y (suc (suc m))
+pub related_function : {rules : Rules} {T : Temps} {j k : ℕ} {w : World} {z : List Item} {n : ℕ} {g : Tags} {s : Store} {y : Kept} {m : ℕ} (code : Code) (maker : ℕ) → suc (suc m) + k ≤ 64 * n → Related rules T j w z n g s y m → Related rules T k w z n g (with_code code maker s) y (suc (suc m))
 related_function {s = s} code maker fits r = related_code code (related_changed (function_changes (length s.codes) (length code.params) maker r) (omega arith) fits r)

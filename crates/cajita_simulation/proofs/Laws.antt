@@ -51,10 +51,10 @@ target_grows = record { same = as_before; more = tells_after; note = λ i y. tel
 pub begins_there : (z : List Item) (y : Kept) → heard_by y z ≡ y.told → Begins y z
 begins_there z y e = record { rest = []; is = e ∙ sym (append-nil y.told) }
 
-pub ends_there : (t : Turn) (e : Source.Completion) (x : World) (z : List Item) (n : ℕ) (e' : Target.Completion) (x' : Store) (y : Kept) (n' : ℕ) → Ends t e x z n e' x' y n' → Begins y z
-ends_there t (Source.gave v) x z n e' x' y n' p = begins_there z y p.1.1.items
-ends_there t (Source.threw v) x z n (Target.threw u) x' y n' p = begins_there z y p.1.1.items
-ends_there t _ x z n _ x' y n' p = absurd p
+pub ends_there : (rules : Rules) (t : Turn) (e : Source.Completion) (x : World) (z : List Item) (n : ℕ) (e' : Target.Completion) (x' : Store) (y : Kept) (n' : ℕ) → Ends rules t e x z n e' x' y n' → Begins y z
+ends_there rules t (Source.gave v) x z n e' x' y n' p = begins_there z y p.1.1.items
+ends_there rules t (Source.threw v) x z n (Target.threw u) x' y n' p = begins_there z y p.1.1.items
+ends_there rules t _ x z n _ x' y n' p = absurd p
 
 pub begins_still : (a' b' : Kept) (a b : List Item) → TellsMore a' b' → Begins b' a → IsPrefix a b → Begins a' b
 begins_still a' b' a b p q r =
@@ -73,11 +73,11 @@ sides rules turn = record {
   Affords = Affords;
   affords_more = λ n k m le few. omega (arith, le, few);
   most = most_steps;
-  Ends = Ends turn;
+  Ends = Ends rules turn;
   Stops = Stops;
   Outs = Outs;
   Begins = Begins;
-  ends_begin = ends_there turn;
+  ends_begin = ends_there rules turn;
   stops_begin = λ f x z f' x' z' p. begins_there z z' p.2;
   outs_begin = λ z z' p. begins_there z z' p;
   begins_more = begins_still;

@@ -28,4 +28,5 @@ pub mod Simulation
 pub mod Sentences
 pub mod Theorem
 pub mod Turns
+pub mod Happening
 pub mod Waiting

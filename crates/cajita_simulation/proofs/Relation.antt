@@ -8,6 +8,7 @@ use Rattle.es3_heap.specs.Objects.{Objects}
 use Rattle.es3_language.specs.Store as store
 use Rattle.es3_language.specs.Store.{Store, name_value}
 use Rattle.es3_language.specs.Arguments.{is_fixed}
+use Rattle.rows.specs.Nodes.{Rules}
 use Rattle.cajita_tree.specs.Tree as c
 use Rattle.cajita_meaning.specs.World.{made_name, Value, object, Object, a_closure, World}
 use Rattle.cajita_meaning.specs.Direct.{Item}
@@ -114,7 +115,7 @@ closures_wait a b k (v ∷ vs) are = (closure_kept a b k v are.0, closures_wait 
 pub objects_step : {first : Objects} {places : Rattle.rows.specs.Rows.Native → ℕ} {objects : ℕ → List Object} {h : Objects} {i j : ℕ} → i ≤ j → ObjectsAre first places objects h i → ObjectsAre first places objects h j
 objects_step le o = record { each = o.each; once = o.once; natives = o.natives; reads = o.reads; sets = o.sets; above = o.above; count = o.count; few = λ n. let f = o.few n in omega (arith, f, le); opened = o.opened; unnamed = o.unnamed; large = o.large }
 
-pub related_steps : {T : Temps} {j k : ℕ} {w : World} {z : List Item} {n n' : ℕ} {g : Tags} {s : Store} {y : Kept} {m m' : ℕ} → m ≤ m' → m' + k ≤ 64 * n' → Related T j w z n g s y m → Related T k w z n' g s y m'
+pub related_steps : {rules : Rules} {T : Temps} {j k : ℕ} {w : World} {z : List Item} {n n' : ℕ} {g : Tags} {s : Store} {y : Kept} {m m' : ℕ} → m ≤ m' → m' + k ≤ 64 * n' → Related rules T j w z n g s y m → Related rules T k w z n' g s y m'
 related_steps le fits r = record { steps = fits; items = r.items; objects = objects_step le r.objects; pages = r.pages; closures = r.closures; waiters = r.waiters; scopes = r.scopes; globals = r.globals; kept = r.kept }
 
 pub rel_steps : {form : Bool} {H : Here} {T : Temps} {j k : ℕ} {w : World} {z : List Item} {n n' : ℕ} {g : Tags} {s : Store} {y : Kept} {m m' : ℕ} → m ≤ m' → m' + k ≤ 64 * n' → RelAt form H T j w z n g s y m → RelAt form H T k w z n' g s y m'
@@ -124,7 +125,7 @@ pub rel_less : {form : Bool} {H : Here} {T : Temps} {j k : ℕ} {w : World} {z :
 rel_less le r = rel_steps (omega arith) (omega (arith, le, r.all.steps)) r
 
 -- nothing is known any more of hidden names, and no step is in hand
-pub related_between : {T : Temps} {k : ℕ} {w : World} {z : List Item} {n : ℕ} {g : Tags} {s : Store} {y : Kept} {m : ℕ} → Related T k w z n g s y m → Between w z n g s y m
+pub related_between : {rules : Rules} {T : Temps} {k : ℕ} {w : World} {z : List Item} {n : ℕ} {g : Tags} {s : Store} {y : Kept} {m : ℕ} → Related rules T k w z n g s y m → Between rules w z n g s y m
 related_between r = record {
   steps = omega (arith, r.steps);
   items = r.items;

@@ -12,6 +12,7 @@ use Rattle.es3_convert.specs.Numbers.{number_of}
 use Rattle.es3_language.specs.Store.{Store, with_heap}
 use Rattle.es3_language.specs.Natives.{Reply, value_reply, throw_reply, stop_reply}
 use Rattle.es3_language.specs.Meaning as Target
+use Rattle.rows.specs.Nodes.{Rules}
 use Rattle.rows.specs.Rows as r
 use Rattle.rows.specs.Rows.{Handle, Sight, Ending, Row, Native}
 use Rattle.cajita_meaning.specs.World.{Name, made_name, facet_name, Object, Value, undefined, null, truth, number, text, object, World, next_name}
@@ -31,6 +32,7 @@ use Rattle.row_simulation.proofs.Names.{known_name, made_known}
 use Rattle.row_simulation.proofs.Relation.{vals_keep}
 use Rattle.page_natives.specs.Natives.{Kept, page_of, tells}
 use Rattle.cajita_simulation.specs.Alike.{GuestFault, heard_by}
+use Rattle.cajita_simulation.specs.Related.{KnowsPage}
 use Rattle.cajita_simulation.proofs.Told.{items_told, shown_quiet}
 use Rattle.cajita_simulation.proofs.Doing as Source
 use Rattle.cajita_simulation.proofs.Relation.{RelAt, IsClosure, AreClosures, WaitersAre, closures_wait, EsValue, Val, Vals, Here, env_of, Tags, Temps, Rel, Stays}
@@ -116,7 +118,7 @@ quiet_from by way v = refl
 quiet_one : (by : ℕ) (s : direct.Held) (x : Handle) → shown (direct.got_one by s x) ≡ []
 quiet_one by s x = quiet_from by (direct.way_of s x) (direct.value_of s.values x)
 
-quiet_all : (by : ℕ) (s : direct.Held) (xs : List Handle) → shown (direct.got_all by s xs) ≡ []
+pub quiet_all : (by : ℕ) (s : direct.Held) (xs : List Handle) → shown (direct.got_all by s xs) ≡ []
 quiet_all by s [] = refl
 quiet_all by s (x ∷ xs) = both_quiet (direct.got_one by s x) (direct.got_all by s xs) (quiet_one by s x) (quiet_all by s xs)
 
@@ -175,19 +177,18 @@ left_tell H {d = d} {n = n} {m = m} (i ∷ is) q go next z {p = p} {y = y} f =
 pub record RowGoesAt (form : Bool) (H : Here) (T : Temps) (d k : ℕ) (w : World) (n : ℕ) (g : Tags) (s : Store) (m : ℕ) (e : direct.Outcome) (go : Going) (next : Cont) (next' : Cont') : Type 0 where
   pub on : {y : Kept} (b : Reply) (w' : World) (z' : List Item) (s' : Store) → ReplyIs s'.heap e b → RelAt form H T k w' z' n g s' y (suc m) → Stays w g s m w' g s' (suc m) → M H d (bind (replied (outcome_reply H.around.calls H.by e w') go) next) z' n (bind (Target.reply_plan b (env_of H) s') next') y (suc m)
 
--- what natives keep after a row: what the row left of it, and what it told
-pub record KeepsRow (y y' : Kept) (came : es3.Came) : Type 0 where
-  pub runtime : y'.runtime ≡ y.runtime
-  pub imports : y'.imports ≡ y.imports
+-- what natives keep after a row: what the row left of it, and what it told; they know of the page what they knew
+pub record KeepsRow (rules : Rules) (y y' : Kept) (came : es3.Came) : Type 0 where
+  pub knows : KnowsPage rules y → KnowsPage rules y'
   pub touching : y'.touching ≡ y.touching
   pub told : y'.told ≡ y.told ++ heard y.touching came.done.items
   pub cells : (c : ℕ) → came.page.cells c ≡ (page_of y').cells c
   pub queues : (m : ℕ) → came.page.queues m ≡ (page_of y').queues m
-  pub nodes : (root : ℕ) → came.page.nodes root ≡ []
-  pub facets : (root : ℕ) → came.page.facets root ≡ []
-  pub handlers : (root : ℕ) → came.page.handlers root ≡ []
+  pub nodes : (root : ℕ) → came.page.nodes root ≡ (page_of y').nodes root
+  pub facets : (root : ℕ) → came.page.facets root ≡ (page_of y').facets root
+  pub handlers : (root : ℕ) → came.page.handlers root ≡ (page_of y').handlers root
 
-pages_moved : {h : Objects} {w : World} {p q : es3.Page} → ((c : ℕ) → p.cells c ≡ q.cells c) → ((m : ℕ) → p.queues m ≡ q.queues m) → ((root : ℕ) → p.nodes root ≡ q.nodes root) → ((root : ℕ) → p.facets root ≡ q.facets root) → ((root : ℕ) → p.handlers root ≡ q.handlers root) → PagesAre h w p → PagesAre h w q
+pub pages_moved : {h : Objects} {w : World} {p q : es3.Page} → ((c : ℕ) → p.cells c ≡ q.cells c) → ((m : ℕ) → p.queues m ≡ q.queues m) → ((root : ℕ) → p.nodes root ≡ q.nodes root) → ((root : ℕ) → p.facets root ≡ q.facets root) → ((root : ℕ) → p.handlers root ≡ q.handlers root) → PagesAre h w p → PagesAre h w q
 pages_moved {h = h} {w = w} {p = p} {q = q} cells queues nodes facets handlers r = record {
   cells = λ c. subst (Val h (w.cells c)) (cells c) (r.cells c);
   queues = λ m. subst (Vals h (w.queues m)) (queues m) (r.queues m);
@@ -232,7 +233,7 @@ row_waiters {H = H} below q among none vs es {w = w} {s = s} {y = y} {m = m} few
 
 -- from a row that is asked, and the same row of a native: a step was paid for the native's call
 pub settled_on : {form : Bool} {H : Here} {T : Temps} {d k : ℕ} → H.by < 64 → (q : Row) → IsAmongObjects q → (vs : List Value) (es : List EsValue) {w : World} {z : List Item} {n : ℕ} {g : Tags} {s : Store} {y : Kept} {m : ℕ} (y' : Kept) (go : Going) (next : Cont) (next' : Cont') → suc m ≤ 4294967295 → Vals s.heap vs es → RelAt form H T (suc k) w z n g s y m
-    → WaitersAre (direct.does H.by q (direct.given vs) w []).world → KeepsRow y y' (es3.does place_of H.by q es s.heap (page_of y) [])
+    → WaitersAre (direct.does H.by q (direct.given vs) w []).world → KeepsRow H.rules y y' (es3.does place_of H.by q es s.heap (page_of y) [])
     → RowGoesAt form H T d k w n g s m (direct.does H.by q (direct.given vs) w []).outcome go next next'
     → M H d (bind (replied (done_reply H.around.calls H.by (direct.does H.by q (direct.given vs) w [])) go) next) z n (bind (Target.reply_plan (es3.does place_of H.by q es s.heap (page_of y) []).done.reply (env_of H) (with_heap s (es3.does place_of H.by q es s.heap (page_of y) []).done.heap)) next') y' (suc m)
 settled_on {form = form} {H = H} {T = T} {d = d} {k = k} below q among vs es {w = w} {z = z} {n = n} {g = g} {s = s} {y = y} {m = m} y' go next next' few is r waiters kept f =
@@ -243,7 +244,7 @@ settled_on {form = form} {H = H} {T = T} {d = d} {k = k} below q among vs es {w 
     let x : Changes (page_of y') w s a.world came.done.heap (suc m) =
     record { objects = c.done.objects; pages = pages_moved kept.cells kept.queues kept.nodes kept.facets kept.handlers c.page; keeps = c.done.keeps; scopes = l.scopes; older = l.older; closed = record { closures = l.closed }; waiters = λ before. waiters } in
     let items : heard_by y' (z ++ a.items) ≡ y'.told = ap (λ t. heard t (shown (z ++ a.items))) kept.touching ∙ items_told y z a.items came.done.items c.done.items r.all.items ∙ sym kept.told in
-    let r1 : RelAt form H T k a.world (z ++ a.items) n g (with_heap s came.done.heap) y' (suc m) = rel_settled x (knows_still kept.runtime kept.imports r.all.kept) items (omega arith) (omega (arith, r.all.steps)) r in
+    let r1 : RelAt form H T k a.world (z ++ a.items) n g (with_heap s came.done.heap) y' (suc m) = rel_settled x (kept.knows r.all.kept) items (omega arith) (omega (arith, r.all.steps)) r in
     left_tell H a.items (outcome_reply H.around.calls H.by a.outcome a.world) go next z (f.on _ a.world (z ++ a.items) _ c.done.reply r1 (stays_changed g x (omega arith)))
 
 -- the same for one that changes nothing beside objects, whatever is kept
@@ -255,7 +256,7 @@ row_on {form = form} {H = H} {d = d} below q among none vs es {w = w} {z = z} {n
     let same = same_page place_of H.by q none es s.heap (page_of y) [] in
     let came = es3.does place_of H.by q es s.heap (page_of y) [] in
     subst (λ b. M H d (bind (replied (done_reply H.around.calls H.by a) go) next) z n (bind (Target.reply_plan b.reply (env_of H) (with_heap s b.heap)) next') (tells b.items y) (suc m)) (any_page place_of H.by q none es s.heap (page_of y) page [])
-    (settled_on below q among vs es (tells came.done.items y) go next next' few is r (row_waiters below q among none vs es few is r) (record { runtime = refl; imports = refl; touching = refl; told = refl; cells = λ c. ap (λ p. p.cells c) same; queues = λ m. ap (λ p. p.queues m) same; nodes = λ root. ap (λ p. p.nodes root) same; facets = λ root. ap (λ p. p.facets root) same; handlers = λ root. ap (λ p. p.handlers root) same }) f)
+    (settled_on below q among vs es (tells came.done.items y) go next next' few is r (row_waiters below q among none vs es few is r) (record { knows = knows_still refl refl refl refl; touching = refl; told = refl; cells = λ c. ap (λ p. p.cells c) same; queues = λ m. ap (λ p. p.queues m) same; nodes = λ root. ap (λ p. p.nodes root) same; facets = λ root. ap (λ p. p.facets root) same; handlers = λ root. ap (λ p. p.handlers root) same }) f)
 
 -- where the row touches nothing, a page tells nothing of it
 pub row_silent : {form : Bool} {H : Here} {T : Temps} {k : ℕ} → H.by < 64 → (q : Row) → IsAmongObjects q → NoSettling q → NoTouches q → (vs : List Value) (es : List EsValue) {w : World} {z : List Item} {n : ℕ} {g : Tags} {s : Store} {y : Kept} {m : ℕ} (page : es3.Page) → suc m ≤ 4294967295 → Vals s.heap vs es → RelAt form H T k w z n g s y m

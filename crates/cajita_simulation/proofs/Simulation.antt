@@ -25,7 +25,7 @@ use Rattle.cajita_simulation.proofs.Forms.Function.{function_body}
 use Rattle.cajita_simulation.proofs.Forms.OwnName.{own_name_body}
 use Rattle.cajita_simulation.proofs.Forms.Read.{read_body}
 use Rattle.cajita_simulation.proofs.Calling.Laws.{NativeAt, ClosureAt, ClosureLaw, NativeLaw}
-use Rattle.cajita_simulation.proofs.Calling.Body.{Entries, closure_law}
+use Rattle.cajita_simulation.proofs.Calling.Body.{Entries, EntryAt, closure_law, entry_law}
 use Rattle.cajita_simulation.proofs.Calling.Native.{native_zero, native_law}
 use Rattle.cajita_simulation.proofs.Forms.Call.{call_body}
 use Rattle.cajita_simulation.proofs.Forms.Method.{method_body, new_body}
@@ -250,6 +250,9 @@ pub natives : (H : Here) → H.by < 64 → (d : ℕ) → NativeLaw H d
 natives H few d = let l = laws d in l.natives true H few
 
 -- and those that the page itself makes
+pub page_entries : (H : Here) (d : ℕ) → EntryAt false H d
+page_entries H d = let l = laws d in entry_law l.effects l.entries H
+
 pub page_closures : (H : Here) (d : ℕ) → ClosureAt false H d
 page_closures H d = let l = laws d in closure_law l.effects l.entries H
 

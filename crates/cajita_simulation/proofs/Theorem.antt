@@ -65,7 +65,7 @@ map_long f [] = refl
 map_long f (x ∷ names) = ap suc (map_long f names)
 
 -- the load of a module, and its program, wherever both sides are related: they match
-pub load_matches : (rules : Rules) (by : ℕ) → by < 64 → (m : c.Tree c.program) → GuestModule m → {vs : List Value} {w : World} {z : List Item} {n : ℕ} {g : Tags} {s : Store} {y : Kept} {i : ℕ} → ImportsAre s.heap y by (imports_of m) vs → Between w z n g s y i → (d : ℕ) → Match (sides rules (load_in s)) d (enter (load_of m by vs) w ends) z n (Target.program_plan (program_of m) by s) y i
+pub load_matches : (rules : Rules) (by : ℕ) → by < 64 → (m : c.Tree c.program) → GuestModule m → {vs : List Value} {w : World} {z : List Item} {n : ℕ} {g : Tags} {s : Store} {y : Kept} {i : ℕ} → ImportsAre s.heap y by (imports_of m) vs → Between rules w z n g s y i → (d : ℕ) → Match (sides rules (load_in s)) d (enter (load_of m by vs) w ends) z n (Target.program_plan (program_of m) by s) y i
 load_matches rules by few _ (a_guest imports vars fs list same names names' small targets new functions guest) {vs = vs} {n = n} {s = s} {y = y} {i = i} are r d =
     let o = natives.imports_of by y in
     let q : Module = record { object = o; imports = imports; vars = vars; funcs = fs; list = list } in
@@ -76,7 +76,7 @@ load_matches rules by few _ (a_guest imports vars fs list same names names' smal
     let long : length vs ≡ length imports = values_long s.heap vs _ are.values ∙ map_long (λ k. value_of (own s.heap o k)) imports in
     whole rules (load_in s) by few q is vs us owns d refl refl refl (imports_read rules (load_in s) by q s is (opened_of r.objects) r.scopes.shared) values long r
 
-pub load_simulated : (rules : Rules) (by : ℕ) → by < 64 → (m : c.Tree c.program) → GuestModule m → {vs : List Value} {w : World} {z : List Item} {n : ℕ} {g : Tags} {s : Store} {y : Kept} {i : ℕ} → ImportsAre s.heap y by (imports_of m) vs → Between w z n g s y i → Simulated (sides rules (load_in s)) n i (λ j. run (direct rules) j (enter (load_of m by vs) w ends) z) (λ k. run (es3 page_table) k (Target.program_plan (program_of m) by s) y)
+pub load_simulated : (rules : Rules) (by : ℕ) → by < 64 → (m : c.Tree c.program) → GuestModule m → {vs : List Value} {w : World} {z : List Item} {n : ℕ} {g : Tags} {s : Store} {y : Kept} {i : ℕ} → ImportsAre s.heap y by (imports_of m) vs → Between rules w z n g s y i → Simulated (sides rules (load_in s)) n i (λ j. run (direct rules) j (enter (load_of m by vs) w ends) z) (λ k. run (es3 page_table) k (Target.program_plan (program_of m) by s) y)
 load_simulated rules by few m guest {n = n} {s = s} {i = i} are r = turn_simulated (sides rules (load_in s)) n i _ _ _ _ (λ d. load_matches rules by few m guest are r d)
 
 -- what a page tells while a program runs only grows
@@ -84,9 +84,9 @@ page_grows : (by : ℕ) (m : c.Tree c.program) (s : Store) (y : Kept) (k : ℕ) 
 page_grows by m s y k = run_grows (es3 page_table) TellsMore target_grows k (Target.program_plan (program_of m) by s) y
 
 -- the sentences of a load, which is one deed more
-pub loads : (rules : Rules) (m : c.Tree c.program) (by : ℕ) → by < 64 → GuestModule m → (vs : List Value) (d : ℕ) → d < most_deeds → (w : World) (z : List Item) (n : ℕ) (g : Tags) (s : Store) (y : Kept) (i : ℕ) → ImportsAre s.heap y by (imports_of m) vs → BetweenTurns d w z n g s y i → TurnsAlike rules (load_in s) (suc d) (load_turn m by vs w) z n (load_turn' m by s) y i
+pub loads : (rules : Rules) (m : c.Tree c.program) (by : ℕ) → by < 64 → GuestModule m → (vs : List Value) (d : ℕ) → d < most_deeds → (w : World) (z : List Item) (n : ℕ) (g : Tags) (s : Store) (y : Kept) (i : ℕ) → ImportsAre s.heap y by (imports_of m) vs → BetweenTurns rules d w z n g s y i → TurnsAlike rules (load_in s) (suc d) (load_turn m by vs w) z n (load_turn' m by s) y i
 loads rules m by few guest vs d small w z n g s y i are r =
-    turns_alike rules (load_in s) (suc d) (n + suc d) (i + 64 * suc d) refl refl (omega (arith, small)) (omega (arith, r.steps)) (λ le. load_simulated rules by few m guest are (one_more d w z n g s y i r))
+    turns_alike rules (load_in s) (suc d) (n + suc d) (i + 64 * suc d) refl refl (omega (arith, small)) (omega (arith, r.steps)) (λ le. load_simulated rules by few m guest are (one_more rules d w z n g s y i r))
 
 -- a module by itself
 
@@ -97,21 +97,21 @@ imports_are (suc by) (c.a_module [] body) may = record { there = own_there (suc 
 imports_are (suc by) (c.a_module (x ∷ xs) body) may = absurd may
 
 simulates : (by : ℕ) → by < 64 → (m : c.Tree c.program) → MayImport by m → GuestModule m → Simulated (sides no_rules (load_in first_store)) 0 0 (λ n. direct_run m by n) (λ k. module_run (program_of m) by k)
-simulates by few m may guest = load_simulated no_rules by few m guest (imports_are by m may) begins_one
+simulates by few m may guest = load_simulated no_rules by few m guest (imports_are by m may) (begins_one no_rules)
 
 -- like ends, as the sentences say it
 
 told_so : (z : List Item) (y : Kept) → y.touching ≡ false → heard_by y z ≡ y.told → told_without z ≡ y.told
 told_so z y without same = ap (λ b. heard b (shown z)) (sym without) ∙ same
 
-ends_alike : (e : Source.Completion) (w : World) (z : List Item) (n : ℕ) (e' : Target.Completion) (s : Store) (y : Kept) (m : ℕ) → y.touching ≡ false → Ends (load_in first_store) e w z n e' s y m → SameEnd e w e' s × (told_without z ≡ y.told) × PagesAre s.heap w (page_of y)
-ends_alike (Source.gave v) w z n (Target.normal (Some x)) s y m without p = ((p.0, (m, p.1.1.objects)), told_so z y without p.1.1.items, p.1.1.pages)
-ends_alike (Source.gave v) w z n e' s y m without p = absurd p.0
-ends_alike (Source.threw v) w z n (Target.threw x) s y m without p = ((p.0, (m, p.1.1.objects)), told_so z y without p.1.1.items, p.1.1.pages)
-ends_alike _ w z n _ s y m without p = absurd p
+ends_alike : (rules : Rules) (e : Source.Completion) (w : World) (z : List Item) (n : ℕ) (e' : Target.Completion) (s : Store) (y : Kept) (m : ℕ) → y.touching ≡ false → Ends rules (load_in first_store) e w z n e' s y m → SameEnd e w e' s × (told_without z ≡ y.told) × PagesAre s.heap w (page_of y)
+ends_alike rules (Source.gave v) w z n (Target.normal (Some x)) s y m without p = ((p.0, (m, p.1.1.objects)), told_so z y without p.1.1.items, p.1.1.pages)
+ends_alike rules (Source.gave v) w z n e' s y m without p = absurd p.0
+ends_alike rules (Source.threw v) w z n (Target.threw x) s y m without p = ((p.0, (m, p.1.1.objects)), told_so z y without p.1.1.items, p.1.1.pages)
+ends_alike rules _ w z n _ s y m without p = absurd p
 
-alike : (rules : Rules) (all all' : ℕ) (r : Source.Run) (t : Target.Run Kept) → (kept_of t).touching ≡ false → Together (sides rules (load_in first_store)) (Ends (load_in first_store)) all all' r t → EndAlike r t
-alike rules all all' (over e w z n) (over e' s y n') without p = ends_alike e w z p.taken e' s y p.taken' without p.ends
+alike : (rules : Rules) (all all' : ℕ) (r : Source.Run) (t : Target.Run Kept) → (kept_of t).touching ≡ false → Together (sides rules (load_in first_store)) (Ends rules (load_in first_store)) all all' r t → EndAlike r t
+alike rules all all' (over e w z n) (over e' s y n') without p = ends_alike rules e w z p.taken e' s y p.taken' without p.ends
 alike rules all all' (stopped f w z n) (stopped g s y n') without p = (p.0, p.1, told_so z y without p.2)
 alike rules all all' _ _ without p = absurd p
 

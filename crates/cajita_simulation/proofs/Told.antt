@@ -8,12 +8,15 @@ use Rattle.es3_convert.specs.Conversions.{text_of}
 use Rattle.cajita_meaning.specs.Direct.{Item}
 use Rattle.heap_rows.specs.Doing.{Told, touched, said, changed_node, ended, heard}
 use Rattle.row_outcomes.specs.Arguments.{argument}
+use Rattle.guard_marks.specs.Closures.{is_closure}
+use Rattle.tamed_dom.specs.Methods.{node_turn}
 use Rattle.row_simulation.specs.RowLaw.{shown}
 use Rattle.row_simulation.proofs.Row.{shown-append}
 use Rattle.guard_runtime.specs.Guards as guards
 use Rattle.page_natives.specs.declared.natives.Callee.{Callee}
 use Rattle.page_natives.specs.declared.natives.Callee.TheVariants as callee
-use Rattle.page_natives.specs.Natives.{Kept, callee_of, can_wait, tells, with_said, with_waiting, kept_by, turn_by, page_table}
+use Rattle.page_natives.specs.Nodes.{changes_told}
+use Rattle.page_natives.specs.Natives.{Kept, callee_of, tells, with_said, with_waiting, kept_by, turn_by, page_table}
 use Rattle.cajita_simulation.specs.Alike.{heard_by}
 
 -- part by part
@@ -64,16 +67,17 @@ waits_more : (m : ℕ) (waits : Bool) (v : Value) (y : Kept) → TellsMore y (wi
 waits_more m true v y = record { more = []; told = sym (append-nil y.told); touching = refl }
 waits_more m false v y = as_before y
 
-pub kept_more : (f : Callee) (by : ℕ) (args : List Value) (h : Objects) (y : Kept) → TellsMore y (kept_by f by args h y)
-kept_more (callee.Guard g) by args h y = tells_more (guards.done_of g by args h).items y
-kept_more (callee.Say m) by args h y = said_more m (text_of h (argument 0 args)) y
-kept_more (callee.Later m) by args h y = waits_more m (can_wait h (argument 0 args)) (argument 0 args) y
-kept_more (callee.Set cell) by args h y = record { more = []; told = sym (append-nil y.told); touching = refl }
-kept_more f by args h y = as_before y
+pub kept_more : (f : Callee) (by : ℕ) (this : Value) (args : List Value) (h : Objects) (y : Kept) → TellsMore y (kept_by f by this args h y)
+kept_more (callee.OfNode m) by this args h y = record { more = changes_told (node_turn y.answers m by this args h y.dom).state.change; told = refl; touching = refl }
+kept_more (callee.Guard g) by this args h y = tells_more (guards.done_of g by args h).items y
+kept_more (callee.Say m) by this args h y = said_more m (text_of h (argument 0 args)) y
+kept_more (callee.Later m) by this args h y = waits_more m (is_closure h (argument 0 args)) (argument 0 args) y
+kept_more (callee.Set cell) by this args h y = record { more = []; told = sym (append-nil y.told); touching = refl }
+kept_more f by this args h y = as_before y
 
 pub told_grows : (which by : ℕ) (this : Value) (args : List Value) (h : Objects) (y : Kept) → TellsMore y (page_table.answer which by this args h y).state
 told_grows which by this args h y = by_callee (callee_of which)
   where
     by_callee : (f : Option Callee) → TellsMore y (turn_by f by this args h y).state
-    by_callee (Some f) = kept_more f by args h y
+    by_callee (Some f) = kept_more f by this args h y
     by_callee None = as_before y

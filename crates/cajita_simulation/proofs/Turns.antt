@@ -79,14 +79,14 @@ in_call_still k c = record { call = c.call; lasts = λ o j t. k.named o j (c.las
 
 -- how a call by the page ends
 
-end_gave : {H : Here} {c k : ℕ} {v : Value} {e : EsValue} {w : World} {z : List Item} {n : ℕ} {g : Tags} {s : Store} {y : Kept} {m : ℕ} → InCall H.turn s.heap → Val s.heap v e → RelAt false H no_temps k w z n g s y m → M H c (ends (Source.gave v) w) z n (ends (Target.gave e) s) y m
+pub end_gave : {H : Here} {c k : ℕ} {v : Value} {e : EsValue} {w : World} {z : List Item} {n : ℕ} {g : Tags} {s : Store} {y : Kept} {m : ℕ} → InCall H.turn s.heap → Val s.heap v e → RelAt false H no_temps k w z n g s y m → M H c (ends (Source.gave v) w) z n (ends (Target.gave e) s) y m
 end_gave {v = v} {e = e} {g = g} {s = s} in_call is r = both_end (omega (arith, r.all.steps)) (subst (λ b. GivenIs b s.heap v (Target.gave e)) (sym in_call.call) is, (g, related_between r.all), in_call.lasts)
 
 end_threw : {H : Here} {c k : ℕ} {v : Value} {e : EsValue} {w : World} {z : List Item} {n : ℕ} {g : Tags} {s : Store} {y : Kept} {m : ℕ} → InCall H.turn s.heap → Val s.heap v e → RelAt false H no_temps k w z n g s y m → M H c (ends (Source.threw v) w) z n (ends (Target.threw e) s) y m
 end_threw {g = g} in_call is r = both_end (omega (arith, r.all.steps)) (is, (g, related_between r.all), in_call.lasts)
 
 -- what a closure's call gives or throws has gone to the page already
-closure_next : {H : Here} {d k : ℕ} {w : World} {g : Tags} {s : Store} {m : ℕ} → InCall H.turn s.heap → NextAt false H no_temps d k w g s m (Source.called_next answer_end ends) ends
+pub closure_next : {H : Here} {d k : ℕ} {w : World} {g : Tags} {s : Store} {m : ℕ} → InCall H.turn s.heap → NextAt false H no_temps d k w g s m (Source.called_next answer_end ends) ends
 closure_next in_call = record {
   gives = record { on = λ c le v e w z n g s y m is r keep. end_gave (in_call_still keep.heap.objects in_call) is r };
   throws = record { on = λ c le v e w z n g s y m is r keep. end_threw (in_call_still keep.heap.objects in_call) is r };
@@ -113,7 +113,7 @@ native_same m (Source.returned v) w = refl
 
 -- a function is called by the page for a module, with its receiver and its arguments
 
-module _ (rules : Rules) (turn : Turn) {by : ℕ} (below : by < 64) (d k : ℕ) (receiver : Value) (this : EsValue) (us : List Value) (qs : List EsValue) {w : World} {z : List Item} {n : ℕ} {g : Tags} {s : Store} {y : Kept} {m : ℕ} (in_call : InCall turn s.heap) (at : Val s.heap receiver this) (args : Vals s.heap us qs) (small : FewValues m qs) (r : Related no_temps k w z n g s y m) where
+module _ (rules : Rules) (turn : Turn) {by : ℕ} (below : by < 64) (d k : ℕ) (receiver : Value) (this : EsValue) (us : List Value) (qs : List EsValue) {w : World} {z : List Item} {n : ℕ} {g : Tags} {s : Store} {y : Kept} {m : ℕ} (in_call : InCall turn s.heap) (at : Val s.heap receiver this) (args : Vals s.heap us qs) (small : FewValues m qs) (r : Related rules no_temps k w z n g s y m) where
   abbrev Called : Value → EsValue → Type 0
   Called v e = Match (sides rules turn) d (bind (replied (page_call by v receiver us w) answer_end) ends) z n (bind (Target.call_plan e this qs by s) ends) y m
 
@@ -174,7 +174,7 @@ values_few i zero = refl
 values_few i (suc n) = ap suc (values_few (i + 1) n)
 
 -- what follows the row, by what it came to
-event_goes : (rules : Rules) (turn : Turn) {by : ℕ} → by < 64 → (d : ℕ) (e : direct.Outcome) {w w' : World} {z : List Item} {n : ℕ} {g : Tags} {s s' : Store} {y : Kept} {m : ℕ} → ComesCalling w e → (b : Reply) → ReplyIs s'.heap e b → InCall turn s'.heap → Related no_temps 0 w' z n g s' y (suc m) → Stays w g s m w' g s' (suc m)
+event_goes : (rules : Rules) (turn : Turn) {by : ℕ} → by < 64 → (d : ℕ) (e : direct.Outcome) {w w' : World} {z : List Item} {n : ℕ} {g : Tags} {s s' : Store} {y : Kept} {m : ℕ} → ComesCalling w e → (b : Reply) → ReplyIs s'.heap e b → InCall turn s'.heap → Related rules no_temps 0 w' z n g s' y (suc m) → Stays w g s m w' g s' (suc m)
     → Match (sides rules turn) d (bind (replied (event_outcome by e w') answer_end) ends) z n (bind (reply_plan b by s') ends) y (suc m)
 event_goes rules turn {by = by} below d (direct.gives v) {w' = w'} {s' = s'} comes (value_reply e) is in_call r keep = passed_match {form = false} {H = at_event rules turn by s'} {T = no_temps} {k = 0} by the_page (v ∷ []) (good_value v w') answer_end ends (record { all = r; here = tt }) (λ z1 r1. end_gave in_call is r1)
 event_goes rules turn {by = by} below d (direct.throws v) {w' = w'} {s' = s'} comes (throw_reply e) is in_call r keep = passed_match {form = false} {H = at_event rules turn by s'} {T = no_temps} {k = 0} by the_page (v ∷ []) (answer bad (v ∷ []) w') answer_end ends (record { all = r; here = tt }) (λ z1 r1. end_threw in_call is r1)
@@ -185,7 +185,7 @@ event_goes rules turn below d (direct.lists ks) comes b is in_call r keep = absu
 event_goes rules turn below d e comes b is in_call r keep = absurd is
 
 -- the key of a value is called, where there is room for a name
-key_match : (rules : Rules) (turn : Turn) {by : ℕ} → by < 64 → (d : ℕ) (key : List ℕ) (vs : List Value) (es : List EsValue) {w : World} {z : List Item} {n : ℕ} {g : Tags} {s : Store} {y : Kept} {m : ℕ} → InCall turn s.heap → Vals s.heap vs es → length vs < 4294967296 → suc m ≤ 4294967295 → Related no_temps 1 w z n g s y m
+key_match : (rules : Rules) (turn : Turn) {by : ℕ} → by < 64 → (d : ℕ) (key : List ℕ) (vs : List Value) (es : List EsValue) {w : World} {z : List Item} {n : ℕ} {g : Tags} {s : Store} {y : Kept} {m : ℕ} → InCall turn s.heap → Vals s.heap vs es → length vs < 4294967296 → suc m ≤ 4294967295 → Related rules no_temps 1 w z n g s y m
     → Match (sides rules turn) d (bind (replied (key_event by key vs w) answer_end) ends) z n (bind (key_plan by key es s y) ends) y (suc m)
 key_match rules turn {by = by} below d key vs es {w = w} {z = z} {n = n} {g = g} {s = s} {y = y} {m = m} in_call is short few r =
     let q = call_key key (length vs) in
@@ -207,25 +207,25 @@ key_match rules turn {by = by} below d key vs es {w = w} {z = z} {n = n} {g = g}
 
 -- the turns
 
-pub key_matches : (rules : Rules) (turn : Turn) {by : ℕ} → by < 64 → (d : ℕ) (key : List ℕ) (vs : List Value) (es : List EsValue) {w : World} {z : List Item} {n : ℕ} {g : Tags} {s : Store} {y : Kept} {m : ℕ} → InCall turn s.heap → Vals s.heap vs es → length vs < 4294967296 → suc m ≤ 4294967295 → Related no_temps 1 w z n g s y m
+pub key_matches : (rules : Rules) (turn : Turn) {by : ℕ} → by < 64 → (d : ℕ) (key : List ℕ) (vs : List Value) (es : List EsValue) {w : World} {z : List Item} {n : ℕ} {g : Tags} {s : Store} {y : Kept} {m : ℕ} → InCall turn s.heap → Vals s.heap vs es → length vs < 4294967296 → suc m ≤ 4294967295 → Related rules no_temps 1 w z n g s y m
     → Match (sides rules turn) d (key_turn by key vs w) z n (key_turn' by key es s y) y (suc m)
 key_matches rules turn {by = by} below d key vs es {w = w} {z = z} {n = n} {s = s} {y = y} {m = m} in_call is short few r =
     subst (λ p. Match (sides rules turn) d p z n (key_plan by key es s y) y (suc m)) (bind_ends (replied (key_event by key vs w) answer_end))
     (subst (λ p. Match (sides rules turn) d (bind (replied (key_event by key vs w) answer_end) ends) z n p y (suc m)) (bind_ends (key_plan by key es s y))
     (key_match rules turn below d key vs es in_call is short few r))
 
-pub tick_matches : (rules : Rules) (turn : Turn) {by : ℕ} → by < 64 → (d : ℕ) (f : Value) (e : EsValue) {w : World} {z : List Item} {n : ℕ} {g : Tags} {s : Store} {y : Kept} {m : ℕ} → InCall turn s.heap → IsCallable w f → Val s.heap f e → Between w z n g s y m
+pub tick_matches : (rules : Rules) (turn : Turn) {by : ℕ} → by < 64 → (d : ℕ) (f : Value) (e : EsValue) {w : World} {z : List Item} {n : ℕ} {g : Tags} {s : Store} {y : Kept} {m : ℕ} → InCall turn s.heap → IsCallable w f → Val s.heap f e → Between rules w z n g s y m
     → Match (sides rules turn) d (tick_turn by f w) z n (tick_turn' by e s) y m
 tick_matches rules turn {by = by} below d f e {w = w} {z = z} {n = n} {g = g} {s = s} {y = y} {m = m} in_call callable is r =
     subst (λ p. Match (sides rules turn) d p z n (tick_plan by e s) y m) (bind_ends (replied (tick_event by f w) answer_end))
     (subst (λ p. Match (sides rules turn) d (bind (replied (tick_event by f w) answer_end) ends) z n p y m) (bind_ends (tick_plan by e s))
     (page_match rules turn below d 0 undefined es.Undefined [] [] in_call tt tt (λ left. omega arith) r f e callable is))
 
-begins_here : (s : Store) → InCall (call_in s) s.heap
+pub begins_here : (s : Store) → InCall (call_in s) s.heap
 begins_here s = record { call = refl; lasts = λ o j t. t }
 
 -- a deed's room is there where a key's call begins: all of it but one step, which the row of the key has
-pub key_alike : (rules : Rules) (m : ℕ) → m < 64 → (key : List ℕ) (vs : List Value) (es : List EsValue) (d : ℕ) → d < most_deeds → (w : World) (z : List Item) (n : ℕ) (g : Tags) (s : Store) (y : Kept) (i : ℕ) → Vals s.heap vs es → length vs < 4294967296 → BetweenTurns d w z n g s y i
+pub key_alike : (rules : Rules) (m : ℕ) → m < 64 → (key : List ℕ) (vs : List Value) (es : List EsValue) (d : ℕ) → d < most_deeds → (w : World) (z : List Item) (n : ℕ) (g : Tags) (s : Store) (y : Kept) (i : ℕ) → Vals s.heap vs es → length vs < 4294967296 → BetweenTurns rules d w z n g s y i
     → TurnsAlike rules (call_in s) (suc d) (key_turn m key vs w) z n (key_turn' m key es s y) y i
 key_alike rules m below key vs es d small w z n g s y i is short r =
     turns_alike rules (call_in s) (suc d) (suc (n + d)) (suc (i + (64 * d + 63))) (omega arith) (omega arith) (omega (arith, small)) (omega (arith, r.steps)) (λ few.
@@ -237,9 +237,9 @@ closure_callable w (object (made_name m n)) is = is
 closure_callable w (object o) is = absurd is
 closure_callable w f is = absurd is
 
-pub tick_alike : (rules : Rules) (m : ℕ) → m < 64 → (f : Value) (e : EsValue) (d : ℕ) → d < most_deeds → (w : World) (z : List Item) (n : ℕ) (g : Tags) (s : Store) (y : Kept) (i : ℕ) → IsClosure w.objects f → Val s.heap f e → BetweenTurns d w z n g s y i
+pub tick_alike : (rules : Rules) (m : ℕ) → m < 64 → (f : Value) (e : EsValue) (d : ℕ) → d < most_deeds → (w : World) (z : List Item) (n : ℕ) (g : Tags) (s : Store) (y : Kept) (i : ℕ) → IsClosure w.objects f → Val s.heap f e → BetweenTurns rules d w z n g s y i
     → TurnsAlike rules (call_in s) (suc d) (tick_turn m f w) z n (tick_turn' m e s) y i
 tick_alike rules m below f e d small w z n g s y i closure is r =
     turns_alike rules (call_in s) (suc d) (n + suc d) (i + 64 * suc d) refl refl (omega (arith, small)) (omega (arith, r.steps)) (λ few.
     turn_simulated (sides rules (call_in s)) (n + suc d) (i + 64 * suc d) _ z _ y (λ tasks.
-    tick_matches rules (call_in s) below tasks f e (begins_here s) (closure_callable w f closure) is (one_more d w z n g s y i r)))
+    tick_matches rules (call_in s) below tasks f e (begins_here s) (closure_callable w f closure) is (one_more rules d w z n g s y i r)))

@@ -4,12 +4,14 @@ use Rattle.std.specs.Prelude.{nat_eq, drop}
 use Rattle.std.proofs.lemmas.Bool.Decides.{nat_tests}
 use Rattle.es3_heap.specs.Objects.{Objects}
 use Rattle.es3_language.specs.Store.{Store}
+use Rattle.rows.specs.Nodes.{Rules}
 use Rattle.cajita_meaning.specs.World.{Value, World}
 use Rattle.cajita_meaning.specs.Direct.{Item}
 use Rattle.page_natives.specs.Natives.{Kept, page_of, queue_of, rest_of}
 use Rattle.page_natives.proofs.Queues.{rest_own, rest_other}
 use Rattle.cajita_simulation.specs.Turns.{TickBegins}
 use Rattle.cajita_simulation.proofs.Relation.{AreClosures, EsValue, Val, Vals, Tags}
+use Rattle.cajita_simulation.proofs.Changes.{knows_still}
 use Rattle.cajita_simulation.specs.Related.{BetweenTurns}
 
 -- what waits in the interpreter, where the first has gone
@@ -21,8 +23,8 @@ first_of : (h : Objects) (f : Value) (fs : List Value) (q : List EsValue) → Va
 first_of h f fs [] is = absurd is
 first_of h f fs (e ∷ es) is = (e, es, refl, is.0, is.1)
 
-pub tick_begins : (m : ℕ) (f : Value) (fs : List Value) (d : ℕ) (w : World) (z : List Item) (n : ℕ) (g : Tags) (s : Store) (y : Kept) (i : ℕ) → w.queues m ≡ f ∷ fs → BetweenTurns d w z n g s y i → TickBegins m f fs d w z n g s y i
-tick_begins m f fs d w z n g s y i waits r =
+pub tick_begins : (rules : Rules) (m : ℕ) (f : Value) (fs : List Value) (d : ℕ) (w : World) (z : List Item) (n : ℕ) (g : Tags) (s : Store) (y : Kept) (i : ℕ) → w.queues m ≡ f ∷ fs → BetweenTurns rules d w z n g s y i → TickBegins rules m f fs d w z n g s y i
+tick_begins rules m f fs d w z n g s y i waits r =
     let first = first_of s.heap f fs (queue_of m y.waiting) (subst (λ l. Vals s.heap l (queue_of m y.waiting)) waits (r.pages.queues m)) in
     let closures : AreClosures w.objects (f ∷ fs) = subst (AreClosures w.objects) waits (r.waiters m) in
     record {
@@ -57,7 +59,7 @@ tick_begins m f fs d w z n g s y i waits r =
         ];
         scopes = r.scopes;
         globals = r.globals;
-        kept = record { runtime = r.kept.runtime; imports = r.kept.imports };
+        kept = knows_still refl refl refl refl r.kept;
       };
     }
 
@@ -65,5 +67,5 @@ none_of : (h : Objects) (q : List EsValue) → Vals h [] q → q ≡ []
 none_of h [] is = refl
 none_of h (e ∷ es) is = absurd is
 
-pub none_waits : (m d : ℕ) (w : World) (z : List Item) (n : ℕ) (g : Tags) (s : Store) (y : Kept) (i : ℕ) → w.queues m ≡ [] → BetweenTurns d w z n g s y i → (page_of y).queues m ≡ []
-none_waits m d w z n g s y i waits r = none_of s.heap (queue_of m y.waiting) (subst (λ l. Vals s.heap l (queue_of m y.waiting)) waits (r.pages.queues m))
+pub none_waits : (rules : Rules) (m d : ℕ) (w : World) (z : List Item) (n : ℕ) (g : Tags) (s : Store) (y : Kept) (i : ℕ) → w.queues m ≡ [] → BetweenTurns rules d w z n g s y i → (page_of y).queues m ≡ []
+none_waits rules m d w z n g s y i waits r = none_of s.heap (queue_of m y.waiting) (subst (λ l. Vals s.heap l (queue_of m y.waiting)) waits (r.pages.queues m))

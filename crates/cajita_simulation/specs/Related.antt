@@ -1,5 +1,5 @@
 -- When the world of the direct meaning and the store of the interpreter are related, with the steps that both took.
-use Rattle.std.specs.Prelude.{◌≡◌, ℕ, ◌+◌, ◌*◌, ◌≤◌, ◌<◌, Bool, true, false, List, [], ◌∷◌, length, Some, slice_get, is_some}
+use Rattle.std.specs.Prelude.{◌≡◌, ◌⊎◌, ℕ, ◌+◌, ◌*◌, ◌≤◌, ◌<◌, Bool, true, false, List, [], ◌∷◌, length, Some, slice_get, is_some}
 use Rattle.caja_units.specs.Units.{is_hidden}
 use Rattle.es3_objects.specs.declared.value.FuncKind.TheVariants as kind
 use Rattle.es3_heap.specs.Objects as heap
@@ -18,6 +18,10 @@ use Rattle.cajita_meaning.specs.Direct.{Item, Around}
 use Rattle.heap_rows.specs.Marks.{simple_mark}
 use Rattle.heap_rows.specs.Opening.{first, place_of, globals_id, runtime_id}
 use Rattle.page_natives.specs.Natives.{Kept, page_of}
+use Rattle.doc_nodes.specs.Rows.{Doc}
+use Rattle.doc_views.specs.Seen.{nodes_seen}
+use Rattle.doc_views.specs.Came.{IsRuled}
+use Rattle.node_rows.specs.Whole.{IsWhole}
 use Rattle.row_simulation.specs.Correspond.{Named, ObjectsAre}
 use Rattle.row_simulation.specs.RowLaw.{PagesAre}
 use Rattle.cajita_simulation.specs.Guest.{Names, Guest}
@@ -92,10 +96,17 @@ pub record CodeIs (by : ℕ) (g : Tags) (s : Store) (f : c.Tree c.func) (direct 
 abbrev pub ClosuresAre : (ℕ → List Object) → Tags → Store → Type 0
 ClosuresAre objects g s = (m n : ℕ) (f : c.Tree c.func) (chain : List ℕ) → slice_get (objects m) n ≡ Some (a_closure f chain) → (m < 64) × ((i : ℕ) → Named s.heap (made_name m n) i → CodeIs m g s f chain i)
 
--- the natives of a page know where its runtime is, and have a place for what each module may import
-pub record KnowsPage (y : Kept) : Type 0 where
+-- no root of a document has a node
+abbrev pub IsBare : Doc → Type 0
+IsBare d = (root : ℕ) → nodes_seen d root ≡ []
+
+-- the natives of a page know where its runtime is, and have a place for what each module may import; what is lent of its document is whole, and where a root has nodes, they change
+-- by the rules of the rows
+pub record KnowsPage (rules : Rules) (y : Kept) : Type 0 where
   pub runtime : y.runtime ≡ runtime_id
   pub imports : length y.imports ≡ 64
+  pub whole : IsWhole y.dom
+  pub ruled : IsBare y.dom.doc ⊎ IsRuled y.answers rules
 
 -- a closure of a module; each that waits is one
 abbrev pub IsClosure : (ℕ → List Object) → Value → Type 0
@@ -109,9 +120,9 @@ AreClosures objects (v ∷ vs) = IsClosure objects v × AreClosures objects vs
 abbrev pub WaitersAre : World → Type 0
 WaitersAre w = (m : ℕ) → AreClosures w.objects (w.queues m)
 
--- all of both sides but the place where a form stands: what is told is the same, objects, closures, scopes and what a page keeps beside them correspond; and
+-- all of both sides but the place where a form stands, under the rules of a page: what is told is the same, objects, closures, scopes and what a page keeps beside them correspond; and
 -- of 64 steps of the interpreter for each of the direct meaning, k are in hand
-pub record Related (T : Temps) (k : ℕ) (w : World) (z : List Item) (n : ℕ) (g : Tags) (s : Store) (y : Kept) (m : ℕ) : Type 0 where
+pub record Related (rules : Rules) (T : Temps) (k : ℕ) (w : World) (z : List Item) (n : ℕ) (g : Tags) (s : Store) (y : Kept) (m : ℕ) : Type 0 where
   pub steps : m + k ≤ 64 * n
   pub items : heard_by y z ≡ y.told
   pub objects : ObjectsAre first place_of w.objects s.heap m
@@ -120,15 +131,15 @@ pub record Related (T : Temps) (k : ℕ) (w : World) (z : List Item) (n : ℕ) (
   pub waiters : WaitersAre w
   pub scopes : ScopesAre T g w.scopes s
   pub globals : s.globals ≡ globals_id
-  pub kept : KnowsPage y
+  pub kept : KnowsPage rules y
 
 -- between two turns nothing is known of temporaries, and no step is in hand
-abbrev pub Between : World → List Item → ℕ → Tags → Store → Kept → ℕ → Type 0
-Between w z n g s y m = Related no_temps 0 w z n g s y m
+abbrev pub Between : Rules → World → List Item → ℕ → Tags → Store → Kept → ℕ → Type 0
+Between rules w z n g s y m = Related rules no_temps 0 w z n g s y m
 
 -- between two turns of a page, after d deeds, which took no steps of their own: each has room for names as a step of the direct meaning and 64 of the interpreter have
-abbrev pub BetweenTurns : ℕ → World → List Item → ℕ → Tags → Store → Kept → ℕ → Type 0
-BetweenTurns d w z n g s y m = Between w z (n + d) g s y (m + 64 * d)
+abbrev pub BetweenTurns : Rules → ℕ → World → List Item → ℕ → Tags → Store → Kept → ℕ → Type 0
+BetweenTurns rules d w z n g s y m = Between rules w z (n + d) g s y (m + 64 * d)
 
 -- a form stands in its scopes; what the page itself calls stands in none
 abbrev pub StandsIn : Bool → Here → Tags → Store → Type 0
@@ -137,7 +148,7 @@ StandsIn false H g s = Unit {0}
 
 -- at the place of a call, which a form makes or the page
 pub record RelAt (form : Bool) (H : Here) (T : Temps) (k : ℕ) (w : World) (z : List Item) (n : ℕ) (g : Tags) (s : Store) (y : Kept) (m : ℕ) : Type 0 where
-  pub all : Related T k w z n g s y m
+  pub all : Related H.rules T k w z n g s y m
   pub here : StandsIn form H g s
 
 -- at the place where a form stands

@@ -4,6 +4,7 @@ use Rattle.plans.specs.Plans.{Fault}
 use Rattle.es3_heap.specs.Objects.{Objects}
 use Rattle.es3_language.specs.Store.{Store}
 use Rattle.es3_language.specs.Meaning as Target
+use Rattle.rows.specs.Nodes.{Rules}
 use Rattle.cajita_meaning.specs.World.{Name, Value, World}
 use Rattle.cajita_meaning.specs.Direct as Source
 use Rattle.cajita_meaning.specs.Direct.{Item}
@@ -14,8 +15,8 @@ use Rattle.cajita_simulation.specs.Scopes.{Tags}
 use Rattle.cajita_simulation.specs.Related.{Turn, Between}
 
 -- both sides are as they are between two turns, for the tags that the scopes then have
-abbrev pub Synced : World → List Item → ℕ → Store → Kept → ℕ → Type 0
-Synced w z n s y m = (g : Tags) × Between w z n g s y m
+abbrev pub Synced : Rules → World → List Item → ℕ → Store → Kept → ℕ → Type 0
+Synced rules w z n s y m = (g : Tags) × Between rules w z n g s y m
 
 -- what has a name keeps it, so that what corresponds still does
 abbrev pub Lasts : Objects → Objects → Type 0
@@ -28,10 +29,10 @@ GivenIs false h v (Target.gave e) = Val h v e
 GivenIs load h v e = ⊥
 
 -- both gave values that correspond, or both threw such values; the next turn may begin, and what had a name when this one began still has it
-abbrev pub Ends : Turn → Source.Completion → World → List Item → ℕ → Target.Completion → Store → Kept → ℕ → Type 0
-Ends t (Source.gave v) w z n e s y m = GivenIs t.load s.heap v e × Synced w z n s y m × Lasts t.began s.heap
-Ends t (Source.threw v) w z n (Target.threw e) s y m = Val s.heap v e × Synced w z n s y m × Lasts t.began s.heap
-Ends t _ w z n _ s y m = ⊥
+abbrev pub Ends : Rules → Turn → Source.Completion → World → List Item → ℕ → Target.Completion → Store → Kept → ℕ → Type 0
+Ends rules t (Source.gave v) w z n e s y m = GivenIs t.load s.heap v e × Synced rules w z n s y m × Lasts t.began s.heap
+Ends rules t (Source.threw v) w z n (Target.threw e) s y m = Val s.heap v e × Synced rules w z n s y m × Lasts t.began s.heap
+Ends rules t _ w z n _ s y m = ⊥
 
 -- both stopped by the same fault, which is no conversion
 abbrev pub Stops : Fault → World → List Item → Fault → Store → Kept → Type 0

@@ -11,7 +11,6 @@ use Rattle.page_deeds.specs.Deeds.{Plain, Grants, to_load, to_call, to_tick, to_
 use Rattle.page_deeds.specs.Deeds as deeds
 use Rattle.page_deeds.specs.Shown.{renamed, end_renamed, by_return, by_throw, by_nothing}
 use Rattle.pages.specs.Pages.{chain, turns, turns_or_none, deed, page}
-use Rattle.rows.specs.Document.{changed, sets_attribute}
 use Rattle.rows.specs.Nodes.{Rules}
 use Rattle.cajita_tree.specs.Tree as c
 use Rattle.cajita_meaning.specs.World as W
@@ -210,8 +209,7 @@ module _ (f : Renumbering) where
 
     input_anew : (root n : ℕ) (us : List ℕ) (w : World) → P.with_input (f.roots.anew root) n us (world_anew f w) ≡ world_anew f (P.with_input root n us w)
     input_anew root n us w =
-        let change = changed (sets_attribute (codes "value") us) n in
-        ap (λ r. W.with_nodes (f.roots.anew root) (change (w.nodes r)) (world_anew f w)) (f.roots.back_anew root) ∙ with_nodes_anew f root (change (w.nodes root)) w
+        ap (λ r. W.with_nodes (f.roots.anew root) (P.put_in us n (w.nodes r)) (world_anew f w)) (f.roots.back_anew root) ∙ with_nodes_anew f root (P.put_in us n (w.nodes root)) w
 
     deed_does_anew : (d : Deed) (n : ℕ) (r : Results) (w : World) (z : List Item) → deed (evaluator rules) (deed_anew f d) n (results_anew f r) (world_anew f w) (items_anew f z) ≡ page_anew f (deed (evaluator rules) d n r w z)
     deed_does_anew (to_load m p gs) n r w z =

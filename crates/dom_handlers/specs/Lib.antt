@@ -1,3 +1,2 @@
 pub mod Handlers
-pub mod Closures
 pub mod Kept

@@ -1,12 +1,10 @@
-//! What is called when something happens to a node: functions of texts, in the order in which they were registered.
+//! What is called when something happens to a node, in the order in which it was registered.
 //!
-//! The definitions stand in specs/: handlers of nodes (specs/Handlers.antt), which functions may be handlers (specs/Closures.antt), and how they are kept (specs/Kept.antt).
+//! The definitions stand in specs/: handlers of nodes (specs/Handlers.antt), and how they are kept (specs/Kept.antt).
 #![tactic(auto)]
 
-mod closures;
 mod handlers;
 mod kinds;
 
-pub use closures::may_listen;
 pub use handlers::Handlers;
 pub use kinds::{EventKind, Handler};

@@ -32,7 +32,7 @@ use Rattle.dom_facets.specs.Facets.{node_of}
 use Rattle.dom_handlers.specs.declared.kinds.EventKind.{EventKind}
 use Rattle.dom_handlers.specs.declared.kinds.Handler.{Handler}
 use Rattle.dom_handlers.specs.Handlers.{kind_of, listening}
-use Rattle.dom_handlers.specs.Closures.{may_listen}
+use Rattle.guard_marks.specs.Closures.{is_closure}
 use Rattle.tamed_dom.specs.declared.methods.NodeMethod.{NodeMethod}
 use Rattle.tamed_dom.specs.Lent.{Lent, told, with_facets, with_deed, facet, grown}
 use Rattle.tamed_dom.specs.Methods.{told_turn, given, asked_turn, listens, on_turn, is_on, method_turn, received, node_turn}
@@ -181,7 +181,7 @@ listens_within None true x n r by h z is = thrown_within r (codes "bad argument"
 listens_within None false x n r by h z is = thrown_within r (codes "bad argument") by h z
 
 on_within : (t : Result (List ℕ) Fault) (x : Value) (n r by : ℕ) (h : Objects) (z : Lent) → root_in (owner_of z.doc n) ≡ Some r → StaysWithin r h z (on_turn t x n by h (told z))
-on_within (Ok us) x n r by h z is = listens_within (kind_of us) (may_listen h x) x n r by h z is
+on_within (Ok us) x n r by h z is = listens_within (kind_of us) (is_closure h x) x n r by h z is
 on_within (Err e) x n r by h z is = still r h h z (told z) (stop_reply e) refl refl refl (quiet r h h (stop_reply e) (keeps-same h) (λ o k. cc))
 
 at_node : (a : Answers) (method : NodeMethod) (n r : ℕ) (args : List Value) (by : ℕ) (h : Objects) (z : Lent) → Fits h z → root_in (owner_of z.doc n) ≡ Some r → StaysWithin r h z (method_turn a method n args by h (told z))

@@ -40,7 +40,7 @@ use Rattle.dom_facets.specs.Facets.{node_in_tag, node_of}
 use Rattle.dom_handlers.specs.declared.kinds.EventKind.{EventKind}
 use Rattle.dom_handlers.specs.declared.kinds.Handler.{Handler}
 use Rattle.dom_handlers.specs.Handlers.{kind_of, listening, registered}
-use Rattle.dom_handlers.specs.Closures.{is_closure, object_may_listen, may_listen}
+use Rattle.guard_marks.specs.Closures.{is_closure_if, is_closure_object, is_closure}
 use Rattle.tamed_dom.specs.declared.methods.NodeMethod.{NodeMethod}
 use Rattle.tamed_dom.specs.declared.methods.NodeMethod.TheVariants as m
 use Rattle.tamed_dom.specs.Lent.{Lent, told, with_facets, with_deed, with_handler, grown}
@@ -216,21 +216,21 @@ asked_fits a (Ok None) n r x by h z f is there = threw_fits (codes "bad argument
 asked_fits a (Err e) n r x by h z f is there = f
 
 -- a function that may listen is one of a text
-code_of : (b : Bool) (k : Option FuncKind) → is_closure b k ≡ true → is_code k ≡ true
+code_of : (b : Bool) (k : Option FuncKind) → is_closure_if b k ≡ true → is_code k ≡ true
 code_of b (Some (kind.Code n)) is = refl
 code_of b (Some (kind.Simple n)) is = cc
 code_of b (Some (kind.Constructor n)) is = cc
 code_of b (Some (kind.Exophoric n w)) is = cc
 code_of b None is = cc
 
-object_of_text : (h : Objects) (o : ℕ) (c : Class) → object_may_listen c h o ≡ true → runs_code (object_at h o) ≡ true
+object_of_text : (h : Objects) (o : ℕ) (c : Class) → is_closure_object c h o ≡ true → runs_code (object_at h o) ≡ true
 object_of_text h o class.Function is = code_of (is_some (own h o simple_mark)) (kind_in (callable_of (object_at h o))) is
 object_of_text h o class.Object is = cc
 object_of_text h o class.Array is = cc
 object_of_text h o class.Error is = cc
 object_of_text h o class.Node is = cc
 
-of_a_text : (h : Objects) (x : Value) → may_listen h x ≡ true → IsOfText h x
+of_a_text : (h : Objects) (x : Value) → is_closure h x ≡ true → IsOfText h x
 of_a_text h (v.Obj o) is = object_of_text h o (class_of (object_at h o)) is
 of_a_text h v.Undefined is = cc
 of_a_text h v.Null is = cc
@@ -264,14 +264,14 @@ handler_fits k x n h z f is = record {
   handlers = texts-append h z.handlers (record { node = n; kind = k; function = x }) f.handlers is;
 }
 
-listens_fits : (o : Option EventKind) (b : Bool) (x : Value) (n by : ℕ) (h : Objects) (z : Lent) → Fits h z → may_listen h x ≡ b → Fits (listens o b x n by h z).heap (listens o b x n by h z).state
+listens_fits : (o : Option EventKind) (b : Bool) (x : Value) (n by : ℕ) (h : Objects) (z : Lent) → Fits h z → is_closure h x ≡ b → Fits (listens o b x n by h z).heap (listens o b x n by h z).state
 listens_fits (Some k) true x n by h z f is = handler_fits k x n h z f (of_a_text h x is)
 listens_fits (Some k) false x n by h z f is = threw_fits (codes "bad argument") by h z f
 listens_fits None true x n by h z f is = threw_fits (codes "bad argument") by h z f
 listens_fits None false x n by h z f is = threw_fits (codes "bad argument") by h z f
 
 on_fits : (t : Result (List ℕ) Fault) (x : Value) (n by : ℕ) (h : Objects) (z : Lent) → Fits h z → Fits (on_turn t x n by h z).heap (on_turn t x n by h z).state
-on_fits (Ok us) x n by h z f = listens_fits (kind_of us) (may_listen h x) x n by h z f refl
+on_fits (Ok us) x n by h z f = listens_fits (kind_of us) (is_closure h x) x n by h z f refl
 on_fits (Err e) x n by h z f = f
 
 at_node : (a : Answers) (method : NodeMethod) (n r : ℕ) (args : List Value) (by : ℕ) (h : Objects) (z : Lent) → Fits h z → root_in (owner_of z.doc n) ≡ Some r

@@ -1,6 +1,6 @@
 -- Conversions of values (ES3 9) and the operator that rests on them alone, `+` (11.6.1). A conversion runs no code of a text.
 pub use Rattle.es3_heap.specs.Items.{items_from, array_items}
-use Rattle.std.specs.Prelude.{ℕ, zero, suc, ◌+◌, ℤ, pos, Bool, false, ◌&&◌, List, [], ◌∷◌, ◌++◌, Option, Some, None, option_map, nat_eq, Result, Ok, Err, codes, if◌then◌else◌}
+use Rattle.std.specs.Prelude.{ℕ, zero, suc, ℤ, pos, Bool, false, ◌&&◌, List, [], ◌∷◌, ◌++◌, Option, Some, None, option_map, nat_eq, Result, Ok, Err, codes, if◌then◌else◌}
 use Rattle.plans.specs.Plans.{Fault, number_fault, depth_fault, convert_fault}
 use Rattle.caja_num.specs.Numbers.{sum}
 use Rattle.caja_units.specs.Number.{number_text}

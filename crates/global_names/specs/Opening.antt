@@ -1,6 +1,6 @@
 -- The store in which a text begins that runs as it stands: the global names (ES3 15.1), and what the prototypes have (15.2.4 to 15.11.4). `Object`, `Function` and `Array`
 -- stand behind all that a page begins with, and the global object behind them.
-use Rattle.std.specs.Prelude.{ℕ, ◌+◌, ◌*◌, true, false, List, [], ◌∷◌, None, map, length, codes}
+use Rattle.std.specs.Prelude.{ℕ, ◌+◌, true, false, List, [], ◌∷◌, None, map, length, codes}
 use Rattle.es3_objects.specs.declared.value.Value.TheVariants.{Undefined, Obj}
 use Rattle.es3_objects.specs.declared.value.Class.TheVariants as class
 use Rattle.es3_objects.specs.declared.value.Attrs.{Attrs}
@@ -13,7 +13,7 @@ use Rattle.es3_heap.specs.Making.{made, made_function, proto_id}
 use Rattle.rows.specs.Rows as r
 use Rattle.rows.specs.Names.{of_math, function_methods, text_methods, array_methods}
 use Rattle.heap_rows.specs.Marks.{call_mark, marked}
-use Rattle.heap_rows.specs.Opening.{runtime_id, place_of, place_of_tools, first_say, begun}
+use Rattle.heap_rows.specs.Opening.{runtime_id, place_of, place_of_tools}
 
 -- the numbers of `Object`, `Function` and `Array`
 abbrev pub object_number : ℕ
@@ -103,10 +103,6 @@ named_from n h = with_marks (with_prototypes (with_globals_named (n + 3) n (with
 unfoldable pub with_global_names : Objects → Objects
 with_global_names h = named_from (length h.list) h
 
--- a page of texts, with so many modules and so many cells
-unfoldable pub text_objects : ℕ → ℕ → Objects
-text_objects modules cells = with_global_names (begun modules cells)
-
--- two functions of each module and three objects of each cell stand in front
-abbrev pub text_globals : ℕ → ℕ → ℕ
-text_globals modules cells = first_say + 2 * modules + 3 * cells + 3
+-- where the global object stands, by the objects that were there before
+abbrev pub text_globals : Objects → ℕ
+text_globals h = length h.list + 3

@@ -8,7 +8,10 @@ ghost use Rattle.std.specs.Prelude.{◌≡◌, ◌++◌, IfOk, OnOk, OnErr, leng
 ghost use Rattle.heap_rows.specs.Marks.{can_read, can_set, can_call, marked, grant_read, grant_set, drop_marks};
 ghost use Rattle.guard_marks.specs.Functions.{is_for_modules};
 
+mod closures;
+
 use caja_units::{Memory, Units};
+pub use closures::is_closure;
 use es3_heap::{Attrs, FuncKind, Heap, ObjId, Value};
 use std::alloc::Global;
 

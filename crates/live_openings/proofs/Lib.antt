@@ -1,3 +1,4 @@
+pub mod Nodes
 pub mod Page
-pub mod Text
 pub mod Runs
+pub mod Text

@@ -9,15 +9,16 @@ use Rattle.es3_objects.specs.declared.value.Proto.{Proto}
 use Rattle.es3_objects.specs.declared.value.Proto.TheVariants as proto
 use Rattle.es3_heap.specs.Objects.{Object, Objects, with_object, hidden_attrs, fixed_attrs}
 use Rattle.es3_heap.specs.Making.{made, proto_id}
-use Rattle.es3_live.specs.Live.{AreClosed}
+use Rattle.es3_live.specs.Live.{AreClosed, Later}
 use Rattle.es3_live.proofs.Writing.{Grown, same_objects, grown_trans, define_grown}
 use Rattle.es3_live.proofs.Making.{new_within, made_grown, made_function_grown, proto_there}
 use Rattle.rows.specs.Names.{function_methods, text_methods, array_methods}
 use Rattle.heap_rows.specs.Marks.{call_mark}
-use Rattle.heap_rows.specs.Opening.{runtime_id, built_ins_there, begun}
-use Rattle.module_loader.proofs.Long.{begun_long}
-use Rattle.global_names.specs.Opening.{object_number, function_number, array_number, math_place, constructors, with_hidden, with_constructor, with_constructors, with_names, placed, with_methods, with_call_marks, array_calls, text_calls, with_marks, global_attrs, with_functions, with_globals, with_prototypes, with_global_names, text_objects, text_globals}
-use Rattle.live_openings.proofs.Page.{begun_there, begun_closed}
+use Rattle.heap_rows.specs.Opening.{runtime_id, built_ins_there}
+use Rattle.doc_nodes.specs.Rows.{Doc}
+use Rattle.module_loader.specs.Turns.{page_objects}
+use Rattle.global_names.specs.Opening.{object_number, function_number, array_number, math_place, constructors, with_hidden, with_constructor, with_constructors, with_names, placed, with_methods, with_call_marks, array_calls, text_calls, with_marks, global_attrs, with_functions, with_globals, with_prototypes, with_global_names, text_globals}
+use Rattle.live_openings.proofs.Nodes.{page_there, page_closed}
 
 -- a property that holds an object which is there
 
@@ -134,15 +135,17 @@ global_names_kept h there closed =
     let last = grown_trans fifth (marks_grown _ fifth.closed) in
     record { grown = grown_trans four last; globals = lt_of_lt_of_le first.globals (le_trans second.later.more (le_trans third.later.more (le_trans fourth.later.more last.later.more))) }
 
-text_kept : (modules cells : ℕ) → WithNames (begun modules cells) (text_objects modules cells)
-unfolding text_objects
-text_kept modules cells = global_names_kept (begun modules cells) (begun_there modules cells) (begun_closed modules cells)
+text_kept : (modules cells : ℕ) (d : Doc) → WithNames (page_objects modules cells d) (with_global_names (page_objects modules cells d))
+text_kept modules cells d = global_names_kept (page_objects modules cells d) (page_there modules cells d) (page_closed modules cells d)
 
-pub text_there : (modules cells : ℕ) → built_ins_there (text_objects modules cells)
-text_there modules cells = let there = begun_there modules cells in let more = (text_kept modules cells).grown.later.more in omega (arith, there, more)
+pub text_later : (modules cells : ℕ) (d : Doc) → Later (page_objects modules cells d) (with_global_names (page_objects modules cells d))
+text_later modules cells d = (text_kept modules cells d).grown.later
 
-pub text_globals_there : (modules cells : ℕ) → text_globals modules cells < length (text_objects modules cells).list
-text_globals_there modules cells = let long = begun_long modules cells in let more = (text_kept modules cells).globals in omega (arith, long, more)
+pub text_there : (modules cells : ℕ) (d : Doc) → built_ins_there (with_global_names (page_objects modules cells d))
+text_there modules cells d = le_trans (page_there modules cells d) (text_later modules cells d).more
 
-pub text_closed : (modules cells : ℕ) → AreClosed (text_objects modules cells)
-text_closed modules cells = (text_kept modules cells).grown.closed
+pub text_globals_there : (modules cells : ℕ) (d : Doc) → text_globals (page_objects modules cells d) < length (with_global_names (page_objects modules cells d)).list
+text_globals_there modules cells d = (text_kept modules cells d).globals
+
+pub text_closed : (modules cells : ℕ) (d : Doc) → AreClosed (with_global_names (page_objects modules cells d))
+text_closed modules cells d = (text_kept modules cells d).grown.closed

@@ -2,13 +2,13 @@
 //! `none`, the run stops for want of a number. `it` is an object.
 
 use crate::answers::told;
+use crate::documents::opened;
 use crate::samples::made;
 use es3_convert::{
     add, less, loose_equal, number_text, out_of_memory, strict_equal, to_bool, to_number,
     to_primitive, to_text,
 };
 use es3_heap::{Heap, Proto, Stop, Value};
-use module_loader::open_page;
 use row_outcomes::Outcome;
 use std::alloc::Global;
 use std::test::Fail;
@@ -282,7 +282,7 @@ fn answer(
 
 #[test]
 fn values_are_converted_and_compared(rt: HostRuntime) -> Result<(), Fail> {
-    let mut heap = open_page(rt.alloc(), 1, 0)?.heap;
+    let mut heap = opened(rt.alloc())?.heap;
     for (asked, sign, table) in TABLES.iter() {
         for row in table.lines() {
             let (question, wanted) = row.split_once(" ⇒ ").unwrap_or((row, ""));

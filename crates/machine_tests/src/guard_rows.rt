@@ -2,11 +2,11 @@
 //! of a record.
 
 use crate::answers::{told, write_keys};
+use crate::documents::opened;
 use crate::samples::made;
 use es3_heap::{Class, Heap, Stop, Value};
 use freeze_marks::tools;
 use guard_runtime::{Guard, call_guard};
-use module_loader::open_page;
 use row_outcomes::Outcome;
 use std::alloc::Global;
 use std::test::Fail;
@@ -376,7 +376,7 @@ fn answer(alloc: Global, heap: &mut Heap, it: &Value, row: &Row) -> Result<Strin
 
 /// Calls all of the rows in order in a new store, where `it` is the value of the sample. The first row that comes to something else is the failure.
 fn check(alloc: Global, sample: &str, rows: &[Row]) -> Result<(), Fail> {
-    let mut heap = open_page(alloc, 1, 0)?.heap;
+    let mut heap = opened(alloc)?.heap;
     let it = made(alloc, &mut heap, &Value::Undefined, sample)?;
     for row in rows {
         let found = answer(alloc, &mut heap, &it, row)?;

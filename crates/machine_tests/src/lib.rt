@@ -9,6 +9,8 @@ mod control_rows;
 #[cfg(test)]
 mod convert_rows;
 #[cfg(test)]
+mod documents;
+#[cfg(test)]
 mod guard_rows;
 #[cfg(test)]
 mod loader_rows;

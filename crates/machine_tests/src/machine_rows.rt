@@ -1,11 +1,11 @@
 //! Programs that are run in a new store, with no native that they could call.
 
 use crate::answers::told;
+use crate::documents::natives;
 use crate::sources::program;
-use es3_heap::{Class, Heap, ObjId, Proto, Value};
+use es3_heap::{Class, Heap, Proto, Value};
 use es3_machine::Machine;
 use es3_moves::natives::Completion;
-use page_natives::PageNatives;
 use row_outcomes::Outcome;
 use std::alloc::Global;
 use std::test::Fail;
@@ -40,7 +40,7 @@ fn started(alloc: Global, heap: &mut Heap, source: &str) -> Result<Machine, Fail
 
 /// Runs what was started.
 fn run(alloc: Global, heap: &mut Heap, machine: &mut Machine, steps: u64) -> Result<String, Fail> {
-    let mut natives = PageNatives::new(alloc, ObjId::new(0), false)?;
+    let mut natives = natives(alloc, heap)?;
     match machine.run(heap, &mut natives, steps) {
         Ok((completion, taken)) => {
             let outcome = match completion {
@@ -61,7 +61,7 @@ fn answer(alloc: Global, row: &Row, is_called: bool) -> Result<String, Fail> {
     let mut heap = Heap::new(alloc)?;
     let mut machine = started(alloc, &mut heap, source)?;
     if is_called {
-        let mut natives = PageNatives::new(alloc, ObjId::new(0), false)?;
+        let mut natives = natives(alloc, &mut heap)?;
         let (completion, _taken) = machine.run(&mut heap, &mut natives, 100)?;
         if let Completion::Normal(function) = completion {
             let args = Vec::from_array(alloc, [Value::Bool(true)])?;

@@ -1,10 +1,10 @@
 //! Stores and what their objects have. Objects are named by their numbers: those that are made in a new store begin at 10.
 
 use crate::answers::write_keys;
+use crate::documents::opened;
 use caja_num::Whole;
 use caja_units::{Memory, Units};
 use es3_heap::{Attrs, Class, FuncKind, Heap, ObjId, Proto, Tag, Value};
-use module_loader::open_page;
 use std::alloc::Global;
 use std::test::Fail;
 
@@ -295,7 +295,7 @@ fn objects_have_what_was_put_there(rt: HostRuntime) -> Result<(), Fail> {
             assert!(rt; holds(rt.alloc(), &mut heap, row)?, "{table} {place}");
         }
     }
-    let mut heap = open_page(rt.alloc(), 1, 0)?.heap;
+    let mut heap = opened(rt.alloc())?.heap;
     for row in OPENED.iter() {
         assert!(rt; holds(rt.alloc(), &mut heap, row)?, "{} {}", row.0, row.1);
     }

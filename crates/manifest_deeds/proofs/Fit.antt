@@ -10,17 +10,17 @@ use Rattle.es3_tree.specs.Tree as t
 use Rattle.es3_tokens.specs.Tokens.{is_one_of}
 use Rattle.cajita_names.specs.Rules as rules
 use Rattle.page_deeds.specs.Deeds.{Grant, a_cell, a_result, a_plain, a_root, Grants, Deed, to_load, to_call, to_tick, to_click, to_input}
-use Rattle.event_script.specs.Events.{Asked, a_call, a_tick, deed_of as deed_asked}
-use Rattle.page_manifest.specs.Names.{is_grant_name, taken_names}
-use Rattle.page_manifest.specs.Page.{Module, Page}
+use Rattle.event_script.specs.Events.{Asked, a_call, a_click, an_input, a_tick, deed_of as deed_asked}
+use Rattle.manifest_names.specs.Names.{is_grant_name, taken_names}
+use Rattle.page_manifest.specs.Page.{Granted, the_cell, the_result, the_plain, the_root, Grants as Manifested, Module, Page}
 use Rattle.page_manifest.specs.Bound.{repeated}
 use Rattle.page_manifest.specs.Valid.{IsGranted, AreOnce, IsModule, IsAsked, IsValid}
-use Rattle.page_manifest.specs.Deeds.{deeds, loads, events}
+use Rattle.page_manifest.specs.Deeds.{given, all_given, deeds, loads, events}
 use Rattle.page_runner.specs.Deeds.{grant_of, grants_of, deed_of, deeds_of, fixed_names, AreApart, GrantFits, GrantsFit, DeedFits}
 use Rattle.page_runner.specs.declared.deeds.Grant.{Grant as Given}
-use Rattle.page_runner.specs.declared.deeds.Grant.TheVariants.{Cell, Module as Result, Value}
+use Rattle.page_runner.specs.declared.deeds.Grant.TheVariants.{Cell, Module as Result, Value, Root}
 use Rattle.page_runner.specs.declared.deeds.Deed.{Deed as Done}
-use Rattle.page_runner.specs.declared.deeds.Deed.TheVariants.{Load, Call, Tick}
+use Rattle.page_runner.specs.declared.deeds.Deed.TheVariants.{Load, Call, Tick, Click, Input}
 
 -- ---- names that stand once, and are none of the fixed ones
 
@@ -59,7 +59,7 @@ abbrev GrantIsFit : Grant → Type 0
 GrantIsFit (a_cell c) = c < 64
 GrantIsFit (a_result m) = Unit {0}
 GrantIsFit (a_plain v) = Unit {0}
-GrantIsFit (a_root root) = ⊥
+GrantIsFit (a_root r) = Unit {0}
 
 abbrev AreFit : Grants → Type 0
 AreFit gs = All (λ g. GrantIsFit g.1) gs × AreApart fixed_names (map (λ g. g.0) gs)
@@ -69,41 +69,52 @@ abbrev IsFit : {P : Type 0} → ℕ → Deed P → Type 0
 IsFit modules (to_load m p gs) = (m < modules) × AreFit gs
 IsFit modules (to_call k m key args) = m < modules
 IsFit modules (to_tick k m) = m < modules
-IsFit modules (to_click k id root n) = ⊥
-IsFit modules (to_input k id root n us) = ⊥
+IsFit modules (to_click k id r n) = Unit {0}
+IsFit modules (to_input k id r n us) = Unit {0}
 
-granted_is_fit : (cells i : ℕ) → cells ≤ 64 → (g : Grant) → IsGranted cells i g → GrantIsFit g
-granted_is_fit cells i few (a_cell c) h = omega arith
-granted_is_fit cells i few (a_result m) h = tt
-granted_is_fit cells i few (a_plain v) h = tt
-granted_is_fit cells i few (a_root root) h = h
+granted_is_fit : (root_of : List ℕ → ℕ) (cells i : ℕ) → cells ≤ 64 → (g : Granted) → IsGranted cells i g → GrantIsFit (given root_of g)
+granted_is_fit root_of cells i few (the_cell c) h = omega arith
+granted_is_fit root_of cells i few (the_result m) h = tt
+granted_is_fit root_of cells i few (the_plain v) h = tt
+granted_is_fit root_of cells i few (the_root id) h = tt
 
-grants_are_fit : (cells i : ℕ) → cells ≤ 64 → (m : Module) → IsModule cells i m → AreFit m.grants
-grants_are_fit cells i few m h =
-    (All-weaker (λ g. IsGranted cells i g.1) (λ g. GrantIsFit g.1) (λ g. granted_is_fit cells i few g.1) m.grants h.granted, names_apart (map (λ g. g.0) m.grants) h.once h.spelled)
+given_names : (root_of : List ℕ → ℕ) (gs : Manifested) → map (λ g. g.0) (all_given root_of gs) ≡ map (λ g. g.0) gs
+given_names root_of [] = refl
+given_names root_of (g ∷ gs) = ap (λ l. g.0 ∷ l) (given_names root_of gs)
 
-loads_are_fit : {P : Type 0} (cells modules i : ℕ) → cells ≤ 64 → (ms : List Module) (ps : List P) → i + length ms ≤ modules → ((k : ℕ) (m : Module) → slice_get ms k ≡ Some m → IsModule cells (i + k) m) → All (IsFit modules) (loads i ms ps)
-loads_are_fit cells modules i few [] ps fit each = All-nil (IsFit modules)
-loads_are_fit cells modules i few (m ∷ ms) [] fit each = All-nil (IsFit modules)
-loads_are_fit cells modules i few (m ∷ ms) (p ∷ ps) fit each =
+all_granted : (root_of : List ℕ → ℕ) (cells i : ℕ) → cells ≤ 64 → (gs : Manifested) → All (λ g. IsGranted cells i g.1) gs → All (λ g. GrantIsFit g.1) (all_given root_of gs)
+all_granted root_of cells i few [] h = All-nil (λ g. GrantIsFit g.1)
+all_granted root_of cells i few (g ∷ gs) h =
+    All-cons (λ g. GrantIsFit g.1) (g.0, given root_of g.1) (all_given root_of gs) (granted_is_fit root_of cells i few g.1 (All-head (λ g. IsGranted cells i g.1) g gs h)) (all_granted root_of cells i few gs (All-tail (λ g. IsGranted cells i g.1) g gs h))
+
+grants_are_fit : (root_of : List ℕ → ℕ) (cells i : ℕ) → cells ≤ 64 → (m : Module) → IsModule cells i m → AreFit (all_given root_of m.grants)
+grants_are_fit root_of cells i few m h =
+    (all_granted root_of cells i few m.grants h.granted, subst (AreApart fixed_names) (sym (given_names root_of m.grants)) (names_apart (map (λ g. g.0) m.grants) h.once h.spelled))
+
+loads_are_fit : {P : Type 0} (root_of : List ℕ → ℕ) (cells modules i : ℕ) → cells ≤ 64 → (ms : List Module) (ps : List P) → i + length ms ≤ modules → ((k : ℕ) (m : Module) → slice_get ms k ≡ Some m → IsModule cells (i + k) m) → All (IsFit modules) (loads root_of i ms ps)
+loads_are_fit root_of cells modules i few [] ps fit each = All-nil (IsFit modules)
+loads_are_fit root_of cells modules i few (m ∷ ms) [] fit each = All-nil (IsFit modules)
+loads_are_fit root_of cells modules i few (m ∷ ms) (p ∷ ps) fit each =
     let here : i + 0 ≡ i = omega arith in
     let first : IsModule cells i m = subst (λ n. IsModule cells n m) here (each 0 m refl) in
-    let rest = loads_are_fit cells modules (i + 1) few ms ps (omega arith) (λ k q there. let same : i + suc k ≡ i + 1 + k = omega arith in subst (λ n. IsModule cells n q) same (each (suc k) q there)) in
-    All-cons (IsFit modules) (to_load i p m.grants) (loads (i + 1) ms ps) (omega arith, grants_are_fit cells i few m first) rest
+    let rest = loads_are_fit root_of cells modules (i + 1) few ms ps (omega arith) (λ k q there. let same : i + suc k ≡ i + 1 + k = omega arith in subst (λ n. IsModule cells n q) same (each (suc k) q there)) in
+    All-cons (IsFit modules) (to_load i p (all_given root_of m.grants)) (loads root_of (i + 1) ms ps) (omega arith, grants_are_fit root_of cells i few m first) rest
 
-asked_is_fit : (P : Type 0) (modules k : ℕ) (e : Asked) → IsAsked modules e → IsFit {P = P} modules (deed_asked k e)
-asked_is_fit P modules k (a_call m key args) h = h
-asked_is_fit P modules k (a_tick m) h = h
+asked_is_fit : (P : Type 0) (node_of : List ℕ → ℕ × ℕ) (modules k : ℕ) (e : Asked) → IsAsked modules e → IsFit {P = P} modules (deed_asked node_of k e)
+asked_is_fit P node_of modules k (a_call m key args) h = h
+asked_is_fit P node_of modules k (a_click id) h = tt
+asked_is_fit P node_of modules k (an_input id us) h = tt
+asked_is_fit P node_of modules k (a_tick m) h = h
 
-events_are_fit : {P : Type 0} (modules k : ℕ) (es : List Asked) → All (IsAsked modules) es → All (IsFit {P = P} modules) (events k es)
-events_are_fit modules k [] h = All-nil (IsFit modules)
-events_are_fit {P} modules k (e ∷ es) h =
-    All-cons (IsFit modules) (deed_asked k e) (events (k + 1) es) (asked_is_fit P modules k e (All-head (IsAsked modules) e es h)) (events_are_fit modules (k + 1) es (All-tail (IsAsked modules) e es h))
+events_are_fit : {P : Type 0} (node_of : List ℕ → ℕ × ℕ) (modules k : ℕ) (es : List Asked) → All (IsAsked modules) es → All (IsFit {P = P} modules) (events node_of k es)
+events_are_fit node_of modules k [] h = All-nil (IsFit modules)
+events_are_fit {P} node_of modules k (e ∷ es) h =
+    All-cons (IsFit modules) (deed_asked node_of k e) (events node_of (k + 1) es) (asked_is_fit P node_of modules k e (All-head (IsAsked modules) e es h)) (events_are_fit node_of modules (k + 1) es (All-tail (IsAsked modules) e es h))
 
-deeds_are_fit : {P : Type 0} (p : Page) (ps : List P) → IsValid p → All (IsFit (length p.modules)) (deeds p ps)
-deeds_are_fit p ps v =
+deeds_are_fit : {P : Type 0} (root_of : List ℕ → ℕ) (node_of : List ℕ → ℕ × ℕ) (p : Page) (ps : List P) → IsValid p → All (IsFit (length p.modules)) (deeds root_of node_of p ps)
+deeds_are_fit root_of node_of p ps v =
     let each : (k : ℕ) (m : Module) → slice_get p.modules k ≡ Some m → IsModule (length p.cells) (0 + k) m = λ k m there. let same : k ≡ 0 + k = omega arith in subst (λ n. IsModule (length p.cells) n m) same (v.modules k m there) in
-    All-append (IsFit (length p.modules)) (loads 0 p.modules ps) (events 0 p.events) (loads_are_fit (length p.cells) (length p.modules) 0 v.few_cells p.modules ps (omega arith) each) (events_are_fit (length p.modules) 0 p.events v.events)
+    All-append (IsFit (length p.modules)) (loads root_of 0 p.modules ps) (events node_of 0 p.events) (loads_are_fit root_of (length p.cells) (length p.modules) 0 v.few_cells p.modules ps (omega arith) each) (events_are_fit node_of (length p.modules) 0 p.events v.events)
 
 -- ---- and so the deeds that these are
 
@@ -115,6 +126,7 @@ given_fits : (g : Given) → GrantIsFit (grant_of g) → GrantFits g
 given_fits (Cell c) h = h
 given_fits (Result m) h = tt
 given_fits (Value v) h = tt
+given_fits (Root r) h = tt
 
 same_names : (gs : List (List ℕ × Given)) → map (λ g. g.0) (grants_of gs) ≡ map (λ g. g.0) gs
 same_names [] = refl
@@ -128,8 +140,10 @@ deed_fits : (modules : ℕ) (d : Done) → IsFit modules (deed_of d) → DeedFit
 deed_fits modules (Load m p gs) h = (h.0, grants_fit gs.items h.1)
 deed_fits modules (Call k m key args) h = h
 deed_fits modules (Tick k m) h = h
+deed_fits modules (Click k id r n) h = tt
+deed_fits modules (Input k id r n us) h = tt
 
-pub all_fit : (p : Page) (ps : List (t.Tree t.program)) (ds : List Done) → IsValid p → deeds_of ds ≡ deeds p ps → All (DeedFits (length p.modules)) ds
-all_fit p ps ds v e =
-    let plain : All (IsFit (length p.modules)) (deeds_of ds) = subst (All (IsFit (length p.modules))) (sym e) (deeds_are_fit p ps v) in
+pub all_fit : (root_of : List ℕ → ℕ) (node_of : List ℕ → ℕ × ℕ) (p : Page) (ps : List (t.Tree t.program)) (ds : List Done) → IsValid p → deeds_of ds ≡ deeds root_of node_of p ps → All (DeedFits (length p.modules)) ds
+all_fit root_of node_of p ps ds v e =
+    let plain : All (IsFit (length p.modules)) (deeds_of ds) = subst (All (IsFit (length p.modules))) (sym e) (deeds_are_fit root_of node_of p ps v) in
     All-weaker (λ d. IsFit (length p.modules) (deed_of d)) (DeedFits (length p.modules)) (deed_fits (length p.modules)) ds (unmapped (IsFit (length p.modules)) deed_of ds plain)

@@ -89,13 +89,13 @@ pub static EVENTS: [(&str, &str, u8, u32); 41] = [
     (
         "a click",
         r#"{"version":1,"modules":[{"name":"a","language":"cajita","source":""}],"events":[{"tick":"a"},{"click":"r"}]}"#,
-        4,
-        1,
+        0,
+        0,
     ),
     (
         "an input",
         r#"{"version":1,"modules":[{"name":"a","language":"cajita","source":""}],"events":[{"input":"r","text":"t"}]}"#,
-        4,
+        0,
         0,
     ),
     (

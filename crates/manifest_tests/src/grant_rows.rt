@@ -167,8 +167,8 @@ pub static GRANTS: [(&str, &str, u8, u32); 34] = [
     (
         "a document root",
         r#"{"version":1,"cells":["k"],"modules":[{"name":"a","language":"cajita","source":""},{"name":"b","language":"cajita","source":"","grants":[{"name":"g","root":"r"}]}]}"#,
-        4,
-        1,
+        0,
+        0,
     ),
     (
         "a cell and a module",

@@ -176,7 +176,7 @@ pub static PAGES: [(&str, &str, u8, u32); 46] = [
     (
         "a document",
         r#"{"version":1,"html":"","modules":[]}"#,
-        4,
+        0,
         0,
     ),
     ("styles", r#"{"version":1,"styles":[],"modules":[]}"#, 4, 0),

@@ -1,11 +1,13 @@
 //! Each manifest of the tables is read to its first fault.
 
+use crate::document_rows::{CLICKS, DAMAGED, DOCUMENTS, ROOTS};
 use crate::event_rows::EVENTS;
 use crate::grant_rows::{GRANTED, GRANTS, OPEN_NAMES, TAKEN_NAMES};
 use crate::long_rows::{LIMITS, Long};
 use crate::mixed_rows::{KEYS_TWICE, NUMBERS, TWO_FAULTS};
 use crate::module_rows::MODULES;
 use crate::page_rows::{CELLS, NO_JSON, PAGES};
+use event_script::Event;
 use page_manifest::{Grant, Lang, PageError, read_page};
 use std::alloc::Global;
 use std::test::Fail;
@@ -78,6 +80,22 @@ fn events_are_refused_where_they_are_wrong(rt: HostRuntime) -> Result<(), Fail> 
 }
 
 #[test]
+fn documents_are_refused_where_they_are_wrong(rt: HostRuntime) -> Result<(), Fail> {
+    check_rows(rt.alloc(), &DOCUMENTS)?;
+    check_rows(rt.alloc(), &DAMAGED)
+}
+
+#[test]
+fn roots_are_refused_where_they_are_wrong(rt: HostRuntime) -> Result<(), Fail> {
+    check_rows(rt.alloc(), &ROOTS)
+}
+
+#[test]
+fn clicks_and_inputs_are_refused_where_they_are_wrong(rt: HostRuntime) -> Result<(), Fail> {
+    check_rows(rt.alloc(), &CLICKS)
+}
+
+#[test]
 fn of_two_faults_the_first_is_told(rt: HostRuntime) -> Result<(), Fail> {
     check_rows(rt.alloc(), &TWO_FAULTS)
 }
@@ -123,15 +141,27 @@ fn texts_that_run_are_of_their_own_language(rt: HostRuntime) -> Result<(), Fail>
 
 /// A page with one of each.
 static WHOLE: &str =
-    r#"{"version":1,"cells":["j","k"],"modules":[{"name":"a","language":"cajita","source":"1;"},{"name":"b","language":"cajita","source":"","grants":[{"name":"x","cell":"k"},{"name":"y","module":"a"},{"name":"z","value":-7}]}],"events":[{"call":"b","key":"f","args":["t"]},{"tick":"a"}]}"#;
+    r#"{"version":1,"html":"<p></p>","cells":["j","k"],"modules":[{"name":"a","language":"cajita","source":"1;"},{"name":"b","language":"cajita","source":"","grants":[{"name":"x","cell":"k"},{"name":"y","module":"a"},{"name":"z","value":-7},{"name":"w","root":"r"}]}],"events":[{"call":"b","key":"f","args":["t"]},{"tick":"a"},{"click":"c"},{"input":"i","text":"t"}]}"#;
 
 #[test]
 fn a_page_is_what_its_manifest_says(rt: HostRuntime) -> Result<(), Fail> {
     let Ok(page) = read_page(rt.alloc(), WHOLE.as_bytes(), false) else {
         return Err("refused".into());
     };
-    if page.cells.len() != 2 || page.modules.len() != 2 || page.events.len() != 2 {
+    if page.cells.len() != 2 || page.modules.len() != 2 {
         return Err("other numbers".into());
+    }
+    if page.html.as_slice() != b"<p></p>".as_slice() {
+        return Err("another document".into());
+    }
+    match page.events.as_slice() {
+        [
+            Event::Call(1, _, _),
+            Event::Tick(0),
+            Event::Click(_),
+            Event::Input(_, _),
+        ] => {}
+        _ => return Err("other events".into()),
     }
     if page.modules[0].lang != Lang::Cajita
         || page.modules[0].source.as_slice() != b"1;".as_slice()
@@ -143,6 +173,7 @@ fn a_page_is_what_its_manifest_says(rt: HostRuntime) -> Result<(), Fail> {
             (_, Grant::Cell(1)),
             (_, Grant::Module(0)),
             (_, Grant::Value(_)),
+            (_, Grant::Root(_)),
         ] => Ok(()),
         _ => Err("other grants".into()),
     }

@@ -1,5 +1,5 @@
--- How the turns of a page begin in the interpreter: what a module may import, the call of a key, the call of a function that waited.
-use Rattle.std.specs.Prelude.{ℕ, ◌+◌, ◌*◌, List, [], ◌∷◌, ◌++◌, length}
+-- How a page and its turns begin in the interpreter: its store, what a module may import, the call of a key, the call of a function that waited or that is told what happens to a node.
+use Rattle.std.specs.Prelude.{ℕ, ◌+◌, ◌*◌, List, [], ◌∷◌, ◌++◌, length, if◌then◌else◌}
 use Rattle.plans.specs.Plans.{ends, stops}
 use Rattle.page_deeds.specs.Deeds as deed
 use Rattle.page_deeds.specs.Deeds.{Plain, Grant, a_cell, a_result, a_plain, a_root, Grants}
@@ -12,11 +12,25 @@ use Rattle.es3_language.specs.Meaning.{gave, threw, Plan, call_plan}
 use Rattle.rows.specs.Events.{call_key}
 use Rattle.heap_rows.specs.Doing.{Done, record_object, copied, does}
 use Rattle.heap_rows.specs.Opening.{place_of, first_say, fixed_values, begun, globals_id}
+use Rattle.doc_nodes.specs.Rows.{Doc}
+use Rattle.guard_marks.specs.Closures.{is_closure}
+use Rattle.tamed_dom.specs.Lent as lent
+use Rattle.tamed_dom.specs.Lent.{Lent, Held, object_of}
 use Rattle.page_natives.specs.Natives.{Kept, page_of}
 
--- the store where a page begins with so many modules and so many cells
-abbrev pub page_store : ℕ → ℕ → Store
-page_store modules cells = record { heap = begun modules cells; scopes = []; codes = []; globals = globals_id; shared = [] }
+-- where a page begins with so many modules, so many cells and a document: the objects of the nodes of its roots stand behind those of modules and cells
+abbrev pub page_begun : ℕ → ℕ → Doc → Held
+page_begun modules cells d = lent.begun (length d.roots) d (begun modules cells)
+
+abbrev pub page_objects : ℕ → ℕ → Doc → Objects
+page_objects modules cells d = (page_begun modules cells d).heap
+
+-- what is lent of the document then
+abbrev pub page_lent : ℕ → ℕ → Doc → Lent
+page_lent modules cells d = (page_begun modules cells d).lent
+
+abbrev pub page_store : ℕ → ℕ → Doc → Store
+page_store modules cells d = record { heap = page_objects modules cells d; scopes = []; codes = []; globals = globals_id; shared = [] }
 
 -- where a module's `say` stands, and among so many modules the record of a cell
 abbrev pub say_place : ℕ → ℕ
@@ -35,17 +49,17 @@ plain_value (deed.truth b) = v.Bool b
 plain_value (deed.number n) = v.Num n
 plain_value (deed.text us) = v.Text us
 
--- the page keeps no nodes, so no root is there
-abbrev pub granted_value : ℕ → Results → Grant → Value
-granted_value modules r (a_cell c) = v.Obj (cell_place modules c)
-granted_value modules r (a_result m) = r m
-granted_value modules r (a_plain p) = plain_value p
-granted_value modules r (a_root root) = v.Undefined
+-- a root is the object of its first node
+abbrev pub granted_value : ℕ → Results → Lent → Grant → Value
+granted_value modules r z (a_cell c) = v.Obj (cell_place modules c)
+granted_value modules r z (a_result m) = r m
+granted_value modules r z (a_plain p) = plain_value p
+granted_value modules r z (a_root root) = object_of root 0 z
 
 -- what a module is granted, under its names
-abbrev pub granted_pairs : ℕ → Results → Grants → List (List ℕ × Value)
-granted_pairs modules r [] = []
-granted_pairs modules r ((x, g) ∷ gs) = (x, granted_value modules r g) ∷ granted_pairs modules r gs
+abbrev pub granted_pairs : ℕ → Results → Lent → Grants → List (List ℕ × Value)
+granted_pairs modules r z [] = []
+granted_pairs modules r z ((x, g) ∷ gs) = (x, granted_value modules r z g) ∷ granted_pairs modules r z gs
 
 -- a new object without a name, of what a module may import: the fixed names, and what it is granted
 abbrev pub with_imports_of : ℕ → List (List ℕ × Value) → Objects → Objects
@@ -68,3 +82,7 @@ key_plan m key vs s z = let d = key_done m key vs s.heap z in reply_plan d.reply
 -- a function that waited is called for a module
 abbrev pub tick_plan : ℕ → Value → Store → Plan
 tick_plan m f s = call_plan f v.Undefined [] m s
+
+-- a function is told what happens to a node, of which it is passed the object; it runs as its maker. What is no function of a text that modules may use isn't called
+abbrev pub node_plan : Value → Value → Store → Plan
+node_plan node f s = if is_closure s.heap f then call_plan f v.Undefined (node ∷ []) 0 s else ends (gave v.Undefined) s

@@ -2,15 +2,18 @@
 
 ghost use Rattle.std.specs.Prelude.{◌≡◌, ◌≤◌, ◌+◌, IfOk, OnOk, length, map};
 ghost use Rattle.es3_heap.specs.Properties.{define};
+ghost use Rattle.module_loader.specs.Turns.{page_objects, page_lent};
 ghost use Rattle.heap_rows.specs.Opening.{first, opened, begun, with_hidden_function, with_hidden_functions, with_guards, with_conversions, runtime_id, globals_id};
 
 use crate::built_ins::add_built_ins;
 use crate::imports::{add_cells, add_modules};
 use caja_units::{Memory, Units};
+use doc_tree::Document;
 use es3_convert::TO_STRING;
 use es3_heap::{Attrs, Class, FuncKind, Heap, ObjId, Proto, Value};
 use page_natives::LOAD_MODULE;
 use std::alloc::Global;
+use tamed_dom::Dom;
 
 /// `loadModule` and the guards, in the order of their numbers.
 const GUARD_NAMES: [&[u8]; 16] = [
@@ -35,7 +38,7 @@ const GUARD_NAMES: [&[u8]; 16] = [
 /// The conversions of objects, in the order of their numbers.
 const CONVERSION_NAMES: [&[u8]; 2] = [b"toString", b"valueOf"];
 
-/// A store that was opened, and the objects in it that a page goes on from.
+/// A store that was opened, with the objects in it that a page goes on from, and what is lent of the page's document.
 #[derive(Drop)]
 pub struct Opened {
     pub heap: Heap,
@@ -43,6 +46,15 @@ pub struct Opened {
     pub runtime: ObjId,
     /// The global object.
     pub globals: ObjId,
+    pub dom: Dom,
+}
+
+/// The same before anything is lent.
+#[derive(Drop)]
+struct Begun {
+    heap: Heap,
+    runtime: ObjId,
+    globals: ObjId,
 }
 
 /// Gives an object a hidden property.
@@ -109,7 +121,7 @@ fn add_conversions(alloc: Global, heap: &mut Heap) -> Result<(), Memory>
 
 /// A store with the prototypes, the object of the runtime, the global object, whose only name is `___`, and the conversions.
 #[tactic(auto, unfolding(heap_rows::specs::Opening::first))]
-fn open_first(alloc: Global) -> Result<Opened, Memory>
+fn open_first(alloc: Global) -> Result<Begun, Memory>
     ensures heap { IfOk result (λ o. o.heap ≡ first) }
     ensures runtime { IfOk result (λ o. o.runtime ≡ runtime_id) }
     ensures globals { IfOk result (λ o. o.globals ≡ globals_id) }
@@ -121,7 +133,7 @@ fn open_first(alloc: Global) -> Result<Opened, Memory>
     add_guards(alloc, &mut heap, runtime)?;
     hide(alloc, &mut heap, globals, b"___", Value::Obj(runtime))?;
     add_conversions(alloc, &mut heap)?;
-    Ok(Opened {
+    Ok(Begun {
         heap,
         runtime,
         globals,
@@ -130,7 +142,7 @@ fn open_first(alloc: Global) -> Result<Opened, Memory>
 
 /// A store with the built-in functions, before any module is there.
 #[tactic(auto, using(crate::proofs::BuiltIns::opened_is))]
-fn open_built_ins(alloc: Global) -> Result<Opened, Memory>
+fn open_built_ins(alloc: Global) -> Result<Begun, Memory>
     ensures heap { IfOk result (λ o. o.heap ≡ opened) }
     ensures runtime { IfOk result (λ o. o.runtime ≡ runtime_id) }
     ensures globals { IfOk result (λ o. o.globals ≡ globals_id) }
@@ -140,13 +152,8 @@ fn open_built_ins(alloc: Global) -> Result<Opened, Memory>
     Ok(page)
 }
 
-/// The store that a page begins in, with so many modules and so many cells: the functions of each module, and of each cell its
-/// functions and its record. No module has yet what it may import.
-///
-/// # Errors
-///
-/// `Memory` where memory is wanting.
-pub fn open_page(alloc: Global, modules: u32, cells: u32) -> Result<Opened, Memory>
+/// A store with so many modules and so many cells: the functions of each module, and of each cell its functions and its record.
+fn open_modules(alloc: Global, modules: u32, cells: u32) -> Result<Begun, Memory>
     requires few_modules { modules ≤ 64 }
     requires few_cells { cells ≤ 64 }
     ensures heap { IfOk result (λ o. o.heap ≡ begun modules cells) }
@@ -157,4 +164,40 @@ pub fn open_page(alloc: Global, modules: u32, cells: u32) -> Result<Opened, Memo
     add_modules(&mut page.heap, modules)?;
     add_cells(alloc, &mut page.heap, cells)?;
     Ok(page)
+}
+
+/// The store that a page begins in, with so many modules, so many cells and a document of so many roots: the functions of each
+/// module, of each cell its functions and its record, and behind them the objects of the nodes of each root. No module has yet what
+/// it may import.
+///
+/// # Errors
+///
+/// `Memory` where memory is wanting.
+pub fn open_page(
+    alloc: Global,
+    modules: u32,
+    cells: u32,
+    document: Document,
+    roots: u32,
+) -> Result<Opened, Memory>
+    requires few_modules { modules ≤ 64 }
+    requires few_cells { cells ≤ 64 }
+    requires all_roots { roots ≡ length document.roots }
+    ensures heap { IfOk result (λ o. o.heap ≡ page_objects modules cells document) }
+    ensures dom { IfOk result (λ o. o.dom ≡ page_lent modules cells document) }
+    ensures runtime { IfOk result (λ o. o.runtime ≡ runtime_id) }
+    ensures globals { IfOk result (λ o. o.globals ≡ globals_id) }
+{
+    let Begun {
+        mut heap,
+        runtime,
+        globals,
+    } = open_modules(alloc, modules, cells)?;
+    let dom = Dom::begin(alloc, &mut heap, document, roots)?;
+    Ok(Opened {
+        heap,
+        runtime,
+        globals,
+        dom,
+    })
 }

@@ -34,7 +34,7 @@ use Rattle.dom_handlers.specs.declared.kinds.EventKind.{EventKind}
 use Rattle.dom_handlers.specs.declared.kinds.EventKind.TheVariants.{Click, Input}
 use Rattle.dom_handlers.specs.declared.kinds.Handler.{Handler}
 use Rattle.dom_handlers.specs.Handlers.{kind_of, registered}
-use Rattle.dom_handlers.specs.Closures.{is_closure, object_may_listen, may_listen}
+use Rattle.guard_marks.specs.Closures.{is_closure_if, is_closure_object, is_closure}
 use Rattle.tamed_dom.specs.Lent.{Lent, told, with_handler}
 use Rattle.tamed_dom.specs.Ends.{gives}
 use Rattle.tamed_dom.specs.Methods.{listens, on_turn}
@@ -60,12 +60,12 @@ refuses s is false us f = refl
 Listens : Bool → Sight → Type 0
 Listens may s = ((may ≡ true) × (s ≡ r.a_function r.closure)) ⊎ ((may ≡ false) × IsOther s)
 
-function_listens : (marked : Bool) (c : Option Callable) → Listens (is_closure marked (kind_in c)) (sort_seen marked c)
+function_listens : (marked : Bool) (c : Option Callable) → Listens (is_closure_if marked (kind_in c)) (sort_seen marked c)
 unfolding Listens
 function_listens marked None = inr (refl, tt)
 function_listens marked (Some c) =
-    elim c.kind as (λ q. let d : Callable = record { kind = q; maker = c.maker } in ((is_closure marked (kind_in (Some d)) ≡ true) × (sort_seen marked (Some d) ≡ r.a_function r.closure)) ⊎ ((is_closure marked (kind_in (Some d)) ≡ false) × IsOther (sort_seen marked (Some d)))) [
-      | kind.Code n ↦ elim marked as (λ b. let d : Callable = record { kind = kind.Code n; maker = c.maker } in ((is_closure b (kind_in (Some d)) ≡ true) × (sort_seen b (Some d) ≡ r.a_function r.closure)) ⊎ ((is_closure b (kind_in (Some d)) ≡ false) × IsOther (sort_seen b (Some d)))) [
+    elim c.kind as (λ q. let d : Callable = record { kind = q; maker = c.maker } in ((is_closure_if marked (kind_in (Some d)) ≡ true) × (sort_seen marked (Some d) ≡ r.a_function r.closure)) ⊎ ((is_closure_if marked (kind_in (Some d)) ≡ false) × IsOther (sort_seen marked (Some d)))) [
+      | kind.Code n ↦ elim marked as (λ b. let d : Callable = record { kind = kind.Code n; maker = c.maker } in ((is_closure_if b (kind_in (Some d)) ≡ true) × (sort_seen b (Some d) ≡ r.a_function r.closure)) ⊎ ((is_closure_if b (kind_in (Some d)) ≡ false) × IsOther (sort_seen b (Some d)))) [
         | true ↦ inl (refl, refl)
         | false ↦ inr (refl, tt)
       ]
@@ -74,7 +74,7 @@ function_listens marked (Some c) =
       | kind.Exophoric n w ↦ inr (refl, tt)
     ]
 
-object_listens : (h : Objects) (i o : ℕ) (c : Class) → Listens (object_may_listen c h o) (see_object i h o c).sight
+object_listens : (h : Objects) (i o : ℕ) (c : Class) → Listens (is_closure_object c h o) (see_object i h o c).sight
 unfolding Listens
 object_listens h i o class.Function = function_listens (is_some (own h o simple_mark)) (callable_of (object_at h o))
 object_listens h i o class.Object = inr (refl, tt)
@@ -82,7 +82,7 @@ object_listens h i o class.Array = inr (refl, tt)
 object_listens h i o class.Error = inr (refl, tt)
 object_listens h i o class.Node = inr (refl, tt)
 
-value_listens : (h : Objects) (i : ℕ) (x : Value) → Listens (may_listen h x) (see h i x).sight
+value_listens : (h : Objects) (i : ℕ) (x : Value) → Listens (is_closure h x) (see h i x).sight
 unfolding Listens
 value_listens h i (v.Obj o) = object_listens h i o (class_of (object_at h o))
 value_listens h i v.Undefined = inr (refl, tt)
@@ -135,11 +135,11 @@ module _ (cells : ℕ → Value) (queues : ℕ → List Value) (by : ℕ) (this 
       })))
 
   -- by what is seen of the function, and what it listens to
-  heard : (us : List ℕ) (f : Value) (x : Handle) (more : List Value) (s : Sight) → value_in place_of (this ∷ more) x ≡ f → Listens (may_listen h f) s
-      → DoesItsRow cells queues (listens (kind_of us) (may_listen h f) f n by h (told z)) (does place_of by (listen_row (is_event us) us x s) (this ∷ more) h (page_seen cells queues z) [])
+  heard : (us : List ℕ) (f : Value) (x : Handle) (more : List Value) (s : Sight) → value_in place_of (this ∷ more) x ≡ f → Listens (is_closure h f) s
+      → DoesItsRow cells queues (listens (kind_of us) (is_closure h f) f n by h (told z)) (does place_of by (listen_row (is_event us) us x s) (this ∷ more) h (page_seen cells queues z) [])
   unfolding Listens
   heard us f x more s value (inr other) =
-      subst (λ row. DoesItsRow cells queues (listens (kind_of us) (may_listen h f) f n by h (told z)) (does place_of by row (this ∷ more) h (page_seen cells queues z) [])) (sym (refuses s other.1 (is_event us) us x))
+      subst (λ row. DoesItsRow cells queues (listens (kind_of us) (is_closure h f) f n by h (told z)) (does place_of by row (this ∷ more) h (page_seen cells queues z) [])) (sym (refuses s other.1 (is_event us) us x))
       (subst (λ b. DoesItsRow cells queues (listens (kind_of us) b f n by h (told z)) (does place_of by (refused (codes "bad argument")) (this ∷ more) h (page_seen cells queues z) [])) (sym other.0)
       (any_kind (kind_of us)))
     where
@@ -147,7 +147,7 @@ module _ (cells : ℕ → Value) (queues : ℕ → List Value) (by : ℕ) (this 
       any_kind None = throws_too cells queues root k f by h z w (codes "bad argument")
       any_kind (Some what) = throws_too cells queues root k f by h z w (codes "bad argument")
   heard us f x more s value (inl closure) =
-      subst (λ t. DoesItsRow cells queues (listens (kind_of us) (may_listen h f) f n by h (told z)) (does place_of by (listen_row (is_event us) us x t) (this ∷ more) h (page_seen cells queues z) [])) (sym closure.1)
+      subst (λ t. DoesItsRow cells queues (listens (kind_of us) (is_closure h f) f n by h (told z)) (does place_of by (listen_row (is_event us) us x t) (this ∷ more) h (page_seen cells queues z) [])) (sym closure.1)
       (subst (λ b. DoesItsRow cells queues (listens (kind_of us) b f n by h (told z)) (does place_of by (listen_row (is_event us) us x (r.a_function r.closure)) (this ∷ more) h (page_seen cells queues z) [])) (sym closure.0)
       (of_kind (same_units us (codes "click")) (same_units us (codes "input")) refl refl))
     where

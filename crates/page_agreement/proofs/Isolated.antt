@@ -1,27 +1,31 @@
 -- Accepted pages that agree on a group give it the same lines and texts.
-use Rattle.std.proofs.Common.{◌≡◌, ℕ, zero, suc, Bool, List, [], ◌∷◌, Option, Some, None, Ok, Result, Contains, refl, sym, ap, ap₂, ◌∙◌, subst}
+use Rattle.std.proofs.Common.{◌≡◌, ◌≤◌, ℕ, zero, suc, Bool, List, [], ◌∷◌, Option, Some, None, Ok, Result, Contains, refl, sym, ap, ap₂, ◌∙◌, subst}
 use Rattle.std.specs.Prelude.{map, option_map, slice_get}
 use Rattle.std.proofs.lemmas.Option.{slice_get-map}
-use Rattle.rows.specs.Nodes.{no_rules}
+use Rattle.html_grammar.specs.Trees.{many, Tree}
+use Rattle.doc_laws.specs.Reached.{Reached}
+use Rattle.doc_views.specs.Clear.{IsClear}
+use Rattle.root_texts.specs.Texts.{text_at}
+use Rattle.root_texts.proofs.Printed.{roots_are_printed}
 use Rattle.scope_rules.specs.Resolve.{module_of}
-use Rattle.page_deeds.specs.Deeds.{Grants}
-use Rattle.cell_numbers.specs.Names.{Listed, SameGrants}
-use Rattle.page_manifest.specs.Page.{Module, Page}
-use Rattle.manifest_deeds.specs.Names.{page_names}
+use Rattle.cajita_simulation.specs.Alike.{most_page_steps}
+use Rattle.page_manifest.specs.Page.{Grants, Module, Page}
+use Rattle.page_roots.specs.Roots.{roots_of, number_in}
+use Rattle.page_documents.specs.Documents.{IsDocument}
 use Rattle.page_cajole.specs.Cajoled.{statements}
 use Rattle.page_cajole.specs.Pages.{Runnable, Refusal, granted_names, module_outcome, page_outcome}
 use Rattle.page_cajole.proofs.Outcomes as pages
-use Rattle.page_meaning.specs.PageRuns.{sources_run}
+use Rattle.page_meaning.specs.PageRuns.{page_rules, programs_doc, sources_run}
 use Rattle.page_meaning.specs.Sources.{SpellsModule}
 use Rattle.page_meaning.specs.Meant.{SpellModules, IsPage}
 use Rattle.page_meaning.proofs.Sources.{is_source}
-use Rattle.page_agreement.specs.Agree.{IsAt, listed, AgreeOn}
+use Rattle.page_meaning.proofs.Meant.{is_meant}
+use Rattle.page_agreement.specs.Agree.{IsAt, IsRootOf, AllSameGranted, AgreeOn}
 use Rattle.page_agreement.specs.Lines.{group_log}
-use Rattle.page_agreement.specs.Isolated.{direct_lines, SameFor, IsIsolated}
+use Rattle.page_agreement.specs.Isolated.{programs_in, written_nodes, direct_nodes, written_text, TextsDone, SourcesDone, SameByMeaning, SameWritten, SameMeant, SameFor, IsIsolated}
 use Rattle.page_agreement.proofs.Groups.{member_below}
 use Rattle.page_agreement.proofs.Agrees.{Program, InStep, there_is}
-use Rattle.page_agreement.proofs.Own.{IsOver}
-use Rattle.page_agreement.proofs.Direct.{same_lines}
+use Rattle.page_agreement.proofs.Direct.{IsOpen, same_lines, same_nodes}
 use Rattle.page_agreement.proofs.Told.{sources_over, tells_the_same}
 
 -- a source spells one module at most
@@ -54,10 +58,11 @@ in_step (m ∷ ms) (n ∷ ns) (s ∷ ss) [] names h k = absurd k
 in_step (m ∷ ms) (n ∷ ns) (s ∷ ss) (r ∷ rs) names h k = let rest : map (λ (m : Module). m.name) ms ≡ map (λ (m : Module). m.name) ns = cc in in_step ms ns ss rs rest h.1 k.1
 
 -- the same grants have the same names
-names_same : (a b : Listed) (gs hs : Grants) → SameGrants a b gs hs → map (λ g. g.0) gs ≡ map (λ g. g.0) hs
-names_same a b [] [] s = refl
-names_same a b ((x, g) ∷ gs) ((y, h) ∷ hs) s = ap₂ (λ (k : List ℕ) (l : List (List ℕ)). k ∷ l) s.0 (names_same a b gs hs s.2)
-names_same a b gs hs s = absurd s
+names_same : (p q : Page) (gs hs : Grants) → AllSameGranted p q gs hs → map (λ g. g.0) gs ≡ map (λ g. g.0) hs
+names_same p q [] [] s = refl
+names_same p q ((x, g) ∷ gs) ((y, h) ∷ hs) s = ap₂ (λ (k : List ℕ) (l : List (List ℕ)). k ∷ l) s.0 (names_same p q gs hs s.2)
+names_same p q [] (h ∷ hs) s = absurd s
+names_same p q (g ∷ gs) [] s = absurd s
 
 -- what runs for a module, by what becomes of it
 the_same_runs : (o o' : Option Runnable) (a b : Result Runnable Refusal) → Some a ≡ option_map Ok o → Some b ≡ option_map Ok o' → a ≡ b → o ≡ o'
@@ -69,7 +74,16 @@ runs_at : (p : Page) (rs : List Runnable) → page_outcome p ≡ Ok rs → (i : 
 runs_at p rs e i m at =
     ap (option_map module_outcome) (sym at) ∙ sym (slice_get-map module_outcome p.modules i) ∙ ap (λ l. slice_get l i) (((pages.is_cajoled_page p).where_accepted rs).0 e) ∙ slice_get-map Ok rs i
 
-module _ (p q : Page) (g : List ℕ) (agree : AgreeOn p q g) (is : IsPage p) (is' : IsPage q) where
+-- what is known of a page over its document
+is_open : (p : Page) (ts : Tree many) → IsPage p → IsDocument p ts → IsOpen p ts
+is_open p ts is doc = record { valid = is.valid; events = ((is_meant p is).named ts doc).events }
+
+-- what is written of a root hangs on its nodes
+its_text : (p : Page) (ts : Tree many) (rs : List Runnable) (touching : Bool) (s : ℕ) (id : List ℕ) → Reached (programs_doc p ts (programs_in rs) touching s) × IsClear (programs_doc p ts (programs_in rs) touching s)
+    → written_text p ts rs touching s id ≡ text_at (written_nodes p ts rs touching s id) 0
+its_text p ts rs touching s id whole = roots_are_printed (programs_doc p ts (programs_in rs) touching s) (number_in (roots_of p) id) whole.0 whole.1
+
+module _ (p : Page) (ts : Tree many) (q : Page) (us : Tree many) (g : List ℕ) (agree : AgreeOn p ts q us g) (is : IsPage p) (is' : IsPage q) (doc : IsDocument p ts) (doc' : IsDocument q us) where
   -- a module of the group, in both pages
   record InBoth (i : ℕ) : Type 0 where
     left : Module
@@ -79,12 +93,12 @@ module _ (p q : Page) (g : List ℕ) (agree : AgreeOn p q g) (is : IsPage p) (is
 
   in_both : (i : ℕ) → Contains g i → InBoth i
   in_both i member =
-      let m = there_is p.modules i (member_below p is.valid g agree.here i member) in
-      let n = there_is q.modules i (member_below q is'.valid g agree.there i member) in
+      let m = there_is p.modules i (member_below p g agree.here i member) in
+      let n = there_is q.modules i (member_below q g agree.there i member) in
       record { left = m.0; right = n.0; here = m.1; there = n.1 }
 
   granted_same : (i : ℕ) → Contains g i → (b : InBoth i) → granted_names b.left ≡ granted_names b.right
-  granted_same i member b = names_same (listed p) (listed q) b.left.grants b.right.grants (agree.modules i b.left b.right member b.here b.there).grants
+  granted_same i member b = names_same p q b.left.grants b.right.grants (agree.modules i b.left b.right member b.here b.there).grants
 
   same_sources : (ls ms : List Program) → SpellModules p.modules ls → SpellModules q.modules ms → (i : ℕ) (s r : Program) → Contains g i → slice_get ls i ≡ Some s → slice_get ms i ≡ Some r → s ≡ r
   same_sources ls ms h k i s r member at at' =
@@ -94,9 +108,16 @@ module _ (p q : Page) (g : List ℕ) (agree : AgreeOn p q g) (is : IsPage p) (is
       (subst (λ x. SpellsModule x b.right.source s) (granted_same i member b) (subst (λ x. SpellsModule (granted_names b.left) x s) a.source (spelled_at p.modules ls h i b.left s b.here at)))
       (spelled_at q.modules ms k i b.right r b.there at')
 
-  direct_same : (ls ms : List Program) → SpellModules p.modules ls → SpellModules q.modules ms → (touching : Bool) (n k : ℕ) → IsOver (sources_run p ls n) → IsOver (sources_run q ms k) → direct_lines p ls touching n g ≡ direct_lines q ms touching k g
-  direct_same ls ms h h' touching n k o o' =
-      same_lines p q is.valid is'.valid g agree no_rules ls ms (same_sources ls ms h h') (in_step p.modules p.modules ls ls refl h h) (in_step p.modules q.modules ls ms agree.names h h') touching n k o o'
+  direct_same : (ls ms : List Program) → SpellModules p.modules ls → SpellModules q.modules ms → (touching : Bool) (n k : ℕ) → SourcesDone p ts ls n → SourcesDone q us ms k → SameMeant g p ts q us ls ms touching n k
+  direct_same ls ms h h' touching n k done done' =
+      let left = in_step p.modules p.modules ls ls refl h h in
+      let both = in_step p.modules q.modules ls ms agree.names h h' in
+      let o = sources_over (sources_run p ts ls n) done in
+      let o' = sources_over (sources_run q us ms k) done' in
+      record {
+        lines = same_lines p ts q us (is_open p ts is doc) (is_open q us is' doc') g agree (page_rules p) ls ms (same_sources ls ms h h') left both n k o o' touching;
+        nodes = same_nodes p ts q us (is_open p ts is doc) (is_open q us is' doc') g agree (page_rules p) ls ms (same_sources ls ms h h') left both n k o o';
+      }
 
   module _ (rs ss : List Runnable) (e : page_outcome p ≡ Ok rs) (e' : page_outcome q ≡ Ok ss) where
     same_texts : (i : ℕ) → Contains g i → slice_get rs i ≡ slice_get ss i
@@ -106,18 +127,25 @@ module _ (p q : Page) (g : List ℕ) (agree : AgreeOn p q g) (is : IsPage p) (is
         the_same_runs (slice_get rs i) (slice_get ss i) (module_outcome b.left) (module_outcome b.right) (runs_at p rs e i b.left b.here) (runs_at q ss e' i b.right b.there)
         ((pages.is_cajoled_page p).alone b.left b.right a.language a.source (granted_same i member b))
 
-    same_for : SameFor g p q rs ss
-    same_for = record {
-      lines = λ ms h touching s n le done done'.
-          let a = tells_the_same p is rs e touching s le done in
-          ap (group_log (page_names p) g) a.told ∙ direct_same a.sources ms a.spelled h touching a.steps n a.done (sources_over (sources_run q ms n) done');
-      written = λ touching s k le le' done done'.
-          let a = tells_the_same p is rs e touching s le done in
-          let b = tells_the_same q is' ss e' touching k le' done' in
-          ap (group_log (page_names p) g) a.told ∙ direct_same a.sources b.sources a.spelled b.spelled touching a.steps b.steps a.done b.done ∙ sym (ap (group_log (page_names q) g) b.told);
-      direct = λ ls ms h h' touching n k done done'. direct_same ls ms h h' touching n k (sources_over (sources_run p ls n) done) (sources_over (sources_run q ms k) done');
-      texts = same_texts;
-    }
+    same_by_meaning : (ms : List Program) → SpellModules q.modules ms → (touching : Bool) (s n : ℕ) → s ≤ most_page_steps → TextsDone p ts rs touching s → SourcesDone q us ms n → SameByMeaning g p ts q us rs ms touching s n
+    same_by_meaning ms h touching s n le done done' =
+        let a = tells_the_same p is ts doc rs e touching s le done in
+        let d = direct_same a.sources ms a.spelled h touching a.steps n a.done done' in
+        let nodes : (id : List ℕ) → IsRootOf p g id → written_nodes p ts rs touching s id ≡ direct_nodes q us ms n id = λ id root. a.nodes (number_in (roots_of p) id) ∙ d.nodes id root in
+        record { lines = ap (group_log p g) a.told ∙ d.lines; nodes = nodes; printed = λ id root. its_text p ts rs touching s id a.whole ∙ ap (λ l. text_at l 0) (nodes id root) }
+
+    same_written : (touching : Bool) (s k : ℕ) → s ≤ most_page_steps → k ≤ most_page_steps → TextsDone p ts rs touching s → TextsDone q us ss touching k → SameWritten g p ts q us rs ss touching s k
+    same_written touching s k le le' done done' =
+        let b = tells_the_same q is' us doc' ss e' touching k le' done' in
+        let m = same_by_meaning b.sources b.spelled touching s b.steps le done b.done in
+        record {
+          lines = m.lines ∙ sym (ap (group_log q g) b.told);
+          nodes = λ id root. m.nodes id root ∙ sym (b.nodes (number_in (roots_of q) id));
+          printed = λ id root. m.printed id root ∙ sym (its_text q us ss touching k id b.whole ∙ ap (λ l. text_at l 0) (b.nodes (number_in (roots_of q) id)));
+        }
+
+    same_for : SameFor g p ts q us rs ss
+    same_for = record { meant = same_by_meaning; written = same_written; direct = direct_same; texts = same_texts }
 
 pub isolated : (p : Page) → IsPage p → IsIsolated p
-isolated p is q g agree is' rs ss e e' = same_for p q g agree is is' rs ss e e'
+isolated p is ts doc q us doc' g agree is' rs ss e e' = same_for p ts q us g agree is is' doc doc' rs ss e e'

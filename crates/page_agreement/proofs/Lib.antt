@@ -1,6 +1,9 @@
+pub mod Roots
 pub mod Groups
 pub mod Once
 pub mod Agrees
+pub mod Targets
+pub mod Begins
 pub mod Own
 pub mod Shown
 pub mod Direct

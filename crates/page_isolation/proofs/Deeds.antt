@@ -15,7 +15,6 @@ use Rattle.page_deeds.specs.Deeds.{Plain, a_cell, a_result, a_plain, a_root, Gra
 use Rattle.page_deeds.specs.Shown.{by_nothing}
 use Rattle.rows.specs.Nodes.{Rules}
 use Rattle.cajita_tree.specs.Tree as c
-use Rattle.rows.specs.Document.{changed, sets_attribute}
 use Rattle.cajita_meaning.specs.World.{Name, facet_name, Value, object, Pairs, Handler, World, value_at, with_queue}
 use Rattle.cajita_meaning.specs.Doing.{or_nothing}
 use Rattle.cajita_meaning.specs.Imports.{fixed_imports, imports_among}
@@ -27,7 +26,7 @@ use Rattle.cajita_laws.specs.Turns.{ended_so, reply_run, SameTurns, IsPlain}
 use Rattle.cajita_laws.proofs.Scopes.{value_at_has}
 use Rattle.cajita_laws.proofs.Alike.{others_one, told, told_all, Mine, with_queue_alike, with_nodes_alike}
 use Rattle.cajita_laws.proofs.Turns.{load_isolates, key_isolates, tick_isolates, node_isolates}
-use Rattle.cajita_page.specs.DirectPage.{Deed, Results, plain_value, granted_value, granted_pairs, import_values, imports_of, Plan, granting, load_turn, ends_so, answers, tick_begun, listeners, node_turns, with_input, passed_out, loaded_out, value_given, result, evaluator}
+use Rattle.cajita_page.specs.DirectPage.{Deed, Results, plain_value, granted_value, granted_pairs, import_values, imports_of, Plan, granting, load_turn, ends_so, answers, tick_begun, listeners, node_turns, put_in, with_input, passed_out, loaded_out, value_given, result, evaluator}
 use Rattle.cajita_page.specs.Shown.{end_in}
 use Rattle.page_isolation.specs.Agree.{IsGrantOf, IsDeedOf}
 use Rattle.page_isolation.proofs.Both.{BothOver, both_chain}
@@ -251,4 +250,4 @@ module _ (rules : Rules) (g : Group) (u : World) (x : List Item) where
       let v1 = with_input root j us v in
       subst (λ hs. BothOver (After r) (turns_or_none (evaluator rules) (to_input i id root j us) (node_turns (facet_name root j) fs) n r w1 z) (turns_or_none (evaluator rules) (to_input i id root j us) (node_turns (facet_name root j) (listeners j (codes "input") hs)) k r' v1 y))
       (a.same.handlers root is.by) (node_after (to_input i id root j us) (facet_name root j) is.by is.by fs (listeners_own j (codes "input") (w.handlers root) (a.closed.handlers root is.by)) r r' n k w1 z v1 y own
-      (with_nodes_alike g u x (changed (sets_attribute (codes "value") us) j) root is.by a))
+      (with_nodes_alike g u x (put_in us j) root is.by a))

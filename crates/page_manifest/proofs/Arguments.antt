@@ -12,7 +12,7 @@ use Rattle.es3_tokens.specs.Tokens.{place_in}
 use Rattle.page_manifest.specs.Faults.{not_json}
 use Rattle.page_manifest.specs.Walk.{traverse, need, may, object, entries, items_or, at_most, each, any_number, list_of}
 use Rattle.page_manifest.specs.Page.{Page}
-use Rattle.page_manifest.specs.Named.{Plan, for_call, for_tick, Manifest}
+use Rattle.page_manifest.specs.Named.{Plan, for_call, for_click, for_input, for_tick, Manifest}
 use Rattle.page_manifest.specs.Manifest as read
 use Rattle.page_manifest.specs.Bound as spec
 use Rattle.page_manifest.specs.Read.{json, read_or_fault, page_of}
@@ -58,6 +58,8 @@ size-found o n d h e = subst (AtMost size n) e h
 module _ (n : ℕ) where
   abbrev Few : Plan → Type 0
   Few (for_call m key vs) = length vs < n
+  Few (for_click id) = Unit {0}
+  Few (for_input id us) = Unit {0}
   Few (for_tick m) = Unit {0}
 
   arguments_are : (i : ℕ) (d : Data) (vs : List Plain) → size d ≤ n → any_number read.plain i d ≡ Ok vs → length vs < n
@@ -77,14 +79,25 @@ module _ (n : ℕ) where
   tick_is : (i : ℕ) (d : Data) (w : Plan) → read.tick i d ≡ Ok w → Few w
   tick_is i d w e = let m = steps (need read.name (codes "tick") i d) _ w e in subst Few (ok_is _ w m.after) tt
 
-  either_is : (t : Bool) (i : ℕ) (d : Data) (w : Plan) → size d ≤ n → (if t then read.tick i d else read.call i d) ≡ Ok w → Few w
-  either_is true i d w h e = tick_is i d w e
-  either_is false i d w h e = call_is i d w h e
+  click_is : (i : ℕ) (d : Data) (w : Plan) → read.click i d ≡ Ok w → Few w
+  click_is i d w e = let id = steps (need read.units (codes "click") i d) _ w e in subst Few (ok_is _ w id.after) tt
+
+  input_is : (i : ℕ) (d : Data) (w : Plan) → read.input i d ≡ Ok w → Few w
+  input_is i d w e =
+      let id = steps (need read.units (codes "input") i d) _ w e in
+      let us = steps (need read.units (codes "text") i d) _ w id.after in
+      subst Few (ok_is _ w us.after) tt
+
+  asked_is : (click input tick : Bool) (i : ℕ) (d : Data) (w : Plan) → size d ≤ n → (if click then read.click i d else if input then read.input i d else if tick then read.tick i d else read.call i d) ≡ Ok w → Few w
+  asked_is true input tick i d w h e = click_is i d w e
+  asked_is false true tick i d w h e = input_is i d w e
+  asked_is false false true i d w h e = tick_is i d w e
+  asked_is false false false i d w h e = call_is i d w h e
 
   event_is : (i : ℕ) (d : Data) (w : Plan) → size d ≤ n → read.event i d ≡ Ok w → Few w
   event_is i d w h e =
       let s = steps (object read.event_forms i d) _ w e in
-      either_is (is_some (get (codes "tick") d)) i d w h s.after
+      asked_is (is_some (get (codes "click") d)) (is_some (get (codes "input") d)) (is_some (get (codes "tick") d)) i d w h s.after
 
   events_are : (d : Data) (ws : List Plan) → size d ≤ n → each 10000 read.event 0 d ≡ Ok ws → All Few ws
   events_are d ws h e =
@@ -95,7 +108,8 @@ module _ (n : ℕ) where
   manifest_is runs d m h e =
       let s = steps (object read.page_forms 0 d) _ m e in
       let v = steps (need read.version (codes "version") 0 d) _ m s.after in
-      let c = steps (may [] (each 64 read.name) (codes "cells") 0 d) _ m v.after in
+      let w = steps (may [] read.text (codes "html") 0 d) _ m v.after in
+      let c = steps (may [] (each 64 read.name) (codes "cells") 0 d) _ m w.after in
       let t = steps (need (each 64 (read.told runs)) (codes "modules") 0 d) _ m c.after in
       let a = steps (may [] (each 10000 read.event) (codes "events") 0 d) _ m t.after in
       subst (λ m. All Few m.events) (ok_is _ m a.after) (may_is (All Few) [] (each 10000 read.event 0) (get (codes "events") d) a.first (All-nil Few)
@@ -107,6 +121,8 @@ few_more : (n : ℕ) → n ≤ 4294967295 → (modules : List (List ℕ)) (k : �
 few_more n le modules k (for_call m key vs) a es few e more =
     let s = steps (spec.number_of _ k (place_in modules m)) _ a e in
     subst (λ a. FewArguments (a ∷ es)) (ok_is _ a s.after) (omega arith, more)
+few_more n le modules k (for_click id) a es few e more = subst (λ a. FewArguments (a ∷ es)) (ok_is _ a e) more
+few_more n le modules k (for_input id us) a es few e more = subst (λ a. FewArguments (a ∷ es)) (ok_is _ a e) more
 few_more n le modules k (for_tick m) a es few e more =
     let s = steps (spec.number_of _ k (place_in modules m)) _ a e in
     subst (λ a. FewArguments (a ∷ es)) (ok_is _ a s.after) more

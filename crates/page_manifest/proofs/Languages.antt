@@ -35,7 +35,8 @@ module _ (runs : Bool) where
   manifest_is d m e =
       let s = steps (object read.page_forms 0 d) _ m e in
       let v = steps (need read.version (codes "version") 0 d) _ m s.after in
-      let c = steps (may [] (each 64 read.name) (codes "cells") 0 d) _ m v.after in
+      let h = steps (may [] read.text (codes "html") 0 d) _ m v.after in
+      let c = steps (may [] (each 64 read.name) (codes "cells") 0 d) _ m h.after in
       let t = steps (need (each 64 (read.told runs)) (codes "modules") 0 d) _ m c.after in
       let a = steps (may [] (each 10000 read.event) (codes "events") 0 d) _ m t.after in
       let f = need_is (each 64 (read.told runs)) (codes "modules") 0 d t.first t.found in

@@ -11,13 +11,12 @@ use Rattle.serde_json.specs.Data.{Data}
 use Rattle.serde_json.specs.Find.{get}
 use Rattle.caja_units.specs.Units.{same_units}
 use Rattle.es3_tokens.specs.Tokens.{place_in}
-use Rattle.page_deeds.specs.Deeds.{Grant, a_result, a_plain}
 use Rattle.event_script.specs.Events.{Asked}
 use Rattle.page_manifest.specs.Faults.{Found, Fault, chain}
 use Rattle.page_manifest.specs.Walk.{traverse, need, there, may, read_or, object, entries, at_most, each, all}
-use Rattle.page_manifest.specs.Names.{is_name, is_grant_name}
-use Rattle.page_manifest.specs.Page.{Module, Page}
-use Rattle.page_manifest.specs.Named.{Wish, for_cell, for_module, for_plain, Told, Plan, for_call, for_tick, Manifest}
+use Rattle.manifest_names.specs.Names.{is_name, is_grant_name}
+use Rattle.page_manifest.specs.Page.{Granted, the_result, the_plain, the_root, Module, Page}
+use Rattle.page_manifest.specs.Named.{Wish, for_root, for_cell, for_module, for_plain, Told, Plan, for_call, for_click, for_input, for_tick, Manifest}
 use Rattle.page_manifest.specs.Manifest as read
 use Rattle.page_manifest.specs.Bound as spec
 use Rattle.page_manifest.specs.Read.{json, page_of}
@@ -171,7 +170,8 @@ manifest_is : (runs : Bool) (d : Data) (m : Manifest) → read.manifest runs d �
 manifest_is runs d m e =
     let s = steps (object read.page_forms 0 d) _ m e in
     let v = steps (need read.version (codes "version") 0 d) _ m s.after in
-    let c = steps (may [] (each 64 read.name) (codes "cells") 0 d) _ m v.after in
+    let h = steps (may [] read.text (codes "html") 0 d) _ m v.after in
+    let c = steps (may [] (each 64 read.name) (codes "cells") 0 d) _ m h.after in
     let t = steps (need (each 64 (read.told runs)) (codes "modules") 0 d) _ m c.after in
     let a = steps (may [] (each 10000 read.event) (codes "events") 0 d) _ m t.after in
     let mods = need_is (each 64 (read.told runs)) (codes "modules") 0 d t.first t.found in
@@ -205,22 +205,23 @@ once_is names fault a b e = unless_is (spec.once_each names) e where
   unless_is (Some k) e = no_ok (fault k) b e
 
 module _ (cells modules : List (List ℕ)) where
-  granted_is : (i : ℕ) (w : Wish) (g : Grant) → spec.granted cells modules i w ≡ Ok g → IsGranted (length cells) i g
+  granted_is : (i : ℕ) (w : Wish) (g : Granted) → spec.granted cells modules i w ≡ Ok g → IsGranted (length cells) i g
+  granted_is i (for_root id) g e = subst (IsGranted (length cells) i) (ok_is (the_root id) g e) tt
   granted_is i (for_cell c) g e =
       let s = steps (spec.number_of _ i (place_in cells c)) _ g e in
       subst (IsGranted (length cells) i) (ok_is _ g s.after) (number_is _ i s.first cells c s.found)
   granted_is i (for_module m) g e =
       let s = steps (spec.number_of _ i (place_in modules m)) _ g e in
-      let p = passed (nat_lt s.first i) (a_result s.first) g _ s.after in
+      let p = passed (nat_lt s.first i) (the_result s.first) g _ s.after in
       subst (IsGranted (length cells) i) p.1 (ltb-true s.first i p.0)
-  granted_is i (for_plain v) g e = subst (IsGranted (length cells) i) (ok_is (a_plain v) g e) tt
+  granted_is i (for_plain v) g e = subst (IsGranted (length cells) i) (ok_is (the_plain v) g e) tt
 
   -- a grant of module i, as it was wished
-  record IsBound (i : ℕ) (w : List ℕ × Wish) (g : List ℕ × Grant) : Type 0 where
+  record IsBound (i : ℕ) (w : List ℕ × Wish) (g : List ℕ × Granted) : Type 0 where
     pub name : g.0 ≡ w.0
     pub granted : IsGranted (length cells) i g.1
 
-  bound_wish_is : (i : ℕ) (w : List ℕ × Wish) (g : List ℕ × Grant) → spec.bound_wish cells modules i w ≡ Ok g → IsBound i w g
+  bound_wish_is : (i : ℕ) (w : List ℕ × Wish) (g : List ℕ × Granted) → spec.bound_wish cells modules i w ≡ Ok g → IsBound i w g
   bound_wish_is i w g e =
       let s = steps (spec.granted cells modules i w.1) _ g e in
       subst (IsBound i w) (ok_is (w.0, s.first) g s.after) (record { name = refl; granted = granted_is i w.1 s.first s.found })
@@ -242,6 +243,8 @@ asked_is : (modules : List (List ℕ)) (k : ℕ) (w : Plan) (a : Asked) → spec
 asked_is modules k (for_call m key vs) a e =
     let s = steps (spec.number_of _ k (place_in modules m)) _ a e in
     subst (IsAsked (length modules)) (ok_is _ a s.after) (number_is _ k s.first modules m s.found)
+asked_is modules k (for_click id) a e = subst (IsAsked (length modules)) (ok_is _ a e) tt
+asked_is modules k (for_input id us) a e = subst (IsAsked (length modules)) (ok_is _ a e) tt
 asked_is modules k (for_tick m) a e =
     let s = steps (spec.number_of _ k (place_in modules m)) _ a e in
     subst (IsAsked (length modules)) (ok_is _ a s.after) (number_is _ k s.first modules m s.found)

@@ -1,12 +1,11 @@
--- The page that a manifest tells of: each name that it speaks of is found among those of its cells or modules.
+-- The page that a manifest tells of: each name that it speaks of is found among those of its cells or modules. Ids are looked for in the document, once it is read.
 use Rattle.std.specs.Prelude.{ℕ, ◌+◌, List, [], ◌∷◌, ◌++◌, map, Option, None, Some, Ok, Err, nat_lt, if◌then◌else◌}
 use Rattle.es3_tokens.specs.Tokens.{is_one_of, place_in}
-use Rattle.page_deeds.specs.Deeds.{Grant, a_cell, a_result, a_plain}
-use Rattle.event_script.specs.Events.{Asked, a_call, a_tick}
+use Rattle.event_script.specs.Events.{Asked, a_call, a_click, an_input, a_tick}
 use Rattle.page_manifest.specs.Faults.{Found, chain, twice, unknown_grant, later_module, unknown_target}
 use Rattle.page_manifest.specs.Walk.{traverse}
-use Rattle.page_manifest.specs.Page.{Module, Page}
-use Rattle.page_manifest.specs.Named.{Wish, for_cell, for_module, for_plain, Told, Plan, for_call, for_tick, Manifest}
+use Rattle.page_manifest.specs.Page.{Granted, the_cell, the_result, the_plain, the_root, Module, Page}
+use Rattle.page_manifest.specs.Named.{Wish, for_root, for_cell, for_module, for_plain, Told, Plan, for_call, for_click, for_input, for_tick, Manifest}
 
 -- the first place, from i on, of a name that stands before it, behind those that came before
 abbrev pub repeated : List (List ℕ) → ℕ → List (List ℕ) → Option ℕ
@@ -38,12 +37,13 @@ number_of fault i (Some k) = Ok k
 
 module _ (cells modules : List (List ℕ)) where
   -- what module i is granted
-  abbrev pub granted : ℕ → Wish → Found Grant
-  granted i (for_cell c) = chain (number_of unknown_grant i (place_in cells c)) (λ k. Ok (a_cell k))
-  granted i (for_module m) = chain (number_of unknown_grant i (place_in modules m)) (λ k. if nat_lt k i then Ok (a_result k) else Err (later_module, i))
-  granted i (for_plain v) = Ok (a_plain v)
+  abbrev pub granted : ℕ → Wish → Found Granted
+  granted i (for_root id) = Ok (the_root id)
+  granted i (for_cell c) = chain (number_of unknown_grant i (place_in cells c)) (λ k. Ok (the_cell k))
+  granted i (for_module m) = chain (number_of unknown_grant i (place_in modules m)) (λ k. if nat_lt k i then Ok (the_result k) else Err (later_module, i))
+  granted i (for_plain v) = Ok (the_plain v)
 
-  abbrev pub bound_wish : ℕ → List ℕ × Wish → Found (List ℕ × Grant)
+  abbrev pub bound_wish : ℕ → List ℕ × Wish → Found (List ℕ × Granted)
   bound_wish i w = chain (granted i w.1) (λ g. Ok (w.0, g))
 
   abbrev pub bound_module : ℕ → Told → Found Module
@@ -54,6 +54,8 @@ module _ (cells modules : List (List ℕ)) where
 -- what event k asks for
 abbrev pub bound_event : List (List ℕ) → ℕ → Plan → Found Asked
 bound_event modules k (for_call m key vs) = chain (number_of unknown_target k (place_in modules m)) (λ n. Ok (a_call n key vs))
+bound_event modules k (for_click id) = Ok (a_click id)
+bound_event modules k (for_input id us) = Ok (an_input id us)
 bound_event modules k (for_tick m) = chain (number_of unknown_target k (place_in modules m)) (λ n. Ok (a_tick n))
 
 abbrev pub names_of : List Told → List (List ℕ)
@@ -71,4 +73,4 @@ bound p =
     chain (all_once p) (λ _.
     chain (traverse (bound_module p.cells (names_of p.modules)) 0 p.modules) (λ ms.
     chain (traverse (bound_event (names_of p.modules)) 0 p.events) (λ es.
-    Ok (record { cells = p.cells; modules = ms; events = es }))))
+    Ok (record { html = p.html; cells = p.cells; modules = ms; events = es }))))

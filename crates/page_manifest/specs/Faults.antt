@@ -1,4 +1,4 @@
--- What is wrong with a manifest: the number of the fault, and its place: the index of the module, the cell or the event where it stands, else 0.
+-- What is wrong with a manifest, or with what it says of its document: the number of the fault, and its place: the index of the module, the cell or the event where it stands, else 0.
 use Rattle.std.specs.Prelude.{ℕ, Result, Ok, Err}
 
 abbrev pub Fault : Type 0
@@ -23,11 +23,11 @@ unknown_field = 4
 abbrev pub bad_name : ℕ
 bad_name = 5
 
--- a name stands twice
+-- a name stands twice, or an id in the document
 abbrev pub twice : ℕ
 twice = 6
 
--- the cell or the module that is granted isn't there
+-- the cell, the module or the element that is granted isn't there
 abbrev pub unknown_grant : ℕ
 unknown_grant = 7
 
@@ -35,7 +35,11 @@ unknown_grant = 7
 abbrev pub later_module : ℕ
 later_module = 8
 
--- the module of an event isn't there
+-- a root that is granted stands inside or around another one
+abbrev pub overlap : ℕ
+overlap = 9
+
+-- the module of an event isn't there, or its element is in no granted root, or isn't one that takes a text
 abbrev pub unknown_target : ℕ
 unknown_target = 10
 

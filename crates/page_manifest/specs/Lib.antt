@@ -1,6 +1,5 @@
 pub mod Faults
 pub mod Walk
-pub mod Names
 pub mod Page
 pub mod Deeds
 pub mod Named

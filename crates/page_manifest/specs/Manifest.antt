@@ -13,9 +13,9 @@ use Rattle.page_deeds.specs.Deeds.{Plain}
 use Rattle.page_manifest.specs.Faults as faults
 use Rattle.page_manifest.specs.Faults.{Found, chain, wrong_kind, bad_name}
 use Rattle.page_manifest.specs.Walk.{Fields, object, need, may, each, all, any_number}
-use Rattle.page_manifest.specs.Names.{is_name, is_grant_name}
+use Rattle.manifest_names.specs.Names.{is_name, is_grant_name}
 use Rattle.page_manifest.specs.Page.{Language, cajita, es3}
-use Rattle.page_manifest.specs.Named.{Wish, for_cell, for_module, for_plain, Told, Plan, for_call, for_tick, Manifest}
+use Rattle.page_manifest.specs.Named.{Wish, for_root, for_cell, for_module, for_plain, Told, Plan, for_call, for_click, for_input, for_tick, Manifest}
 
 -- what is wanted there, or something of another kind
 abbrev pub of_kind : {A : Type 0} → ℕ → Option A → Found A
@@ -63,17 +63,19 @@ plain i (json.string s) = Ok (deeds.text (units_of_chars (chars s)))
 plain i (json.array ds) = Err (wrong_kind, i)
 plain i (json.object ms) = Err (wrong_kind, i)
 
--- a grant: `name`, and one of `cell`, `module` and `value`
+-- a grant: `name`, and one of `root`, `cell`, `module` and `value`
 abbrev pub grant_forms : List Fields
 grant_forms =
-    (codes "name" ∷ codes "cell" ∷ [])
+    (codes "name" ∷ codes "root" ∷ [])
+    ∷ (codes "name" ∷ codes "cell" ∷ [])
     ∷ (codes "name" ∷ codes "module" ∷ [])
     ∷ (codes "name" ∷ codes "value" ∷ [])
     ∷ []
 
 abbrev pub wish : ℕ → Data → Found Wish
 wish i d =
-    if is_some (get (codes "cell") d) then chain (need name (codes "cell") i d) (λ s. Ok (for_cell s))
+    if is_some (get (codes "root") d) then chain (need units (codes "root") i d) (λ id. Ok (for_root id))
+    else if is_some (get (codes "cell") d) then chain (need name (codes "cell") i d) (λ s. Ok (for_cell s))
     else if is_some (get (codes "module") d) then chain (need name (codes "module") i d) (λ s. Ok (for_module s))
     else chain (need plain (codes "value") i d) (λ v. Ok (for_plain v))
 
@@ -97,9 +99,14 @@ told runs i d =
     chain (may [] (all 64 grant) (codes "grants") i d) (λ ws.
     Ok (record { name = n; language = l; source = s; wishes = ws }))))))
 
--- an event: `call`, `key`, and maybe `args`; or `tick`
+-- an event: `call`, `key`, and maybe `args`; or `click`; or `input` and `text`; or `tick`
 abbrev pub event_forms : List Fields
-event_forms = (codes "call" ∷ codes "key" ∷ codes "args" ∷ []) ∷ (codes "tick" ∷ []) ∷ []
+event_forms =
+    (codes "call" ∷ codes "key" ∷ codes "args" ∷ [])
+    ∷ (codes "click" ∷ [])
+    ∷ (codes "input" ∷ codes "text" ∷ [])
+    ∷ (codes "tick" ∷ [])
+    ∷ []
 
 abbrev pub call : ℕ → Data → Found Plan
 call i d =
@@ -108,21 +115,39 @@ call i d =
     chain (may [] (any_number plain) (codes "args") i d) (λ vs.
     Ok (for_call m k vs))))
 
+abbrev pub click : ℕ → Data → Found Plan
+click i d = chain (need units (codes "click") i d) (λ id. Ok (for_click id))
+
+abbrev pub input : ℕ → Data → Found Plan
+input i d =
+    chain (need units (codes "input") i d) (λ id.
+    chain (need units (codes "text") i d) (λ us.
+    Ok (for_input id us)))
+
 abbrev pub tick : ℕ → Data → Found Plan
 tick i d = chain (need name (codes "tick") i d) (λ m. Ok (for_tick m))
 
-abbrev pub event : ℕ → Data → Found Plan
-event i d = chain (object event_forms i d) (λ _. if is_some (get (codes "tick") d) then tick i d else call i d)
+-- an event without the first field of its form is read as a call, in which one is missing
+abbrev pub asked : ℕ → Data → Found Plan
+asked i d =
+    if is_some (get (codes "click") d) then click i d
+    else if is_some (get (codes "input") d) then input i d
+    else if is_some (get (codes "tick") d) then tick i d
+    else call i d
 
--- a page: `version`, maybe `cells`, `modules`, and maybe `events`
+abbrev pub event : ℕ → Data → Found Plan
+event i d = chain (object event_forms i d) (λ _. asked i d)
+
+-- a page: `version`, maybe `html`, maybe `cells`, `modules`, and maybe `events`
 abbrev pub page_forms : List Fields
-page_forms = (codes "version" ∷ codes "cells" ∷ codes "modules" ∷ codes "events" ∷ []) ∷ []
+page_forms = (codes "version" ∷ codes "html" ∷ codes "cells" ∷ codes "modules" ∷ codes "events" ∷ []) ∷ []
 
 abbrev pub manifest : Bool → Data → Found Manifest
 manifest runs d =
     chain (object page_forms 0 d) (λ _.
     chain (need version (codes "version") 0 d) (λ _.
+    chain (may [] text (codes "html") 0 d) (λ h.
     chain (may [] (each 64 name) (codes "cells") 0 d) (λ cs.
     chain (need (each 64 (told runs)) (codes "modules") 0 d) (λ ms.
     chain (may [] (each 10000 event) (codes "events") 0 d) (λ es.
-    Ok (record { cells = cs; modules = ms; events = es }))))))
+    Ok (record { html = h; cells = cs; modules = ms; events = es })))))))

@@ -1,10 +1,11 @@
--- A page as its manifest tells of it: cells and modules are known by their names.
+-- A page as its manifest tells of it: cells and modules are known by their names, and elements of its document by their ids.
 use Rattle.std.specs.Prelude.{ℕ, List}
 use Rattle.page_deeds.specs.Deeds.{Plain}
 use Rattle.page_manifest.specs.Page.{Language}
 
 pub data Wish : Type 0 where
-  -- a cell, the result of a module, a plain value
+  -- an element of the document, a cell, the result of a module, a plain value
+  for_root : List ℕ → Wish
   for_cell : List ℕ → Wish
   for_module : List ℕ → Wish
   for_plain : Plain → Wish
@@ -22,9 +23,15 @@ pub record Told : Type 0 where
 pub data Plan : Type 0 where
   -- the module, the key and the arguments
   for_call : List ℕ → List ℕ → List Plain → Plan
+  -- the id
+  for_click : List ℕ → Plan
+  -- the id and the text
+  for_input : List ℕ → List ℕ → Plan
   for_tick : List ℕ → Plan
 
 pub record Manifest : Type 0 where
+  -- the bytes of its document
+  pub html : List ℕ
   pub cells : List (List ℕ)
   pub modules : List Told
   pub events : List Plan

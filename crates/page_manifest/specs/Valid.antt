@@ -1,17 +1,16 @@
--- Pages in which no fault of a manifest stands.
+-- Pages in which no fault of a manifest stands. Whether an id names an element is asked of the document.
 use Rattle.std.specs.Prelude.{◌≡◌, ◌≤◌, ◌<◌, ℕ, List, [], ◌∷◌, length, map, All, IsTrue, slice_get, None, Some}
-use Rattle.page_deeds.specs.Deeds.{Grant, a_cell, a_result, a_plain, a_root}
-use Rattle.event_script.specs.Events.{Asked, a_call, a_tick}
-use Rattle.page_manifest.specs.Names.{is_name, is_grant_name}
+use Rattle.event_script.specs.Events.{Asked, a_call, a_click, an_input, a_tick}
+use Rattle.manifest_names.specs.Names.{is_name, is_grant_name}
 use Rattle.page_manifest.specs.Bound.{once_each}
-use Rattle.page_manifest.specs.Page.{Module, Page}
+use Rattle.page_manifest.specs.Page.{Granted, the_cell, the_result, the_plain, the_root, Module, Page}
 
--- the cell is there, or the module is loaded before module i. A manifest has no roots
-abbrev pub IsGranted : ℕ → ℕ → Grant → Type 0
-IsGranted cells i (a_cell k) = k < cells
-IsGranted cells i (a_result k) = k < i
-IsGranted cells i (a_plain v) = Unit {0}
-IsGranted cells i (a_root root) = ⊥
+-- the cell is there, or the module is loaded before module i
+abbrev pub IsGranted : ℕ → ℕ → Granted → Type 0
+IsGranted cells i (the_cell k) = k < cells
+IsGranted cells i (the_result k) = k < i
+IsGranted cells i (the_plain v) = Unit {0}
+IsGranted cells i (the_root id) = Unit {0}
 
 -- no name stands twice
 abbrev pub AreOnce : List (List ℕ) → Type 0
@@ -28,12 +27,16 @@ pub record IsModule (cells i : ℕ) (m : Module) : Type 0 where
 -- an event of a page with so many modules
 abbrev pub IsAsked : ℕ → Asked → Type 0
 IsAsked modules (a_call m key vs) = m < modules
+IsAsked modules (a_click id) = Unit {0}
+IsAsked modules (an_input id us) = Unit {0}
 IsAsked modules (a_tick m) = m < modules
 
 -- each call of a key passes fewer arguments than the greatest number of 32 bits
 abbrev pub FewArguments : List Asked → Type 0
 FewArguments [] = Unit {0}
 FewArguments (a_call m key args ∷ es) = (length args < 4294967295) × FewArguments es
+FewArguments (a_click id ∷ es) = FewArguments es
+FewArguments (an_input id us ∷ es) = FewArguments es
 FewArguments (a_tick m ∷ es) = FewArguments es
 
 pub record IsValid (p : Page) : Type 0 where

@@ -1,13 +1,12 @@
 -- Which page a `Page` is.
 use Rattle.std.specs.Prelude.{ℕ, List, map}
-use Rattle.page_deeds.specs.Deeds as deeds
 use Rattle.host_rules.specs.Plain.{plain}
 use Rattle.event_script.specs.Events.{asked}
 use Rattle.page_manifest.specs.Page as p
 use Rattle.page_manifest.specs.declared.Lang.{Lang}
 use Rattle.page_manifest.specs.declared.Lang.TheVariants.{Cajita, Es3}
 use Rattle.page_manifest.specs.declared.Grant.{Grant}
-use Rattle.page_manifest.specs.declared.Grant.TheVariants.{Cell, Module, Value}
+use Rattle.page_manifest.specs.declared.Grant.TheVariants.{Root, Cell, Module, Value}
 use Rattle.page_manifest.specs.declared.ModuleSpec.{ModuleSpec}
 use Rattle.page_manifest.specs.declared.Page.{Page}
 
@@ -15,16 +14,17 @@ abbrev pub language : Lang → p.Language
 language Cajita = p.cajita
 language Es3 = p.es3
 
-abbrev pub grant : Grant → deeds.Grant
-grant (Cell k) = deeds.a_cell k
-grant (Module k) = deeds.a_result k
-grant (Value v) = deeds.a_plain (plain v)
+abbrev pub grant : Grant → p.Granted
+grant (Root id) = p.the_root id
+grant (Cell k) = p.the_cell k
+grant (Module k) = p.the_result k
+grant (Value v) = p.the_plain (plain v)
 
-abbrev pub grants : List (List ℕ × Grant) → deeds.Grants
+abbrev pub grants : List (List ℕ × Grant) → p.Grants
 grants gs = map (λ g. (g.0, grant g.1)) gs
 
 abbrev pub module_spec : ModuleSpec → p.Module
 module_spec m = record { name = m.name; language = language m.lang; source = m.source.items; grants = grants m.grants.items }
 
 abbrev pub page : Page → p.Page
-page q = record { cells = q.cells.items; modules = map module_spec q.modules.items; events = map asked q.events.items }
+page q = record { html = q.html.items; cells = q.cells.items; modules = map module_spec q.modules.items; events = map asked q.events.items }

@@ -1,4 +1,4 @@
-//! The page that a manifest tells of: each name that it speaks of is found among those of its cells or modules.
+//! The page that a manifest tells of: each name that it speaks of is found among those of its cells or modules. Ids are looked for in the document, once it is read.
 
 ghost use Rattle.std.specs.Prelude.{◌≡◌, ◌<◌, ◌≤◌, length, map, vec_len, IfOk, IfSome};
 ghost use Rattle.es3_tokens.specs.Tokens.{is_one_of as is_one_of_them, place_in};
@@ -118,6 +118,7 @@ fn grant_of(wish: Wish, at: u32, cells: &[Units], modules: &[Units]) -> Result<G
     ensures { Answers shown.grant result (spec.granted cells.now modules.now at (wanted.wish wish)) }
 {
     match wish {
+        Wish::Root(id) => Ok(Grant::Root(id)),
         Wish::Cell(name) => match place_of(cells, &name) {
             Some(cell) => Ok(Grant::Cell(cell)),
             None => Err(PageError::Fault(UNKNOWN_GRANT, at)),
@@ -208,6 +209,8 @@ fn bound_event(plan: Plan, at: u32, modules: &[Units]) -> Result<Event, PageErro
             Some(module) => Ok(Event::Call(module, key, args)),
             None => Err(PageError::Fault(UNKNOWN_TARGET, at)),
         },
+        Plan::Click(id) => Ok(Event::Click(id)),
+        Plan::Input(id, text) => Ok(Event::Input(id, text)),
         Plan::Tick(name) => match place_of(modules, &name) {
             Some(module) => Ok(Event::Tick(module)),
             None => Err(PageError::Fault(UNKNOWN_TARGET, at)),
@@ -238,6 +241,7 @@ pub fn bound_page(alloc: Global, manifest: Manifest) -> Result<Page, PageError>
     names_once(&names)?;
     all_wishes_once(alloc, &manifest.modules)?;
     let Manifest {
+        html,
         cells,
         modules,
         events,
@@ -245,6 +249,7 @@ pub fn bound_page(alloc: Global, manifest: Manifest) -> Result<Page, PageError>
     let modules = bound_modules(alloc, modules, &cells, &names)?;
     let events = bound_events(alloc, events, &names)?;
     Ok(Page {
+        html,
         cells,
         modules,
         events,

@@ -43,16 +43,42 @@ fn call(alloc: Global, event: &Value, at: u32) -> Result<Plan, PageError>
     Ok(Plan::Call(module, key, args))
 }
 
+/// The input at this place.
+fn input(alloc: Global, event: &Value, at: u32) -> Result<Plan, PageError>
+    ensures { Answers shown.plan result (spec.input at (view event.now)) }
+{
+    let id = units(alloc, field(event, "input", at)?, at)?;
+    let text = units(alloc, field(event, "text", at)?, at)?;
+    Ok(Plan::Input(id, text))
+}
+
+/// What an event asks for.
+fn asked(alloc: Global, event: &Value, at: u32) -> Result<Plan, PageError>
+    ensures { Answers shown.plan result (spec.asked at (view event.now)) }
+{
+    if let Some(id) = event.get("click") {
+        Ok(Plan::Click(units(alloc, id, at)?))
+    } else if event.get("input").is_some() {
+        input(alloc, event, at)
+    } else if let Some(module) = event.get("tick") {
+        Ok(Plan::Tick(name(alloc, module, at)?))
+    } else {
+        call(alloc, event, at)
+    }
+}
+
 /// The event at this place.
 fn plan(alloc: Global, event: &Value, at: u32) -> Result<Plan, PageError>
     ensures { Answers shown.plan result (spec.event at (view event.now)) }
 {
-    let forms: [&[&str]; 2] = [&["call", "key", "args"], &["tick"]];
+    let forms: [&[&str]; 4] = [
+        &["call", "key", "args"],
+        &["click"],
+        &["input", "text"],
+        &["tick"],
+    ];
     check_object(event, &forms, at)?;
-    match event.get("tick") {
-        Some(module) => Ok(Plan::Tick(name(alloc, module, at)?)),
-        None => call(alloc, event, at),
-    }
+    asked(alloc, event, at)
 }
 
 /// The events of a page.

@@ -9,7 +9,7 @@ ghost use Rattle.page_manifest.specs.Answers.{Answers};
 ghost use Rattle.page_manifest.specs.Walk as spec;
 
 use crate::PageError;
-use crate::names::is_one_of;
+use manifest_names::is_one_of;
 use serde_json::{Map, Value};
 
 pub const MISSING: u8 = 2;

@@ -17,7 +17,6 @@ mod events;
 mod fields;
 mod modules;
 mod named;
-mod names;
 mod pages;
 mod values;
 
@@ -37,9 +36,11 @@ pub enum Lang {
     Es3,
 }
 
-/// What a module is granted. Cells and modules are known by their numbers, from 0.
+/// What a module is granted. Cells and modules are known by their numbers, from 0, and elements of the document by their ids.
 #[derive(Debug, Drop)]
 pub enum Grant {
+    /// An element, with what stands in it.
+    Root(Units),
     Cell(u32),
     /// The result of a module that is loaded before.
     Module(u32),
@@ -55,9 +56,10 @@ pub struct ModuleSpec {
     pub grants: Vec<(Units, Grant)>,
 }
 
-/// A page: the names of its cells, its modules in the order in which they are loaded, and then its events.
+/// A page: the HTML of its document in UTF-8, the names of its cells, its modules in the order in which they are loaded, and then its events.
 #[derive(Debug, Drop)]
 pub struct Page {
+    pub html: Vec<u8>,
     pub cells: Vec<Units>,
     pub modules: Vec<ModuleSpec>,
     pub events: Vec<Event>,

@@ -10,7 +10,7 @@ ghost use Rattle.page_manifest.specs.NamedView as shown;
 use crate::PageError;
 use crate::fields::{at_most, check_object, field};
 use crate::named::{Told, Wish};
-use crate::values::{grant_name, language, name, plain, text};
+use crate::values::{bytes, grant_name, language, name, plain, units};
 use caja_units::Units;
 use serde_json::Value;
 use std::alloc::Global;
@@ -18,11 +18,13 @@ use std::alloc::Global;
 /// The most cells, modules, and grants of a module.
 pub const MOST_NAMES: usize = 64;
 
-/// What is granted: a cell, the result of a module, or a plain value.
+/// What is granted: an element of the document, a cell, the result of a module, or a plain value.
 fn wish(alloc: Global, grant: &Value, at: u32) -> Result<Wish, PageError>
     ensures { Answers shown.wish result (spec.wish at (view grant.now)) }
 {
-    if let Some(cell) = grant.get("cell") {
+    if let Some(id) = grant.get("root") {
+        Ok(Wish::Root(units(alloc, id, at)?))
+    } else if let Some(cell) = grant.get("cell") {
         Ok(Wish::Cell(name(alloc, cell, at)?))
     } else if let Some(module) = grant.get("module") {
         Ok(Wish::Module(name(alloc, module, at)?))
@@ -35,7 +37,12 @@ fn wish(alloc: Global, grant: &Value, at: u32) -> Result<Wish, PageError>
 fn named_wish(alloc: Global, grant: &Value, at: u32) -> Result<(Units, Wish), PageError>
     ensures { Answers shown.named_wish result (spec.grant at (view grant.now)) }
 {
-    let forms: [&[&str]; 3] = [&["name", "cell"], &["name", "module"], &["name", "value"]];
+    let forms: [&[&str]; 4] = [
+        &["name", "root"],
+        &["name", "cell"],
+        &["name", "module"],
+        &["name", "value"],
+    ];
     check_object(grant, &forms, at)?;
     let name = grant_name(alloc, field(grant, "name", at)?, at)?;
     let wish = wish(alloc, grant, at)?;
@@ -63,9 +70,8 @@ fn told(alloc: Global, v: &Value, es3: bool, at: u32) -> Result<Told, PageError>
     check_object(v, &[&["name", "language", "source", "grants"]], at)?;
     let name = name(alloc, field(v, "name", at)?, at)?;
     let lang = language(field(v, "language", at)?, es3, at)?;
-    let source = text(field(v, "source", at)?, at)?;
+    let source = bytes(alloc, field(v, "source", at)?, at)?;
     let wishes = wishes(alloc, v, at)?;
-    let source = Vec::from_slice(alloc, source.as_bytes())?;
     Ok(Told {
         name,
         lang,

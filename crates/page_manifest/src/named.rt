@@ -1,4 +1,4 @@
-//! A page as its manifest tells of it: cells and modules are known by their names.
+//! A page as its manifest tells of it: cells and modules are known by their names, and elements of its document by their ids.
 
 ghost use Rattle.std.specs.Prelude.{◌≤◌, vec_len};
 
@@ -9,6 +9,7 @@ use host_rules::Plain;
 /// What a module wants to be granted.
 #[derive(Drop)]
 pub enum Wish {
+    Root(Units),
     Cell(Units),
     Module(Units),
     Value(Plain),
@@ -28,12 +29,16 @@ pub struct Told {
 pub enum Plan {
     /// The module, the key and the arguments.
     Call(Units, Units, Vec<Plain>),
+    Click(Units),
+    /// The id and the text.
+    Input(Units, Units),
     Tick(Units),
 }
 
 /// A page.
 #[derive(Drop)]
 pub struct Manifest {
+    pub html: Vec<u8>,
     pub cells: Vec<Units>,
     pub modules: Vec<Told>,
     pub events: Vec<Plan>,

@@ -12,10 +12,20 @@ use crate::events::plans;
 use crate::fields::{at_most, check_object, field};
 use crate::modules::{MOST_NAMES, modules};
 use crate::named::Manifest;
-use crate::values::{name, version};
+use crate::values::{bytes, name, version};
 use caja_units::Units;
 use serde_json::Value;
 use std::alloc::Global;
+
+/// The bytes of the document.
+fn html(alloc: Global, page: &Value) -> Result<Vec<u8>, PageError>
+    ensures { Answers (λ list. list.items) result (may [] spec.text (codes "html") 0 (view page.now)) }
+{
+    match page.get("html") {
+        Some(text) => bytes(alloc, text, 0),
+        None => Ok(Vec::new(alloc)),
+    }
+}
 
 /// The names of the cells.
 fn cells(alloc: Global, page: &Value) -> Result<Vec<Units>, PageError>
@@ -36,12 +46,18 @@ fn cells(alloc: Global, page: &Value) -> Result<Vec<Units>, PageError>
 pub fn manifest_of(alloc: Global, page: &Value, es3: bool) -> Result<Manifest, PageError>
     ensures { Answers shown.manifest result (spec.manifest es3 (view page.now)) }
 {
-    check_object(page, &[&["version", "cells", "modules", "events"]], 0)?;
+    check_object(
+        page,
+        &[&["version", "html", "cells", "modules", "events"]],
+        0,
+    )?;
     version(field(page, "version", 0)?, 0)?;
+    let html = html(alloc, page)?;
     let cells = cells(alloc, page)?;
     let modules = modules(alloc, field(page, "modules", 0)?, es3)?;
     let events = plans(alloc, page)?;
     Ok(Manifest {
+        html,
         cells,
         modules,
         events,

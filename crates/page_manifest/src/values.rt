@@ -10,11 +10,11 @@ ghost use Rattle.page_manifest.specs.Manifest as spec;
 ghost use Rattle.page_manifest.specs.View as shown;
 
 use crate::fields::WRONG_KIND;
-use crate::names::{is_grant_name, is_name};
 use crate::{Lang, PageError};
 use caja_num::Whole;
 use caja_units::{Memory, Units};
 use host_rules::Plain;
+use manifest_names::{is_grant_name, is_name};
 use serde_json::Value;
 use std::alloc::Global;
 
@@ -27,6 +27,14 @@ pub fn text(v: &Value, at: u32) -> Result<&str, PageError>
     ensures { Answers (λ found. found.now) result (spec.text at (view v.now)) }
 {
     v.as_str().ok_or(PageError::Fault(WRONG_KIND, at))
+}
+
+/// The bytes of a text, in a list of their own.
+pub fn bytes(alloc: Global, v: &Value, at: u32) -> Result<Vec<u8>, PageError>
+    ensures { Answers (λ list. list.items) result (spec.text at (view v.now)) }
+{
+    let text = text(v, at)?;
+    Ok(Vec::from_slice(alloc, text.as_bytes())?)
 }
 
 /// The 16-bit units of a text.

@@ -3,8 +3,9 @@ use Rattle.std.proofs.Common.{◌≡◌, ℕ, ◌≤◌, true, List, [], ◌∷�
 use Rattle.std.proofs.lemmas.List.{append_assoc}
 use Rattle.plans.specs.Plans.{kept_of}
 use Rattle.es3_objects.specs.declared.value.Tag.{Tag}
+use Rattle.html_grammar.specs.Trees.{many, Tree}
+use Rattle.doc_views.specs.Seen.{nodes_seen}
 use Rattle.rows.specs.Rows.{Touch}
-use Rattle.rows.specs.Nodes.{no_rules}
 use Rattle.heap_rows.specs.Doing as told
 use Rattle.heap_rows.specs.Doing.{Told, heard}
 use Rattle.cajita_tree.specs.Tree as c
@@ -14,10 +15,10 @@ use Rattle.cajita_page.proofs.Reaches.{pages_reach, page_items_lie}
 use Rattle.row_simulation.specs.Correspond.{tag_of_name}
 use Rattle.row_simulation.specs.RowLaw.{shown}
 use Rattle.page_manifest.specs.Page.{Page}
-use Rattle.page_manifest.specs.Deeds.{deeds}
 use Rattle.cajita_simulation.specs.Alike.{IsPrefix, most_page_steps}
 use Rattle.page_simulation.specs.Correct.{told_of}
-use Rattle.page_meaning.specs.PageRuns.{programs_run, sources_run}
+use Rattle.page_documents.specs.Documents.{page_doc}
+use Rattle.page_meaning.specs.PageRuns.{page_rules, deeds_in, programs_run, sources_run}
 use Rattle.page_meaning.specs.Means.{programs_of}
 use Rattle.page_meaning.specs.Reach.{IsTouchInReach, Reaches}
 
@@ -68,18 +69,18 @@ module _ (m : ℕ) (op : Touch) (g : Tag) (key : List (List ℕ)) where
   find (changed_node r k n ∷ z) [] rest e = absurd cc
   find (changed_node r k n ∷ z) (x ∷ a) rest e = later (changed_node r k n) z (find z a rest (tail_is (told.changed_node r k n) x _ _ e))
 
-module _ (p : Page) (ms : List (c.Tree c.program)) (cut : (s : ℕ) → s ≤ most_page_steps → (k : ℕ) × ((n : ℕ) → k ≤ n → IsPrefix (kept_of (programs_run p (programs_of ms) true s)).told (told_of true (kept_of (sources_run p ms n))))) where
-  in_reach : (n m : ℕ) (op : Touch) (g : Tag) (key : List (List ℕ)) → IsThere m op g key (kept_of (sources_run p ms n)) → IsTouchInReach (kept_of (sources_run p ms n)) m op g key
-  in_reach n m op g key h = record { before = h.before; behind = h.behind; name = h.name; named = h.named; there = h.there; had = page_items_lie no_rules (λ root. []) (deeds p ms) n h.before (touched m op h.name key) h.behind h.there }
+module _ (p : Page) (ts : Tree many) (ms : List (c.Tree c.program)) (cut : (s : ℕ) → s ≤ most_page_steps → (k : ℕ) × ((n : ℕ) → k ≤ n → IsPrefix (kept_of (programs_run p ts (programs_of ms) true s)).told (told_of true (kept_of (sources_run p ts ms n))))) where
+  in_reach : (n m : ℕ) (op : Touch) (g : Tag) (key : List (List ℕ)) → IsThere m op g key (kept_of (sources_run p ts ms n)) → IsTouchInReach (kept_of (sources_run p ts ms n)) m op g key
+  in_reach n m op g key h = record { before = h.before; behind = h.behind; name = h.name; named = h.named; there = h.there; had = page_items_lie (page_rules p) (nodes_seen (page_doc p ts)) (deeds_in (page_doc p ts) p ms) n h.before (touched m op h.name key) h.behind h.there }
 
-  pub reaches : Reaches p ms
+  pub reaches : Reaches p ts ms
   reaches = record {
-    sources = λ n. pages_reach no_rules (λ root. []) (deeds p ms) n;
+    sources = λ n. pages_reach (page_rules p) (nodes_seen (page_doc p ts)) (deeds_in (page_doc p ts) p ms) n;
     touches = λ s le a b m op g key is.
         let h = cut s le in (
           h.0,
           λ n more.
-              let f : IsPrefix (kept_of (programs_run p (programs_of ms) true s)).told (told_of true (kept_of (sources_run p ms n))) = h.1 n more in
-              in_reach n m op g key (find m op g key (kept_of (sources_run p ms n)) a (b ++ f.rest) (f.is ∙ ap (λ l. l ++ f.rest) is ∙ append_assoc a (told.touched m op g key ∷ b) f.rest)),
+              let f : IsPrefix (kept_of (programs_run p ts (programs_of ms) true s)).told (told_of true (kept_of (sources_run p ts ms n))) = h.1 n more in
+              in_reach n m op g key (find m op g key (kept_of (sources_run p ts ms n)) a (b ++ f.rest) (f.is ∙ ap (λ l. l ++ f.rest) is ∙ append_assoc a (told.touched m op g key ∷ b) f.rest)),
         );
   }

@@ -1,5 +1,5 @@
 -- A source that is granted names becomes what it is, just where it is so.
-use Rattle.std.proofs.Common.{◌≡◌, ◌<◌, ℕ, List, [], Option, Some, None, All, refl, sym, ap, subst, ◌∙◌, arith}
+use Rattle.std.proofs.Common.{◌≡◌, ◌<◌, ℕ, List, Option, Some, None, All, refl, sym, ap, subst, ◌∙◌, arith}
 use Rattle.std.specs.Prelude.{IsTrue}
 use Rattle.std.proofs.lemmas.List.Elements.{All-map}
 use Rattle.es3_tree.specs.Tree as t
@@ -23,7 +23,7 @@ use Rattle.page_cajole.specs.Source.{Source, Spells, source_of, source_limits}
 use Rattle.page_cajole.specs.Cajoled.{uncut, unread, broken, cajoled, judged, statements, outcome_of, outcome}
 use Rattle.page_cajole.proofs.Spelled as source
 use Rattle.page_cajole.proofs.Refusals.{uncut_where, uncut_there, unread_where, unread_there}
-use Rattle.page_manifest.specs.Names.{is_grant_name}
+use Rattle.manifest_names.specs.Names.{is_grant_name}
 use Rattle.cajita_simulation.specs.Guest.{GuestModule}
 use Rattle.accepted_modules.proofs.Accepted.{guest_of, first_none}
 use Rattle.accepted_modules.proofs.Granted.{granted_guests}

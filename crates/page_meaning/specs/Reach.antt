@@ -1,10 +1,10 @@
 -- What the log of a page tells of touches lies in reach: a module touches what it was given and what it made, and nothing else.
 use Rattle.std.specs.Prelude.{◌≡◌, ◌≤◌, ℕ, true, List, ◌∷◌, ◌++◌}
 use Rattle.plans.specs.Plans.{kept_of}
-use Rattle.es3_tree.specs.Tree as t
 use Rattle.es3_objects.specs.declared.value.Tag.{Tag}
 use Rattle.rows.specs.Rows.{Touch}
 use Rattle.heap_rows.specs.Doing.{Told, touched}
+use Rattle.html_grammar.specs.Trees.{many, Tree}
 use Rattle.cajita_tree.specs.Tree as c
 use Rattle.cajita_meaning.specs.World.{Name}
 use Rattle.cajita_meaning.specs.Direct.{Item}
@@ -26,9 +26,9 @@ pub record IsTouchInReach (z : List Item) (m : ℕ) (op : Touch) (g : Tag) (key 
   pub there : z ≡ before ++ item.touched m op name key ∷ behind
   pub had : IsIn name (have had_at_first before m)
 
-pub record Reaches (p : Page) (ms : List (c.Tree c.program)) : Type 0 where
+pub record Reaches (p : Page) (ts : Tree many) (ms : List (c.Tree c.program)) : Type 0 where
   -- of the sources, with any number of steps: each item lies in what its module had before it, and each name is new
-  pub sources : (n : ℕ) → PageReaches (kept_of (sources_run p ms n))
+  pub sources : (n : ℕ) → PageReaches (kept_of (sources_run p ts ms n))
   -- of the programs, with s steps: each touch that is told, wherever the page is cut, is such a touch
-  pub touches : (s : ℕ) → s ≤ most_page_steps → (a b : List Told) (m : ℕ) (op : Touch) (g : Tag) (key : List (List ℕ)) → (kept_of (programs_run p (programs_of ms) true s)).told ≡ a ++ touched m op g key ∷ b
-      → (k : ℕ) × ((n : ℕ) → k ≤ n → IsTouchInReach (kept_of (sources_run p ms n)) m op g key)
+  pub touches : (s : ℕ) → s ≤ most_page_steps → (a b : List Told) (m : ℕ) (op : Touch) (g : Tag) (key : List (List ℕ)) → (kept_of (programs_run p ts (programs_of ms) true s)).told ≡ a ++ touched m op g key ∷ b
+      → (k : ℕ) × ((n : ℕ) → k ≤ n → IsTouchInReach (kept_of (sources_run p ts ms n)) m op g key)

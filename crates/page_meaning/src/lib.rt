@@ -1,8 +1,8 @@
 //! What the page of rewritten modules shows is what their sources mean.
 //!
-//! The definitions stand in specs/: what a page comes to by either meaning and what that shows (PageRuns.antt), that the one shows what the other means (Means.antt), why it ends so
-//! (Causes.antt), that what is touched lies in reach (Reach.antt), what becomes of each source (Sources.antt, Texts.antt), and all of that of a page (Meant.antt). There is no code. The
-//! functions here have no body: their contracts are the laws.
+//! The definitions stand in specs/: what a page comes to by either meaning over the trees of its document and what that shows (PageRuns.antt), that the one shows what the other means
+//! (Means.antt), why it ends so (Causes.antt), that what is touched lies in reach (Reach.antt), what becomes of each source (Sources.antt, Texts.antt), and all of that of a page
+//! (Meant.antt). There is no code. The functions here have no body: their contracts are the laws.
 #![tactic(auto)]
 
 ghost use Rattle.std.specs.Prelude.{ℕ, List};
@@ -11,8 +11,9 @@ ghost use Rattle.page_meaning.specs.Sources.{IsSource};
 ghost use Rattle.page_meaning.specs.Texts.{IsText};
 ghost use Rattle.page_meaning.specs.Meant.{IsPage, IsMeant};
 
-/// A page of modules in Cajita is meant: its sources are what they are just where that is so, and where all are accepted, the page of the programs that stand for them shows what they mean, ends
-/// for the causes for which they do, and touches what lies in reach alone.
+/// A page of modules in Cajita is meant: its sources are what they are just where that is so; where it has a document, what it grants and asks for there is the node with the id that it names; and where
+/// all are accepted besides, the page of the programs that stand for them shows what they mean, its document has the same nodes in the end, and it ends for the causes for which they do and touches
+/// what lies in reach alone.
 pub fn an_accepted_page_is_meant()
     ensures { (p : Page) → IsPage p → IsMeant p }
 {}

@@ -1,8 +1,7 @@
 pub mod Answered
 pub mod Cells
-pub mod Nodes
+pub mod NodeMethods
 pub mod Numbers
 pub mod OwnFunctions
-pub mod Padded
 pub mod Queues
 pub mod Telling

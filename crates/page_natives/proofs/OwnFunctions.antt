@@ -23,9 +23,10 @@ use Rattle.heap_rows.specs.Opening.{place_of}
 use Rattle.row_outcomes.specs.Arguments.{argument}
 use Rattle.row_outcomes.proofs.Arguments.{argument_held}
 use Rattle.page_natives.specs.declared.natives.Callee.TheVariants as c
-use Rattle.page_natives.specs.Natives.{Kept, page_of, queue_of, added, cell_value, is_closure, can_wait, can_wait_by, say_done, with_said, later_done, with_waiting}
+use Rattle.guard_marks.specs.Closures.{is_closure_if, is_closure_object, is_closure}
+use Rattle.page_natives.specs.Natives.{Kept, page_of, queue_of, added, cell_value, say_done, with_said, later_done, with_waiting}
 use Rattle.page_natives.specs.OwnFunctions.{IsKept, DoesItsRow}
-use Rattle.page_natives.proofs.Padded.{put_is}
+use Rattle.dom_facets.proofs.Padded.{put_is}
 
 -- the argument's value, where nothing more is seen
 held_now : (self : Value) (args : List Value) → value_in place_of (self ∷ args) (rows.argument 0 (suc (length args))) ≡ argument 0 args
@@ -47,8 +48,9 @@ say_kept by m self args h z own (Ok us) = record {
   runtime = refl;
   imports = refl;
   touching = refl;
+  answers = refl;
 }
-say_kept by m self args h z own (Err f) = record { reply = refl; heap = refl; told = sym (append-nil z.told); cells = λ cell. refl; queues = λ n. refl; nodes = λ root. refl; facets = λ root. refl; handlers = λ root. refl; runtime = refl; imports = refl; touching = refl }
+say_kept by m self args h z own (Err f) = record { reply = refl; heap = refl; told = sym (append-nil z.told); cells = λ cell. refl; queues = λ n. refl; nodes = λ root. refl; facets = λ root. refl; handlers = λ root. refl; runtime = refl; imports = refl; touching = refl; answers = refl }
 
 pub say_does_its_row : (m : ℕ) → DoesItsRow (c.Say m) r.say (tag.Own m 0)
 say_does_its_row m rules by this self args h z own =
@@ -59,9 +61,9 @@ say_does_its_row m rules by this self args h z own =
 
 -- what is seen of a value, by whether it may wait
 module _ (Q : Bool → Row → Type 0) (x : Handle) (waits : Q true (settles (queues (held 0) x))) (other : Q false (ends bad_argument)) where
-  by_kind : (marked : Bool) (f : Option Callable) → Q (is_closure marked (kind_of f)) (later_row x (sort_seen marked f))
+  by_kind : (marked : Bool) (f : Option Callable) → Q (is_closure_if marked (kind_of f)) (later_row x (sort_seen marked f))
   by_kind marked None = other
-  by_kind marked (Some f) = elim f.kind as (λ k. let d : Callable = record { kind = k; maker = f.maker } in Q (is_closure marked (kind_of (Some d))) (later_row x (sort_seen marked (Some d)))) [
+  by_kind marked (Some f) = elim f.kind as (λ k. let d : Callable = record { kind = k; maker = f.maker } in Q (is_closure_if marked (kind_of (Some d))) (later_row x (sort_seen marked (Some d)))) [
     | kind.Code n ↦ elim marked as (λ b. let d : Callable = record { kind = kind.Code n; maker = f.maker } in Q b (later_row x (sort_seen b (Some d)))) [
       | true ↦ waits
       | false ↦ other
@@ -71,14 +73,14 @@ module _ (Q : Bool → Row → Type 0) (x : Handle) (waits : Q true (settles (qu
     | kind.Exophoric n w ↦ other
   ]
 
-  by_class : (n : ℕ) (h : Objects) (o : ℕ) (k : Class) → Q (can_wait_by k h o) (later_row x (see_object n h o k).sight)
+  by_class : (n : ℕ) (h : Objects) (o : ℕ) (k : Class) → Q (is_closure_object k h o) (later_row x (see_object n h o k).sight)
   by_class n h o class.Object = other
   by_class n h o class.Array = other
   by_class n h o class.Function = by_kind (is_some (own h o simple_mark)) (callable_of (object_at h o))
   by_class n h o class.Error = other
   by_class n h o class.Node = other
 
-  by_sight : (n : ℕ) (h : Objects) (value : Value) → Q (can_wait h value) (later_row x (see h n value).sight)
+  by_sight : (n : ℕ) (h : Objects) (value : Value) → Q (is_closure h value) (later_row x (see h n value).sight)
   by_sight n h v.Undefined = other
   by_sight n h v.Null = other
   by_sight n h (v.Bool b) = other
@@ -92,7 +94,7 @@ queue_is n m f qs = sym (put_is [] m (queue_of m qs ++ f ∷ []) qs n)
 
 later_kept : (by m : ℕ) (self : Value) (args more : List Value) (h : Objects) (z : Kept) → named h self ≡ tag.Own m 1 → (n : ℕ)
     → IsKept (does place_of by (later_row (rows.argument 0 (suc (length args))) (see h n (argument 0 args)).sight) (self ∷ (args ++ more)) h (page_of z) [])
-    (later_done (can_wait h (argument 0 args)) by h) z (with_waiting m (can_wait h (argument 0 args)) (argument 0 args) z)
+    (later_done (is_closure h (argument 0 args)) by h) z (with_waiting m (is_closure h (argument 0 args)) (argument 0 args) z)
 later_kept by m self args more h z own n =
     let f = value_in place_of (self ∷ (args ++ more)) (rows.argument 0 (suc (length args))) in
     by_sight
@@ -110,14 +112,15 @@ later_kept by m self args more h z own n =
       runtime = refl;
       imports = refl;
       touching = refl;
+      answers = refl;
     })
-    (record { reply = refl; heap = refl; told = sym (append-nil z.told); cells = λ cell. refl; queues = λ k. refl; nodes = λ root. refl; facets = λ root. refl; handlers = λ root. refl; runtime = refl; imports = refl; touching = refl })
+    (record { reply = refl; heap = refl; told = sym (append-nil z.told); cells = λ cell. refl; queues = λ k. refl; nodes = λ root. refl; facets = λ root. refl; handlers = λ root. refl; runtime = refl; imports = refl; touching = refl; answers = refl })
     n h (argument 0 args)
 
 pub later_does_its_row : (m : ℕ) → DoesItsRow (c.Later m) r.later (tag.Own m 1)
 later_does_its_row m rules by this self args h z own =
     let n = suc (length args) in
-    subst (λ x. IsKept (does place_of by (later_row (rows.argument 0 n) (see h n x).sight) ((self ∷ args) ++ (see h n x).values) h (page_of z) []) (later_done (can_wait h (argument 0 args)) by h) z (with_waiting m (can_wait h (argument 0 args)) (argument 0 args) z))
+    subst (λ x. IsKept (does place_of by (later_row (rows.argument 0 n) (see h n x).sight) ((self ∷ args) ++ (see h n x).values) h (page_of z) []) (later_done (is_closure h (argument 0 args)) by h) z (with_waiting m (is_closure h (argument 0 args)) (argument 0 args) z))
     (sym (held_now self args)) (later_kept by m self args (see h n (argument 0 args)).values h z own n)
 
 -- get and set of a cell
@@ -135,6 +138,7 @@ get_does_its_row cell rules by this self args h z own = record {
   runtime = refl;
   imports = refl;
   touching = refl;
+  answers = refl;
 }
 
 pub set_does_its_row : (cell : ℕ) → DoesItsRow (c.Set cell) r.set (tag.Cell cell 2)
@@ -150,4 +154,5 @@ set_does_its_row cell rules by this self args h z own = let x = value_in place_o
   runtime = refl;
   imports = refl;
   touching = refl;
+  answers = refl;
 }

@@ -4,8 +4,9 @@ use Rattle.std.specs.Prelude.{nat_eq, nat_lt}
 use Rattle.std.proofs.lemmas.Bool.Decides.{nat_tests}
 use Rattle.std.proofs.lemmas.List.{map-set, get_or-map, map-append, length-map, get_or-set_same, get_or-set_other, get_or_past, set-get_or, length-set}
 use Rattle.es3_objects.specs.declared.value.Value.{Value}
-use Rattle.page_natives.specs.Natives.{Kept, padded, queue_of, added, rest_of}
-use Rattle.page_natives.proofs.Padded.{padded_more, padded_same}
+use Rattle.dom_facets.specs.Places.{padded}
+use Rattle.page_natives.specs.Natives.{Kept, queue_of, added, rest_of}
+use Rattle.dom_facets.proofs.Padded.{padded_more, padded_same}
 
 module _ {A : Type 0} (items : A → List Value) (qs : List A) where
   -- an empty queue more, where there are fewer

@@ -10,8 +10,6 @@ use Rattle.page_natives.specs.declared.built_ins.Tool.{Tool}
 use Rattle.page_natives.specs.declared.built_ins.Tool.TheVariants as tool
 use Rattle.page_natives.specs.declared.built_ins.Method.{Method}
 use Rattle.page_natives.specs.declared.built_ins.Method.TheVariants as m
-use Rattle.page_natives.specs.declared.built_ins.NodeMethod.{NodeMethod}
-use Rattle.page_natives.specs.declared.built_ins.NodeMethod.TheVariants as n
 use Rattle.page_natives.specs.declared.built_ins.BuiltIn.{BuiltIn}
 use Rattle.page_natives.specs.declared.built_ins.BuiltIn.TheVariants as b
 use Rattle.page_natives.specs.declared.built_ins.TheConstants.{ROWS, OBJECT_FUNCTIONS}
@@ -46,25 +44,6 @@ method_done m.Pop by this args h = row_done r.pop by this args h
 method_done m.Shift by this args h = row_done r.shift by this args h
 method_done m.Reverse by this args h = row_done r.turn by this args h
 
--- the row of a method of nodes
-abbrev pub of_node : NodeMethod → r.Native
-of_node n.GetTagName = r.get_tag_name
-of_node n.GetParentNode = r.get_parent_node
-of_node n.GetChildNodes = r.get_child_nodes
-of_node n.GetElementById = r.get_element_by_id
-of_node n.GetAttribute = r.get_attribute
-of_node n.SetAttribute = r.set_attribute
-of_node n.GetText = r.get_text
-of_node n.SetText = r.set_text
-of_node n.CreateElement = r.create_element
-of_node n.CreateTextNode = r.create_text_node
-of_node n.AppendChild = r.append_child
-of_node n.RemoveChild = r.remove_child
-of_node n.On = r.on
-
-abbrev pub node_done : NodeMethod → ℕ → Value → List Value → Objects → Done
-node_done f by this args h = row_done (of_node f) by this args h
-
 -- the row of a built-in function; five are no rows, since only texts have them
 abbrev pub done_of : BuiltIn → ℕ → Value → List Value → Objects → Done
 done_of (b.Tool t) by this args h = tool_done t by this args h
@@ -83,13 +62,12 @@ done_of b.RangeError by this args h = row_done (r.makes r.range_error) by this a
 done_of b.Call by this args h = row_done r.call by this args h
 done_of b.Apply by this args h = row_done r.apply by this args h
 done_of (b.Method m) by this args h = method_done m by this args h
-done_of (b.OfNode m) by this args h = node_done m by this args h
 done_of b.Object by this args h = object_from by (argument 0 args) h
 done_of b.Function by this args h = function_from by h
 done_of b.Array by this args h = array_from by args h
 done_of b.ToString by this args h = to_text this h
 done_of b.ValueOf by this args h = to_value this h
 
--- the built-in function of a number: the rows from 2 on in the order of their numbers, and the five from 59 on
+-- the built-in function of a number: the rows from 2 on in the order of their numbers, without those of nodes, and the five from 59 on
 abbrev pub built_in : ℕ → Option BuiltIn
 built_in n = if nat_lt n 2 then None else if nat_lt n 59 then slice_get ROWS (n - 2) else slice_get OBJECT_FUNCTIONS (n - 59)

@@ -1,26 +1,27 @@
 -- The natives of a page name live objects alone.
-use Rattle.std.proofs.Common.{ℕ, zero, suc, ◌+◌, ◌-◌, ◌<◌, get_or, Bool, true, false, List, [], ◌∷◌, ◌++◌, All, length, cond, Option, Some, None, Ok, Err, lt_of_lt_of_le, le_trans}
-use Rattle.std.proofs.lemmas.List.Elements.{All-nil, All-head, All-tail, All-push, All-append, All-set, All-replicate, All-weaker}
-use Rattle.std.specs.Prelude.{codes, nat_lt, Result}
+use Rattle.std.proofs.Common.{ℕ, zero, suc, ◌<◌, get_or, Bool, true, false, List, [], ◌∷◌, ◌++◌, All, length, Option, Some, None, Ok, Err, lt_of_lt_of_le, le_trans}
+use Rattle.std.proofs.lemmas.List.Elements.{All-nil, All-head, All-tail, All-push, All-weaker}
+use Rattle.std.specs.Prelude.{codes, Result}
 use Rattle.plans.specs.Plans.{Fault}
 use Rattle.es3_objects.specs.declared.value.Value.{Value}
 use Rattle.es3_objects.specs.declared.value.Value.TheVariants as v
 use Rattle.es3_heap.specs.Objects.{Objects}
-use Rattle.es3_heap.specs.Making.{array_object}
 use Rattle.es3_convert.specs.Conversions.{and_then, text_of}
-use Rattle.es3_language.specs.Natives.{value_reply}
+use Rattle.es3_language.specs.Natives.{Turn}
 use Rattle.es3_live.specs.Live.{IsLive, AreClosed, Later}
 use Rattle.es3_live.specs.Keeps.{AfterCall, KeepsLive}
 use Rattle.es3_live.proofs.Growth.{all_more, later_refl}
 use Rattle.rows.specs.Rows as r
-use Rattle.rows.specs.Rows.{most_items}
-use Rattle.heap_rows.specs.Doing.{Told, said, makes, too_long}
+use Rattle.heap_rows.specs.Doing.{Told, said, Done}
 use Rattle.heap_rows.specs.Opening.{built_ins_there}
 use Rattle.row_outcomes.specs.Arguments.{argument, told}
-use Rattle.row_outcomes.specs.Arrays.{new_array}
 use Rattle.live_rows.specs.Live.{LiveDone}
-use Rattle.live_rows.proofs.Made.{throws_live, array_live, copy_live}
+use Rattle.live_rows.proofs.Made.{throws_live, copy_live}
 use Rattle.live_tables.proofs.Among.{built_in_live}
+use Rattle.guard_marks.specs.Closures.{is_closure}
+use Rattle.tamed_dom.specs.Lent.{Lent}
+use Rattle.tamed_dom.specs.Ends as ends
+use Rattle.tamed_dom.specs.Methods.{node_turn}
 use Rattle.guard_runtime.specs.Guards as guards
 use Rattle.guard_runtime.proofs.Live.{load_module_live, guard_live}
 use Rattle.page_log.specs.Items.{touch_told}
@@ -33,8 +34,10 @@ use Rattle.page_natives.specs.declared.built_ins.BuiltIn.TheVariants as b
 use Rattle.page_natives.specs.declared.natives.Callee.{Callee}
 use Rattle.page_natives.specs.declared.natives.Callee.TheVariants as c
 use Rattle.page_natives.specs.Objects.{object_from, array_from}
-use Rattle.page_natives.specs.BuiltIns.{tool_done, method_done, of_node, done_of}
-use Rattle.page_natives.specs.Natives.{Kept, kept_fits, imports_of, tells, callee_of, can_wait, cell_value, queue_of, padded, put_at, added, say_done, with_said, later_done, with_waiting, done_by, kept_by, turn_by, page_table}
+use Rattle.page_natives.specs.Answered.{turn_of}
+use Rattle.page_natives.specs.BuiltIns.{tool_done, method_done, done_of}
+use Rattle.page_natives.specs.Natives.{Kept, kept_fits, imports_of, tells, callee_of, cell_value, cell_done, set_done, with_kept, queue_of, added, say_done, with_said, later_done, with_waiting, with_node_turn, done_by, kept_by, turn_by, page_table}
+use Rattle.page_natives.specs.NodeKeeps.{LiveLent, lent_more, AfterNode, put_holds, new_array_live, argument_live, node_live}
 
 -- the functions that are no rows
 
@@ -48,12 +51,6 @@ object_live by (v.Bool b) h closed live = refused by h closed
 object_live by (v.Num n) h closed live = refused by h closed
 object_live by (v.Text us) h closed live = refused by h closed
 object_live by (v.Obj o) h closed live = record { later = later_refl h; closed = closed; answer = live }
-
-new_array_live : (by : ℕ) (h : Objects) (vs : List Value) → AreClosed h → All (IsLive (length h.list)) vs → LiveDone h (new_array by h vs)
-new_array_live by h vs closed live = elim (nat_lt (length vs) most_items) as (λ few. LiveDone h (cond few (makes value_reply by (array_object vs) h []) (too_long h []))) [
-  | true ↦ array_live false by vs h [] closed live
-  | false ↦ record { later = later_refl h; closed = closed; answer = tt }
-]
 
 array_from_live : (by : ℕ) (vs : List Value) (h : Objects) → AreClosed h → All (IsLive (length h.list)) vs → LiveDone h (array_from by vs h)
 array_from_live by [] h closed live = new_array_live by h [] closed live
@@ -69,10 +66,6 @@ array_from_live by (x ∷ y ∷ vs) h closed live = new_array_live by h (x ∷ y
 text_live : (t : Result (List ℕ) Fault) (h : Objects) → AreClosed h → LiveDone h (told (and_then t (λ us. Ok (v.Text us))) h)
 text_live (Ok us) h closed = record { later = later_refl h; closed = closed; answer = tt }
 text_live (Err f) h closed = record { later = later_refl h; closed = closed; answer = tt }
-
-argument_live : (n : ℕ) (vs : List Value) → All (IsLive n) vs → IsLive n (argument 0 vs)
-argument_live n [] live = tt
-argument_live n (x ∷ vs) live = All-head (IsLive n) x vs live
 
 -- the rows
 
@@ -120,8 +113,7 @@ done_live b.RangeError by this args h there closed a l = built_in_live (r.makes 
 done_live b.Call by this args h there closed a l = built_in_live r.call by this args h there closed a l
 done_live b.Apply by this args h there closed a l = built_in_live r.apply by this args h there closed a l
 done_live (b.Method m) by this args h there closed a l = method_live m by this args h there closed a l
-done_live (b.OfNode m) by this args h there closed a l = built_in_live (of_node m) by this args h there closed a l
-done_live b.Object by this args h there closed a l = object_live by (argument 0 args) h closed (argument_live (length h.list) args l)
+done_live b.Object by this args h there closed a l = object_live by (argument 0 args) h closed (argument_live (length h.list) 0 args l)
 done_live b.Function by this args h there closed a l = refused by h closed
 done_live b.Array by this args h there closed a l = array_from_live by args h closed l
 done_live b.ToString by this args h there closed a l = text_live (text_of h this) h closed
@@ -142,10 +134,6 @@ cell_live n cell [] live = tt
 cell_live n zero (x ∷ cells) live = All-head (IsLive n) x cells live
 cell_live n (suc cell) (x ∷ cells) live = cell_live n cell cells (All-tail (IsLive n) x cells live)
 
--- what holds of all that stands in a list, and of what was put there, and of what is new beside that
-put_holds : {A : Type 0} (P : A → Type 0) (d : A) (i : ℕ) (x : A) (xs : List A) → P d → P x → All P xs → All P (put_at d i x xs)
-put_holds P d i x xs new here all = All-set P (padded d (i + 1) xs) i x here (All-append P xs _ all (All-replicate P (i + 1 - length xs) d new))
-
 queue_live : (n m : ℕ) (qs : List (List Value)) → All (All (IsLive n)) qs → All (IsLive n) (queue_of m qs)
 queue_live n m [] live = All-nil (IsLive n)
 queue_live n zero (q ∷ qs) live = All-head (All (IsLive n)) q qs live
@@ -163,7 +151,7 @@ imported_live n runtime (o ∷ imports) (suc m) there live = imported_live n run
 
 -- what is told names no object
 told_fits : (items : List Told) (h : Objects) (z : Kept) → kept_fits z h → kept_fits (tells items z) h
-told_fits items h z fits = record { runtime = fits.runtime; imports = fits.imports; built_ins = fits.built_ins; cells = fits.cells; waiting = fits.waiting }
+told_fits items h z fits = record { runtime = fits.runtime; imports = fits.imports; built_ins = fits.built_ins; cells = fits.cells; waiting = fits.waiting; facets = fits.facets; handlers = fits.handlers }
 
 said_fits : (m : ℕ) (t : Result (List ℕ) Fault) (h : Objects) (z : Kept) → kept_fits z h → kept_fits (with_said m t z) h
 said_fits m (Ok us) h z fits = told_fits (said m us ∷ []) h z fits
@@ -176,35 +164,15 @@ waiting_fits m true x h z fits live = record {
   built_ins = fits.built_ins;
   cells = fits.cells;
   waiting = added_live (length h.list) m x z.waiting fits.waiting live;
+  facets = fits.facets;
+  handlers = fits.handlers;
 }
 waiting_fits m false x h z fits live = fits
 
--- all of them
+-- what is lent of the document
 
-callee_live : (f : Callee) (by : ℕ) (this : Value) (args : List Value) (h : Objects) (z : Kept) → kept_fits z h → AreClosed h → IsLive (length h.list) this → All (IsLive (length h.list)) args → LiveDone h (done_by f by this args h z)
-callee_live (c.BuiltIn f) by this args h z fits closed a l = done_live f by this args h fits.built_ins closed a l
-callee_live c.LoadModule by this args h z fits closed a l =
-    load_module_live z.runtime (imports_of by z) by (argument 0 args) h closed fits.runtime (imported_live (length h.list) z.runtime z.imports by fits.runtime fits.imports) (argument_live (length h.list) args l)
-callee_live (c.Guard g) by this args h z fits closed a l = guard_live g by args h fits.built_ins closed l
-callee_live (c.Say m) by this args h z fits closed a l = say_live (text_of h (argument 0 args)) h closed
-callee_live (c.Later m) by this args h z fits closed a l = later_live (can_wait h (argument 0 args)) by h closed
-callee_live (c.Get cell) by this args h z fits closed a l = record { later = later_refl h; closed = closed; answer = cell_live (length h.list) cell z.cells fits.cells }
-callee_live (c.Set cell) by this args h z fits closed a l = record { later = later_refl h; closed = closed; answer = tt }
-
-callee_fits : (f : Callee) (by : ℕ) (args : List Value) (h : Objects) (z : Kept) → kept_fits z h → All (IsLive (length h.list)) args → kept_fits (kept_by f by args h z) h
-callee_fits (c.BuiltIn f) by args h z fits live = fits
-callee_fits c.LoadModule by args h z fits live = fits
-callee_fits (c.Guard g) by args h z fits live = told_fits (guards.done_of g by args h).items h z fits
-callee_fits (c.Say m) by args h z fits live = said_fits m (text_of h (argument 0 args)) h z fits
-callee_fits (c.Later m) by args h z fits live = waiting_fits m (can_wait h (argument 0 args)) (argument 0 args) h z fits (argument_live (length h.list) args live)
-callee_fits (c.Get cell) by args h z fits live = fits
-callee_fits (c.Set cell) by args h z fits live = record {
-  runtime = fits.runtime;
-  imports = fits.imports;
-  built_ins = fits.built_ins;
-  cells = put_holds (IsLive (length h.list)) v.Undefined cell (argument 0 args) z.cells tt (argument_live (length h.list) args live) fits.cells;
-  waiting = fits.waiting;
-}
+lent_of : (z : Kept) (h : Objects) → kept_fits z h → LiveLent (length h.list) z.dom
+lent_of z h fits = record { facets = fits.facets; handlers = fits.handlers }
 
 fits_later : (z : Kept) (h g : Objects) → kept_fits z h → Later h g → kept_fits z g
 fits_later z h g fits later = record {
@@ -213,12 +181,57 @@ fits_later z h g fits later = record {
   built_ins = le_trans fits.built_ins later.more;
   cells = all_more z.cells later.more fits.cells;
   waiting = All-weaker (All (IsLive (length h.list))) (All (IsLive (length g.list))) (λ q. all_more q later.more) z.waiting fits.waiting;
+  facets = (lent_more z.dom later.more (lent_of z h fits)).facets;
+  handlers = (lent_more z.dom later.more (lent_of z h fits)).handlers;
 }
 
+-- all of them
+
+-- what came to this, where what is kept then fits the objects that there were
+steady : (d : Done) (k : Kept) (h : Objects) → LiveDone h d → kept_fits k h → AfterCall kept_fits h (turn_of d k)
+steady d k h live fits = record { later = live.later; closed = live.closed; answer = live.answer; kept = fits_later k h d.heap fits live.later }
+
+set_fits : (cell : ℕ) (x : Value) (h : Objects) (z : Kept) → kept_fits z h → IsLive (length h.list) x → kept_fits (with_kept cell x z) h
+set_fits cell x h z fits live = record {
+  runtime = fits.runtime;
+  imports = fits.imports;
+  built_ins = fits.built_ins;
+  cells = put_holds (IsLive (length h.list)) v.Undefined cell x z.cells tt live fits.cells;
+  waiting = fits.waiting;
+  facets = fits.facets;
+  handlers = fits.handlers;
+}
+
+node_after : (t : Turn Lent) (h : Objects) (z : Kept) → AfterNode h t → kept_fits z h → AfterCall kept_fits h (turn_of (ends.done_of t) (with_node_turn t z))
+node_after t h z after fits = let more = fits_later z h t.heap fits after.done.later in record {
+  later = after.done.later;
+  closed = after.done.closed;
+  answer = after.done.answer;
+  kept = record { runtime = more.runtime; imports = more.imports; built_ins = more.built_ins; cells = more.cells; waiting = more.waiting; facets = after.lent.facets; handlers = after.lent.handlers };
+}
+
+callee_after : (f : Callee) (by : ℕ) (this : Value) (args : List Value) (h : Objects) (z : Kept) → kept_fits z h → AreClosed h → IsLive (length h.list) this → All (IsLive (length h.list)) args
+    → AfterCall kept_fits h (turn_of (done_by f by this args h z) (kept_by f by this args h z))
+callee_after (c.BuiltIn f) by this args h z fits closed a l = steady (done_of f by this args h) z h (done_live f by this args h fits.built_ins closed a l) fits
+callee_after (c.OfNode m) by this args h z fits closed a l = node_after (node_turn z.answers m by this args h z.dom) h z (node_live z.answers m by this args h z.dom closed l (lent_of z h fits)) fits
+callee_after c.LoadModule by this args h z fits closed a l =
+    steady (guards.load_module z.runtime (imports_of by z) by (argument 0 args) h) z h
+    (load_module_live z.runtime (imports_of by z) by (argument 0 args) h closed fits.runtime (imported_live (length h.list) z.runtime z.imports by fits.runtime fits.imports) (argument_live (length h.list) 0 args l))
+    fits
+callee_after (c.Guard g) by this args h z fits closed a l =
+    steady (guards.done_of g by args h) (tells (guards.done_of g by args h).items z) h (guard_live g by args h fits.built_ins closed l) (told_fits (guards.done_of g by args h).items h z fits)
+callee_after (c.Say m) by this args h z fits closed a l =
+    steady (say_done (text_of h (argument 0 args)) h) (with_said m (text_of h (argument 0 args)) z) h (say_live (text_of h (argument 0 args)) h closed) (said_fits m (text_of h (argument 0 args)) h z fits)
+callee_after (c.Later m) by this args h z fits closed a l =
+    let f = argument 0 args in
+    steady (later_done (is_closure h f) by h) (with_waiting m (is_closure h f) f z) h (later_live (is_closure h f) by h closed) (waiting_fits m (is_closure h f) f h z fits (argument_live (length h.list) 0 args l))
+callee_after (c.Get cell) by this args h z fits closed a l =
+    steady (cell_done cell z.cells h) z h (record { later = later_refl h; closed = closed; answer = cell_live (length h.list) cell z.cells fits.cells }) fits
+callee_after (c.Set cell) by this args h z fits closed a l =
+    steady (set_done h) (with_kept cell (argument 0 args) z) h (record { later = later_refl h; closed = closed; answer = tt }) (set_fits cell (argument 0 args) h z fits (argument_live (length h.list) 0 args l))
+
 answer_live : (f : Option Callee) (by : ℕ) (this : Value) (args : List Value) (h : Objects) (z : Kept) → kept_fits z h → AreClosed h → IsLive (length h.list) this → All (IsLive (length h.list)) args → AfterCall kept_fits h (turn_by f by this args h z)
-answer_live (Some f) by this args h z fits closed a l =
-    let d = callee_live f by this args h z fits closed a l in
-    record { later = d.later; closed = d.closed; answer = d.answer; kept = fits_later (kept_by f by args h z) h (done_by f by this args h z).heap (callee_fits f by args h z fits l) d.later }
+answer_live (Some f) by this args h z fits closed a l = callee_after f by this args h z fits closed a l
 answer_live None by this args h z fits closed a l =
     let d = throws_live by (codes "not a function") h [] closed in
     record { later = d.later; closed = d.closed; answer = d.answer; kept = fits_later z h _ fits d.later }

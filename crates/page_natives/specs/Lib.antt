@@ -2,5 +2,8 @@ pub mod Answered
 pub mod BuiltIns
 pub mod Keeps
 pub mod Natives
+pub mod NodeKeeps
+pub mod NodeMethods
+pub mod Nodes
 pub mod Objects
 pub mod OwnFunctions

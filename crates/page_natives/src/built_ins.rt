@@ -2,7 +2,7 @@
 
 ghost use Rattle.std.specs.Prelude.{◌≡◌, ◌≤◌, length, slice_get};
 ghost use Rattle.row_outcomes.specs.Comes.{Comes};
-ghost use Rattle.page_natives.specs.BuiltIns.{tool_done, method_done, node_done, done_of, built_in};
+ghost use Rattle.page_natives.specs.BuiltIns.{tool_done, method_done, done_of, built_in};
 
 use crate::objects::{array_from, function_from, object_from, to_string, value_of};
 use builtin_array::{concat, join, pop, push, reverse, shift, slice, unshift};
@@ -15,7 +15,7 @@ use builtin_string::{
 };
 use es3_heap::{Heap, Stop, Value};
 use freeze_marks::tools;
-use row_outcomes::{Outcome, thrown};
+use row_outcomes::Outcome;
 use std::alloc::Global;
 
 /// A function of the record `cajita`.
@@ -51,24 +51,6 @@ pub enum Method {
     Reverse,
 }
 
-/// A method of nodes.
-#[derive(Clone, Copy, Debug)]
-pub enum NodeMethod {
-    GetTagName,
-    GetParentNode,
-    GetChildNodes,
-    GetElementById,
-    GetAttribute,
-    SetAttribute,
-    GetText,
-    SetText,
-    CreateElement,
-    CreateTextNode,
-    AppendChild,
-    RemoveChild,
-    On,
-}
-
 /// A built-in function.
 #[derive(Clone, Copy, Debug)]
 pub enum BuiltIn {
@@ -88,7 +70,6 @@ pub enum BuiltIn {
     Call,
     Apply,
     Method(Method),
-    OfNode(NodeMethod),
     Object,
     Function,
     Array,
@@ -102,8 +83,8 @@ const FIRST_ROW: u32 = 2;
 /// The number of the first of the functions that are no rows.
 const FIRST_OBJECT_FUNCTION: u32 = 59;
 
-/// The rows in the order of their numbers.
-const ROWS: [BuiltIn; 50] = [
+/// The rows in the order of their numbers, without those of nodes, which follow them.
+const ROWS: [BuiltIn; 37] = [
     BuiltIn::Tool(Tool::Freeze),
     BuiltIn::Tool(Tool::IsFrozen),
     BuiltIn::Tool(Tool::Copy),
@@ -141,19 +122,6 @@ const ROWS: [BuiltIn; 50] = [
     BuiltIn::Method(Method::Pop),
     BuiltIn::Method(Method::Shift),
     BuiltIn::Method(Method::Reverse),
-    BuiltIn::OfNode(NodeMethod::GetTagName),
-    BuiltIn::OfNode(NodeMethod::GetParentNode),
-    BuiltIn::OfNode(NodeMethod::GetChildNodes),
-    BuiltIn::OfNode(NodeMethod::GetElementById),
-    BuiltIn::OfNode(NodeMethod::GetAttribute),
-    BuiltIn::OfNode(NodeMethod::SetAttribute),
-    BuiltIn::OfNode(NodeMethod::GetText),
-    BuiltIn::OfNode(NodeMethod::SetText),
-    BuiltIn::OfNode(NodeMethod::CreateElement),
-    BuiltIn::OfNode(NodeMethod::CreateTextNode),
-    BuiltIn::OfNode(NodeMethod::AppendChild),
-    BuiltIn::OfNode(NodeMethod::RemoveChild),
-    BuiltIn::OfNode(NodeMethod::On),
 ];
 
 /// The functions that are no rows, in the order of their numbers.
@@ -240,22 +208,6 @@ fn method_done(
     }
 }
 
-/// A method of nodes comes to a TypeError `bad receiver`: no page has nodes.
-#[tactic(auto, using(crate::proofs::Nodes::refused_comes))]
-fn node_done(
-    alloc: Global,
-    h: &mut Heap,
-    method: NodeMethod,
-    by: u32,
-    this: &Value,
-    args: &[Value],
-) -> Result<Outcome, Stop>
-    ensures outcome { Comes (node_done method by this.now args.now h.old) result h.new }
-    ensures live { length h.old.list ≤ length h.new.list }
-{
-    thrown(alloc, h, by, b"bad receiver")
-}
-
 /// What a built-in function comes to.
 pub(crate) fn done(
     alloc: Global,
@@ -290,6 +242,5 @@ pub(crate) fn done(
         BuiltIn::ToString => to_string(alloc, h, this),
         BuiltIn::ValueOf => value_of(alloc, h, this),
         BuiltIn::Method(method) => method_done(alloc, h, method, by, this, args),
-        BuiltIn::OfNode(method) => node_done(alloc, h, method, by, this, args),
     }
 }

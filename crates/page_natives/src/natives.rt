@@ -1,6 +1,10 @@
 //! What the modules of a page and a text may call, each by its number, and what that keeps.
 
 ghost use Rattle.std.specs.Prelude.{◌≡◌, ◌≤◌, ◌%◌, ◌/◌, ◌-◌, ◌++◌, ◌∷◌, [], true, IfOk, OnOk, OnErr, Ok, length, slice_get, replicate};
+ghost use Rattle.url_rule.specs.Table.{rows_of};
+ghost use Rattle.html_urls.specs.Answers.{for_documents};
+ghost use Rattle.dom_facets.specs.Places.{padded, put_at};
+ghost use Rattle.guard_marks.specs.Closures.{is_closure};
 ghost use Rattle.std.specs.Option.{option_copied};
 ghost use Rattle.es3_convert.specs.Conversions.{text_of};
 ghost use Rattle.es3_moves.specs.Answers.{Answers};
@@ -9,23 +13,28 @@ ghost use Rattle.guard_runtime.specs.Guards as guards;
 ghost use Rattle.page_log.specs.Items.{label_of, end_of};
 ghost use Rattle.guard_touches.specs.Touches.{told_if};
 ghost use Rattle.page_natives.specs.Answered.{answered, turn_of};
-ghost use Rattle.page_natives.specs.Natives.{Kept, kept_of, new_kept, importing, imports_of, tells, queue_of, without_first, kept_fits, own_callee, callee_of, can_wait, say_done, with_said, later_done, with_waiting, cell_done, set_done, padded, put_at, with_kept, done_by, kept_by, page_table};
+ghost use Rattle.page_natives.specs.Natives.{Kept, kept_of, new_kept, importing, imports_of, tells, queue_of, without_first, kept_fits, own_callee, callee_of, say_done, with_said, later_done, with_waiting, cell_done, set_done, with_kept, done_by, kept_by, page_table};
 ghost use Rattle.page_natives.specs.Keeps.{page_keeps_live};
 
 use crate::built_ins::{BuiltIn, built_in, done};
+use crate::nodes::{node_method, tell_change};
 use crate::objects::value_of;
-use crate::waiting::{can_wait, take_first, wait_in};
+use crate::waiting::{take_first, wait_in};
 use caja_units::{Memory, Units};
 use es3_convert::{out_of_memory, to_text};
 use es3_heap::{Heap, ObjId, Stop, Tag, Value};
 use es3_language::Touch;
 use es3_moves::natives::{Answer, Natives};
+use guard_marks::is_closure;
 use guard_runtime::{Guard, call_guard, guard_at, load_module};
 use guard_touches::touched_by;
 use page_log::{Ended, Item, Label};
 use row_outcomes::{Outcome, thrown, value_or};
 use std::alloc::Global;
 use std::collections::VecDeque;
+use tamed_dom::{Dom, NodeMethod, node_row};
+use url::Url;
+use url_rule::{UriRow, UriRule};
 
 /// The number of `loadModule`; those of the guards follow it.
 pub const LOAD_MODULE: u32 = 64;
@@ -40,6 +49,7 @@ const MOST_MODULES: usize = 64;
 #[derive(Clone, Copy, Debug)]
 pub enum Callee {
     BuiltIn(BuiltIn),
+    OfNode(NodeMethod),
     LoadModule,
     Guard(Guard),
     /// `say` of a module.
@@ -76,8 +86,11 @@ fn callee_of(which: u32) -> Option<Callee>
     if which == LOAD_MODULE {
         return Some(Callee::LoadModule);
     }
-    match built_in(which) {
-        Some(function) => Some(Callee::BuiltIn(function)),
+    if let Some(function) = built_in(which) {
+        return Some(Callee::BuiltIn(function));
+    }
+    match node_method(which) {
+        Some(method) => Some(Callee::OfNode(method)),
         None => Some(Callee::Guard(guard_at(which)?)),
     }
 }
@@ -111,6 +124,12 @@ pub struct PageNatives {
     pub cells: Vec<Value>,
     /// For each module the functions that wait to be called, the first in front; none waits in a queue behind them.
     pub waiting: Vec<VecDeque<Value>>,
+    /// The document, as modules see it.
+    pub dom: Dom,
+    /// Which URLs an attribute may be given.
+    pub urls: UriRule<Vec<UriRow>>,
+    /// What such a URL is joined to.
+    pub base: Option<Url>,
 }
 
 /// Makes so many cells at least; new ones hold nothing.
@@ -156,10 +175,18 @@ fn key_copy(alloc: Global, key: Option<&Units>) -> Result<Option<Units>, Memory>
 }
 
 impl PageNatives {
-    /// Natives of which none was called, for at most 64 modules. Touches are told where they are asked for. The only error is want
-    /// of memory.
-    pub fn new(alloc: Global, runtime: ObjId, touching: bool) -> Result<PageNatives, Memory>
-        ensures { IfOk result (λ natives. kept_of natives ≡ new_kept runtime touching) }
+    /// Natives of which none was called, for at most 64 modules, with what is lent of a document, and the rule that says which URLs an
+    /// attribute may be given, joined to the base where there is one. Touches are told where they are asked for. The only error is
+    /// want of memory.
+    pub fn new(
+        alloc: Global,
+        runtime: ObjId,
+        touching: bool,
+        dom: Dom,
+        urls: UriRule<Vec<UriRow>>,
+        base: Option<Url>,
+    ) -> Result<PageNatives, Memory>
+        ensures { IfOk result (λ natives. kept_of natives ≡ new_kept runtime touching dom (for_documents (rows_of urls.table.items) base)) }
     {
         Ok(PageNatives {
             runtime,
@@ -168,6 +195,9 @@ impl PageNatives {
             told: Vec::new(alloc),
             cells: Vec::new(alloc),
             waiting: Vec::new(alloc),
+            dom,
+            urls,
+            base,
         })
     }
 
@@ -281,10 +311,10 @@ impl PageNatives {
         by: u32,
         value: &Value,
     ) -> Result<Outcome, Stop>
-        ensures answers { let waits = can_wait h.old value.now in Answers (turn_of (later_done waits by h.old) (with_waiting owner waits value.now (kept_of self.old))) (answered result) h.new (kept_of self.new) }
+        ensures answers { let waits = is_closure h.old value.now in Answers (turn_of (later_done waits by h.old) (with_waiting owner waits value.now (kept_of self.old))) (answered result) h.new (kept_of self.new) }
         ensures live { length h.old.list ≤ length h.new.list }
     {
-        if !can_wait(alloc, h, value).map_err(out_of_memory)? {
+        if !is_closure(alloc, h, value).map_err(out_of_memory)? {
             return thrown(alloc, h, by, b"bad argument");
         }
         let function = value.copy(alloc).map_err(out_of_memory)?;
@@ -320,6 +350,36 @@ impl PageNatives {
         }
     }
 
+    /// A method of a node, behind which the line of its change is told.
+    fn node(
+        &mut self,
+        alloc: Global,
+        h: &mut Heap,
+        method: NodeMethod,
+        by: u32,
+        this: &Value,
+        args: &[Value],
+    ) -> Result<Outcome, Stop>
+        ensures answers { Answers (turn_of (done_by (Callee.OfNode method) by this.now args.now h.old (kept_of self.old)) (kept_by (Callee.OfNode method) by this.now args.now h.old (kept_of self.old))) (answered result) h.new (kept_of self.new) }
+        ensures live { length h.old.list ≤ length h.new.list }
+    {
+        let base = self.base.as_ref();
+        let outcome = node_row(
+            alloc,
+            h,
+            &mut self.dom,
+            method,
+            by,
+            this,
+            args,
+            &self.urls,
+            base,
+        );
+        let change = self.dom.take_change();
+        tell_change(&mut self.told, change).map_err(out_of_memory)?;
+        outcome
+    }
+
     /// What a callee comes to.
     #[tactic(auto, using(crate::proofs::Answered::comes_answers))]
     fn outcome(
@@ -331,13 +391,14 @@ impl PageNatives {
         this: &Value,
         args: &[Value],
     ) -> Result<Outcome, Stop>
-        ensures answers { Answers (turn_of (done_by callee by this.now args.now h.old (kept_of self.old)) (kept_by callee by args.now h.old (kept_of self.old))) (answered result) h.new (kept_of self.new) }
+        ensures answers { Answers (turn_of (done_by callee by this.now args.now h.old (kept_of self.old)) (kept_by callee by this.now args.now h.old (kept_of self.old))) (answered result) h.new (kept_of self.new) }
         ensures live { length h.old.list ≤ length h.new.list }
     {
         let absent = Value::Undefined;
         let first = value_or(args, 0, &absent);
         match callee {
             Callee::BuiltIn(function) => done(alloc, h, function, by, this, args),
+            Callee::OfNode(method) => self.node(alloc, h, method, by, this, args),
             Callee::LoadModule => {
                 let imports = self.imports_of(by);
                 load_module(alloc, h, by, first, self.runtime, imports)

@@ -30,7 +30,7 @@ use Rattle.page_runner.proofs.Here.{heap_here, changed_here, started_here}
 use Rattle.page_runner.proofs.Turns.{one_turn, turn_cut, turn_over, turn_told, loaded}
 
 -- the turn of what was started
-turn_of_started : (b c : Runner) (result : Result Completion Stop) (s : Started) (x : Store) → RunsOn b result c → started_of b.machine ≡ Some s → HasStore b.heap b.machine x
+pub turn_of_started : (b c : Runner) (result : Result Completion Stop) (s : Started) (x : Store) → RunsOn b result c → started_of b.machine ≡ Some s → HasStore b.heap b.machine x
     → TurnCame result (run_started page_table (Some s) x (kept_of b.natives) b.left) c
 turn_of_started b c result s x runs started here = subst (λ o. TurnCame result (run_started page_table o x (kept_of b.natives) b.left) c) started (runs x here)
 
@@ -43,7 +43,7 @@ load_begun : (m : ℕ) (p : t.Tree t.program) (gs : deed.Grants) (a b : Runner) 
 load_begun m p gs a b x starts here =
     let r = results_of a.results.items in
     let now : x.heap ≡ a.heap = heap_here a.heap a.machine x here in
-    let imported = λ (h : Objects). with_imports_of m (granted_pairs a.modules r gs) h in
+    let imported = λ (h : Objects). with_imports_of m (granted_pairs a.modules r (kept_of a.natives).dom gs) h in
     let objects : b.heap ≡ imported x.heap = starts.heap ∙ ap imported (sym now) in
     let kept : kept_of b.natives ≡ importing m (length x.heap.list) (kept_of a.natives) = starts.kept ∙ ap (λ (h : Objects). importing m (length h.list) (kept_of a.natives)) (sym now) in
     ap (λ n. one_turn a.modules (deed.to_load m p gs) (λ y k. program_plan p m y) n r (with_heap x b.heap) (kept_of b.natives)) starts.left

@@ -2,6 +2,9 @@ pub mod Begun
 pub mod Done
 pub mod Ends
 pub mod Granted
+pub mod Happened
 pub mod Here
 pub mod Loop
+pub mod Opened
+pub mod Rooted
 pub mod Turns

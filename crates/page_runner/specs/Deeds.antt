@@ -8,14 +8,15 @@ use Rattle.es3_tree.specs.View.{program}
 use Rattle.heap_rows.specs.Opening.{fixed_values}
 use Rattle.page_runner.specs.Page.{Deed as PlainDeed}
 use Rattle.page_runner.specs.declared.deeds.Grant.{Grant}
-use Rattle.page_runner.specs.declared.deeds.Grant.TheVariants.{Cell, Module, Value}
+use Rattle.page_runner.specs.declared.deeds.Grant.TheVariants.{Cell, Module, Value, Root}
 use Rattle.page_runner.specs.declared.deeds.Deed.{Deed}
-use Rattle.page_runner.specs.declared.deeds.Deed.TheVariants.{Load, Call, Tick}
+use Rattle.page_runner.specs.declared.deeds.Deed.TheVariants.{Load, Call, Tick, Click, Input}
 
 abbrev pub grant_of : Grant → deed.Grant
 grant_of (Cell c) = deed.a_cell c
 grant_of (Module m) = deed.a_result m
 grant_of (Value p) = deed.a_plain (plain p)
+grant_of (Root r) = deed.a_root r
 
 abbrev pub grants_of : List (List ℕ × Grant) → deed.Grants
 grants_of gs = map (λ g. (g.0, grant_of g.1)) gs
@@ -24,6 +25,8 @@ abbrev pub deed_of : Deed → PlainDeed
 deed_of (Load m p gs) = deed.to_load m (program p) (grants_of gs.items)
 deed_of (Call k m key args) = deed.to_call k m key (map plain args.items)
 deed_of (Tick k m) = deed.to_tick k m
+deed_of (Click k id root n) = deed.to_click k id root n
+deed_of (Input k id root n us) = deed.to_input k id root n us
 
 abbrev pub deeds_of : List Deed → List PlainDeed
 deeds_of ds = map deed_of ds
@@ -50,3 +53,5 @@ abbrev pub DeedFits : ℕ → Deed → Type 0
 DeedFits modules (Load m p gs) = (m < modules) × GrantsFit gs.items
 DeedFits modules (Call k m key args) = m < modules
 DeedFits modules (Tick k m) = m < modules
+DeedFits modules (Click k id root n) = Unit {0}
+DeedFits modules (Input k id root n us) = Unit {0}

@@ -1,7 +1,9 @@
 -- Where a page is while it runs, and what it has come to.
 use Rattle.std.specs.Prelude.{◌≡◌, ℕ, ◌≤◌, List, length, Some, Result, Ok, Err, get_or}
 use Rattle.plans.specs.Plans.{Run as RunOf, number_fault, depth_fault, convert_fault, over, stopped, out}
-use Rattle.page_deeds.specs.Deeds.{Grants}
+use Rattle.page_deeds.specs.Deeds.{Grants, Label, to_click, to_input, of_click, of_input}
+use Rattle.dom_handlers.specs.declared.kinds.EventKind.{EventKind}
+use Rattle.dom_handlers.specs.declared.kinds.EventKind.TheVariants.{Click, Input}
 use Rattle.es3_tree.specs.Tree as t
 use Rattle.es3_objects.specs.declared.value.Value.{Value}
 use Rattle.es3_objects.specs.declared.value.Value.TheVariants.{Undefined}
@@ -15,7 +17,7 @@ use Rattle.es3_machine.specs.Machine.{completed, a_program, run_started}
 use Rattle.es3_machine.specs.Held.{Held, started_of, store_in}
 use Rattle.page_natives.specs.Natives.{Kept, kept_of, importing, page_table}
 use Rattle.module_loader.specs.Turns.{Results, granted_pairs, with_imports_of}
-use Rattle.page_runner.specs.Page.{Run, no_results}
+use Rattle.page_runner.specs.Page.{Deed, Run, no_results}
 use Rattle.page_runner.specs.declared.runner.Runner.{Runner}
 
 -- a machine at its top, over these objects, is where the meaning has this store
@@ -70,10 +72,19 @@ From p P = (x : Store) → HasStore p.heap p.machine x → P (results_of p.resul
 -- the program of a module is started, where it may import what it is granted
 pub record LoadStarts (m : ℕ) (p : t.Tree t.program) (gs : Grants) (before after : Runner) : Type 0 where
   pub started : started_of after.machine ≡ Some (a_program p m)
-  pub heap : after.heap ≡ with_imports_of m (granted_pairs before.modules (results_of before.results.items) gs) before.heap
+  pub heap : after.heap ≡ with_imports_of m (granted_pairs before.modules (results_of before.results.items) (kept_of before.natives).dom gs) before.heap
   pub here : (x : Store) → HasStore before.heap before.machine x → HasStore after.heap after.machine (with_heap x after.heap)
   pub kept : kept_of after.natives ≡ importing m (length before.heap.list) (kept_of before.natives)
   pub left : after.left ≡ before.left
+
+-- what happens to a root's node, as a deed, and what the log calls it; the text is that of an input
+abbrev pub node_deed : EventKind → ℕ → List ℕ → ℕ → ℕ → List ℕ → Deed
+node_deed Click k id root n us = to_click k id root n
+node_deed Input k id root n us = to_input k id root n us
+
+abbrev pub node_label : EventKind → ℕ → List ℕ → ℕ → Label
+node_label Click k id root = of_click k id root
+node_label Input k id root = of_input k id root
 
 -- before its first deed
 pub record Begins (p : Runner) (x : Store) (z : Kept) (m n : ℕ) : Type 0 where

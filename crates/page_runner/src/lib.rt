@@ -2,6 +2,7 @@
 #![tactic(auto)]
 
 mod deeds;
+mod nodes;
 mod runner;
 mod running;
 mod values;

@@ -3,19 +3,22 @@
 ghost use Rattle.std.specs.Prelude.{◌≡◌, ℕ, ◌≤◌, All, IfOk, length};
 ghost use Rattle.es3_machine.specs.Held.{new_store};
 ghost use Rattle.heap_rows.specs.Opening.{runtime_id, globals_id};
-ghost use Rattle.global_names.specs.Opening.{text_objects, text_globals};
+ghost use Rattle.global_names.specs.Opening.{with_global_names, text_globals};
+ghost use Rattle.url_rule.specs.Table.{rows_of};
+ghost use Rattle.html_urls.specs.Answers.{for_documents};
 ghost use Rattle.page_log.specs.Items.{names_of};
 ghost use Rattle.page_natives.specs.Natives.{kept_of, new_kept};
-ghost use Rattle.module_loader.specs.Turns.{page_store};
+ghost use Rattle.module_loader.specs.Turns.{page_store, page_objects, page_lent};
 ghost use Rattle.page_runner.specs.Page.{es3_page};
 ghost use Rattle.page_runner.specs.Deeds.{deeds_of, DeedFits};
 ghost use Rattle.page_runner.specs.Runner.{results_of, Holds, Begins};
-ghost use Rattle.page_runner.specs.Outcome.{Shows, ShowsOf, SaysOf, run_from};
+ghost use Rattle.page_runner.specs.Outcome.{Shows, ShowsOf, SaysOf, rule_of, run_from};
 ghost use Rattle.page_runner.specs.Texts.{texts_store};
 
 use crate::deeds::Deed;
 use crate::runner::Runner;
 use caja_units::Memory;
+use doc_tree::Document;
 use es3_heap::{Stop, Value};
 use es3_machine::Machine;
 use global_names::add_global_names;
@@ -23,13 +26,20 @@ use module_loader::{Opened, open_page};
 use page_log::{Names, log};
 use page_natives::PageNatives;
 use std::alloc::Global;
+use url::Url;
+use url_rule::{UriRow, UriRule};
 
-/// A page: the names of its modules and of its cells, how many of each there are, and what is done in it.
+/// A page: the names of its modules, of its cells and of its roots, how many of each there are, its document, which URLs are given
+/// to the document, joined to the base where there is one, and what is done in it.
 #[derive(Drop)]
 pub struct Page {
     pub names: Names,
     pub modules: u32,
     pub cells: u32,
+    pub roots: u32,
+    pub document: Document,
+    pub urls: UriRule<Vec<UriRow>>,
+    pub base: Option<Url>,
     pub deeds: Vec<Deed>,
 }
 
@@ -43,11 +53,12 @@ pub enum End {
     Steps,
 }
 
-/// What a page showed: its log, in bytes, how many lines that has, and how the page ended.
+/// What a page showed: its log, in bytes, how many lines that has, its document as it stood at the end, written as HTML, and how the page ended.
 #[derive(Debug, Drop)]
 pub struct Outcome {
     pub log: Vec<u8>,
     pub lines: u64,
+    pub html: Vec<u8>,
     pub end: End,
 }
 
@@ -67,19 +78,21 @@ fn no_results(alloc: Global, modules: u32) -> Result<Vec<Value>, Memory>
 fn begin(
     alloc: Global,
     opened: Opened,
+    urls: UriRule<Vec<UriRow>>,
+    base: Option<Url>,
     modules: u32,
     steps: u64,
     touching: bool,
 ) -> Result<Runner, Memory>
     requires few { modules ≤ 64 }
     ensures holds { IfOk result (λ p. Holds p) }
-    ensures here { IfOk result (λ p. Begins p (new_store opened.heap opened.globals) (new_kept opened.runtime touching) modules steps) }
+    ensures here { IfOk result (λ p. Begins p (new_store opened.heap opened.globals) (new_kept opened.runtime touching opened.dom (for_documents (rows_of urls.table.items) base)) modules steps) }
 {
     Ok(Runner {
         alloc,
         heap: opened.heap,
         machine: Machine::new(alloc, opened.globals)?,
-        natives: PageNatives::new(alloc, opened.runtime, touching)?,
+        natives: PageNatives::new(alloc, opened.runtime, touching, opened.dom, urls, base)?,
         modules,
         results: no_results(alloc, modules)?,
         left: steps,
@@ -113,28 +126,32 @@ fn show(
     let end = ended_as(answer)?;
     let log = log(alloc, names, &natives.told)?;
     let lines = natives.told.len() as u64;
-    Ok(Outcome { log, lines, end })
+    let html = natives.dom.doc.print()?;
+    Ok(Outcome {
+        log,
+        lines,
+        html,
+        end,
+    })
 }
 
-/// Runs a page over a store that was opened.
+/// Runs deeds over a store that was opened.
 fn run_opened(
     alloc: Global,
     opened: Opened,
-    page: Page,
+    names: Names,
+    urls: UriRule<Vec<UriRow>>,
+    base: Option<Url>,
+    modules: u32,
+    deeds: Vec<Deed>,
     steps: u64,
     touching: bool,
 ) -> Result<Outcome, Memory>
-    requires few_modules { page.modules ≤ 64 }
-    requires fit { All (DeedFits page.modules) page.deeds.items }
-    ensures { IfOk result (λ o. Shows (names_of page.names) (es3_page page.modules (deeds_of page.deeds.items) (new_store opened.heap opened.globals) (new_kept opened.runtime touching) steps) o) }
+    requires few_modules { modules ≤ 64 }
+    requires fit { All (DeedFits modules) deeds.items }
+    ensures { IfOk result (λ o. Shows (names_of names) (es3_page modules (deeds_of deeds.items) (new_store opened.heap opened.globals) (new_kept opened.runtime touching opened.dom (for_documents (rows_of urls.table.items) base)) steps) o) }
 {
-    let Page {
-        names,
-        modules,
-        cells: _,
-        deeds,
-    } = page;
-    let mut runner = begin(alloc, opened, modules, steps, touching)?;
+    let mut runner = begin(alloc, opened, urls, base, modules, steps, touching)?;
     let answer = runner.run_deeds(deeds);
     show(alloc, &names, &runner.natives, answer)
 }
@@ -147,22 +164,43 @@ fn run_opened(
 pub fn run_page(alloc: Global, page: Page, steps: u64, touching: bool) -> Result<Outcome, Memory>
     requires few_modules { page.modules ≤ 64 }
     requires few_cells { page.cells ≤ 64 }
+    requires all_roots { page.roots ≡ length page.document.roots }
     requires fit { All (DeedFits page.modules) page.deeds.items }
-    ensures { IfOk result (λ o. Shows (names_of page.names) (run_from page (page_store page.modules page.cells) touching steps) o) }
+    ensures { IfOk result (λ o. Shows (names_of page.names) (run_from page (page_store page.modules page.cells page.document) touching steps) o) }
 {
-    let opened = open_page(alloc, page.modules, page.cells)?;
-    run_opened(alloc, opened, page, steps, touching)
+    let Page {
+        names,
+        modules,
+        cells,
+        roots,
+        document,
+        urls,
+        base,
+        deeds,
+    } = page;
+    let opened = open_page(alloc, modules, cells, document, roots)?;
+    run_opened(
+        alloc, opened, names, urls, base, modules, deeds, steps, touching,
+    )
 }
 
 /// The store that a page of texts begins in, with the global object of a text (ES3 15.1).
-fn open_texts(alloc: Global, modules: u32, cells: u32) -> Result<Opened, Memory>
+fn open_texts(
+    alloc: Global,
+    modules: u32,
+    cells: u32,
+    document: Document,
+    roots: u32,
+) -> Result<Opened, Memory>
     requires few_modules { modules ≤ 64 }
     requires few_cells { cells ≤ 64 }
-    ensures heap { IfOk result (λ o. o.heap ≡ text_objects modules cells) }
+    requires all_roots { roots ≡ length document.roots }
+    ensures heap { IfOk result (λ o. o.heap ≡ with_global_names (page_objects modules cells document)) }
+    ensures dom { IfOk result (λ o. o.dom ≡ page_lent modules cells document) }
     ensures runtime { IfOk result (λ o. o.runtime ≡ runtime_id) }
-    ensures globals { IfOk result (λ o. o.globals ≡ text_globals modules cells) }
+    ensures globals { IfOk result (λ o. o.globals ≡ text_globals (page_objects modules cells document)) }
 {
-    let mut opened = open_page(alloc, modules, cells)?;
+    let mut opened = open_page(alloc, modules, cells, document, roots)?;
     opened.globals = add_global_names(alloc, &mut opened.heap)?;
     Ok(opened)
 }
@@ -175,9 +213,22 @@ fn open_texts(alloc: Global, modules: u32, cells: u32) -> Result<Opened, Memory>
 pub fn run_texts(alloc: Global, page: Page, steps: u64, touching: bool) -> Result<Outcome, Memory>
     requires few_modules { page.modules ≤ 64 }
     requires few_cells { page.cells ≤ 64 }
+    requires all_roots { page.roots ≡ length page.document.roots }
     requires fit { All (DeedFits page.modules) page.deeds.items }
-    ensures { IfOk result (λ o. Shows (names_of page.names) (run_from page (texts_store page.modules page.cells) touching steps) o) }
+    ensures { IfOk result (λ o. Shows (names_of page.names) (run_from page (texts_store page.modules page.cells page.document) touching steps) o) }
 {
-    let opened = open_texts(alloc, page.modules, page.cells)?;
-    run_opened(alloc, opened, page, steps, touching)
+    let Page {
+        names,
+        modules,
+        cells,
+        roots,
+        document,
+        urls,
+        base,
+        deeds,
+    } = page;
+    let opened = open_texts(alloc, modules, cells, document, roots)?;
+    run_opened(
+        alloc, opened, names, urls, base, modules, deeds, steps, touching,
+    )
 }

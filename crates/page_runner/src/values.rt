@@ -1,6 +1,6 @@
 //! The values that modules are granted and that events pass.
 
-ghost use Rattle.std.specs.Prelude.{◌≡◌, ◌≤◌, All, IfOk, map};
+ghost use Rattle.std.specs.Prelude.{◌≡◌, ◌≤◌, ◌∷◌, [], All, IfOk, map};
 ghost use Rattle.module_loader.specs.Turns.{plain_value, granted_value, granted_pairs};
 ghost use Rattle.host_rules.specs.Plain.{plain as plain_of};
 ghost use Rattle.page_runner.specs.Deeds.{grant_of, grants_of, GrantFits};
@@ -11,6 +11,7 @@ use caja_units::{Memory, Units};
 use es3_heap::{ObjId, Value};
 use host_rules::Plain;
 use std::alloc::Global;
+use tamed_dom::Dom;
 
 /// Where the functions of the first module stand: two for each module, and behind them three objects for each cell.
 const FIRST_SAY: u32 = 82;
@@ -38,6 +39,15 @@ pub fn plain_values(alloc: Global, plains: Vec<Plain>) -> Result<Vec<Value>, Mem
     Ok(values)
 }
 
+/// A list of one value.
+pub(crate) fn alone(alloc: Global, value: &Value) -> Result<Vec<Value>, Memory>
+    ensures { IfOk result (λ values. values.items ≡ value.now ∷ []) }
+{
+    let mut values = Vec::new(alloc);
+    values.push(value.copy(alloc)?)?;
+    Ok(values)
+}
+
 /// The result of a module, undefined where there is none.
 fn result_of(alloc: Global, results: &[Value], owner: u32) -> Result<Value, Memory>
     ensures { IfOk result (λ value. value ≡ results_of results.now owner) }
@@ -48,16 +58,17 @@ fn result_of(alloc: Global, results: &[Value], owner: u32) -> Result<Value, Memo
     }
 }
 
-/// What a grant is, among so many modules, with the results of those that were loaded.
+/// What a grant is, among so many modules, with the results of those that were loaded and the document.
 fn granted_value(
     alloc: Global,
     modules: u32,
     results: &[Value],
+    dom: &Dom,
     grant: Grant,
 ) -> Result<Value, Memory>
     requires few { modules ≤ 64 }
     requires fits { GrantFits grant }
-    ensures { IfOk result (λ value. value ≡ granted_value modules (results_of results.now) (grant_of grant)) }
+    ensures { IfOk result (λ value. value ≡ granted_value modules (results_of results.now) dom.now (grant_of grant)) }
 {
     match grant {
         Grant::Cell(cell) => {
@@ -66,6 +77,7 @@ fn granted_value(
         }
         Grant::Module(owner) => result_of(alloc, results, owner),
         Grant::Value(plain) => Ok(plain_value(plain)),
+        Grant::Root(root) => Ok(dom.object_of(root, 0)),
     }
 }
 
@@ -74,15 +86,16 @@ pub fn granted_values(
     alloc: Global,
     modules: u32,
     results: &[Value],
+    dom: &Dom,
     grants: Vec<(Units, Grant)>,
 ) -> Result<Vec<(Units, Value)>, Memory>
     requires few { modules ≤ 64 }
     requires fit { All (λ g. GrantFits g.1) grants.items }
-    ensures { IfOk result (λ values. values.items ≡ granted_pairs modules (results_of results.now) (grants_of grants.items)) }
+    ensures { IfOk result (λ values. values.items ≡ granted_pairs modules (results_of results.now) dom.now (grants_of grants.items)) }
 {
     let mut values = Vec::new(alloc);
     for (name, grant) in grants {
-        let value = granted_value(alloc, modules, results, grant)?;
+        let value = granted_value(alloc, modules, results, dom, grant)?;
         values.push((name, value))?;
     }
     Ok(values)

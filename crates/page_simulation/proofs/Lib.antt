@@ -1,7 +1,9 @@
 pub mod Shown
+pub mod Nodes
 pub mod Between
 pub mod Sides
 pub mod Loads
 pub mod Calls
 pub mod Ticks
+pub mod Happens
 pub mod Theorem

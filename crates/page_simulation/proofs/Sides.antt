@@ -9,6 +9,7 @@ use Rattle.es3_objects.specs.declared.value.Value as es_value
 use Rattle.es3_language.specs.Store.{Store}
 use Rattle.es3_language.specs.Natives.{Touched}
 use Rattle.es3_language.specs.Meaning as Target
+use Rattle.doc_nodes.specs.Rows.{Doc}
 use Rattle.rows.specs.Nodes.{Rules}
 use Rattle.cajita_meaning.specs.World.{Value, World}
 use Rattle.cajita_meaning.specs.Direct as Source
@@ -61,7 +62,7 @@ begun_kept' modules (to_load m p gs) r s y = told_before y (es3.begin modules (t
 begun_kept' modules (to_call k m key args) r s y = as_before y
 begun_kept' modules (to_tick k m) r s y = tick_kept' m ((page_of y).queues m) s y
 begun_kept' modules (to_click k id root n) r s y = as_before y
-begun_kept' modules (to_input k id root n us) r s y = as_before y
+begun_kept' modules (to_input k id root n us) r s y = told_before y (es3.with_input root n us y) refl refl
 
 abbrev pub right_grows : (modules : ℕ) → GrowsOn (es3.evaluator modules) TellsMore
 right_grows modules = record {
@@ -75,13 +76,13 @@ right_grows modules = record {
 abbrev pub no_turn : ℕ → ℕ → Turn
 no_turn modules cells = record { load = true; began = begun modules cells }
 
-abbrev pub both_pages : (rules : Rules) (modules cells : ℕ) → PageSides direct.Deed direct.Results Source.Task Source.Completion World Item (List Item) es3.Deed Results Target.Task Target.Completion Store Touched Kept
-both_pages rules modules cells = record {
+abbrev pub both_pages : (rules : Rules) (modules cells : ℕ) (doc : Doc) → PageSides direct.Deed direct.Results Source.Task Source.Completion World Item (List Item) es3.Deed Results Target.Task Target.Completion Store Touched Kept
+both_pages rules modules cells doc = record {
   sides = page_sides rules (no_turn modules cells);
   left = direct.evaluator rules;
   right = es3.evaluator modules;
   grows = left_grows rules;
-  After = After modules cells;
+  After = After rules modules cells doc;
   after_affords = λ i r w z t r' s y k a. affords a;
   after_begins = λ i r w z t r' s y k a. begins a;
 }

@@ -60,9 +60,9 @@ page
 {"version":1.0,"modules":[]}
 ⇒
 refused - page 3 0
-# 4: a document
+# 4: styles
 page
-{"version":1,"html":"<p></p>","modules":[]}
+{"version":1,"styles":[],"modules":[]}
 ⇒
 refused - page 4 0
 # 4: an event with a field too many

@@ -2,4 +2,3 @@ pub mod Entries
 pub mod Present
 pub mod Slots
 pub mod Running
-mod Numbers

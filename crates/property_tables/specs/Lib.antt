@@ -1,4 +1,3 @@
 pub mod Fields
 pub mod Indexed
 pub mod Running
-pub mod Numbers

@@ -4,7 +4,6 @@
 
 mod field;
 mod indexed;
-mod key_numbers;
 mod list;
 mod props;
 mod run;

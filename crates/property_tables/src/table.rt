@@ -8,9 +8,9 @@ ghost use Rattle.indexmap.specs.IndexMap.{insert_entry};
 ghost use Rattle.caja_units.specs.Units.{same_units};
 ghost use Rattle.property_tables.specs.Indexed.{is_index_from};
 
-use crate::key_numbers::KeyNumbers;
 use caja_units::{Memory, Units};
 use indexmap::IndexMap;
+use key_numbers::KeyNumbers;
 use std::alloc::Global;
 use std::marker::Model;
 

@@ -3,18 +3,24 @@ use Rattle.std.proofs.Common.{◌≡◌, Bool, true, false, [], ◌∷◌, inl, 
 use Rattle.std.specs.Prelude.{◌↔◌, if◌then◌else◌}
 use Rattle.std.proofs.lemmas.Bool.{false≢true}
 use Rattle.reach_report.specs.declared.Node.{Node}
-use Rattle.reach_report.specs.declared.Node.TheVariants.{Module, Cell}
+use Rattle.reach_report.specs.declared.Node.TheVariants.{Module, Cell, Root}
 use Rattle.reach_report.specs.Links.{Links, IsLink, Linked, itself, linked, back, onward, same_node, joined, representative}
 
 pub node_true : (a b : Node) → same_node a b ≡ true → a ≡ b
 node_true (Module m) (Module n) h = ap Module (eqb-true m n h)
 node_true (Cell m) (Cell n) h = ap Cell (eqb-true m n h)
+node_true (Root m) (Root n) h = ap Root (eqb-true m n h)
 node_true (Module m) (Cell n) h = absurd (false≢true h)
+node_true (Module m) (Root n) h = absurd (false≢true h)
 node_true (Cell m) (Module n) h = absurd (false≢true h)
+node_true (Cell m) (Root n) h = absurd (false≢true h)
+node_true (Root m) (Module n) h = absurd (false≢true h)
+node_true (Root m) (Cell n) h = absurd (false≢true h)
 
 pub node_itself : (a : Node) → same_node a a ≡ true
 node_itself (Module m) = eq-eqb m m refl
 node_itself (Cell m) = eq-eqb m m refl
+node_itself (Root m) = eq-eqb m m refl
 
 more_links : (ls : Links) (l : Node × Node) (a b : Node) → Linked ls a b → Linked (l ∷ ls) a b
 more_links ls l a b (itself c) = itself a

@@ -1,19 +1,19 @@
--- What is together on a page: the least partition of its modules and cells in which a module is together with what it is granted.
+-- What is together on a page: the least partition of its modules, cells and granted roots in which a module is together with what it is granted.
 use Rattle.std.specs.Prelude.{◌≡◌, ◌⊎◌, ℕ, suc, Bool, false, List, [], ◌∷◌, ◌++◌, nat_eq, if◌then◌else◌}
 use Rattle.page_deeds.specs.Deeds.{a_cell, a_result, a_plain, a_root, Grants}
 use Rattle.reach_report.specs.declared.Node.{Node}
-use Rattle.reach_report.specs.declared.Node.TheVariants.{Module, Cell}
+use Rattle.reach_report.specs.declared.Node.TheVariants.{Module, Cell, Root}
 
 abbrev pub Links : Type 0
 Links = List (Node × Node)
 
--- a module is linked with each cell that it is granted, and with each module whose result it is granted. A manifest grants no roots
+-- a module is linked with each cell and each root that it is granted, and with each module whose result it is granted
 abbrev pub grant_links : ℕ → Grants → Links
 grant_links m [] = []
 grant_links m ((name, a_cell k) ∷ gs) = (Module m, Cell k) ∷ grant_links m gs
 grant_links m ((name, a_result n) ∷ gs) = (Module m, Module n) ∷ grant_links m gs
 grant_links m ((name, a_plain v) ∷ gs) = grant_links m gs
-grant_links m ((name, a_root root) ∷ gs) = grant_links m gs
+grant_links m ((name, a_root r) ∷ gs) = (Module m, Root r) ∷ grant_links m gs
 
 -- the links of the modules from m on, by the grants of each
 abbrev pub links_from : ℕ → List Grants → Links
@@ -40,8 +40,8 @@ pub data Linked (ls : Links) : Node → Node → Type 0 where
 abbrev pub same_node : Node → Node → Bool
 same_node (Module m) (Module n) = nat_eq m n
 same_node (Cell j) (Cell k) = nat_eq j k
-same_node (Module m) (Cell k) = false
-same_node (Cell k) (Module m) = false
+same_node (Root q) (Root r) = nat_eq q r
+same_node a b = false
 
 -- what stands for x, once the class of b has joined that of a
 abbrev pub joined : Node → Node → Node → Node

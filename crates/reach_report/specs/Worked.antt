@@ -1,6 +1,6 @@
 -- Pages to be looked at: what each module is granted.
 use Rattle.std.specs.Prelude.{List, [], ◌∷◌, codes}
-use Rattle.page_deeds.specs.Deeds.{a_cell, a_result, Grants}
+use Rattle.page_deeds.specs.Deeds.{a_cell, a_result, a_root, Grants}
 
 abbrev pub nobody_is_granted_anything : List Grants
 nobody_is_granted_anything = [] ∷ [] ∷ [] ∷ []
@@ -8,6 +8,10 @@ nobody_is_granted_anything = [] ∷ [] ∷ [] ∷ []
 -- two modules with the same cell
 abbrev pub a_shared_cell : List Grants
 a_shared_cell = ((codes "k", a_cell 0) ∷ []) ∷ ((codes "k", a_cell 0) ∷ []) ∷ []
+
+-- two modules with the same root, and one with another
+abbrev pub a_shared_root : List Grants
+a_shared_root = ((codes "doc", a_root 0) ∷ []) ∷ ((codes "other", a_root 1) ∷ []) ∷ ((codes "doc", a_root 0) ∷ []) ∷ []
 
 -- the second is granted the result of the first, the third nothing
 abbrev pub a_lent_counter : List Grants

@@ -1,6 +1,7 @@
 //! The groups of a page's modules: which of them may touch the same things.
 //!
-//! Two modules are together where a cell is granted to both, or the result of one is granted to the other, and then so are those that are together with either.
+//! Two modules are together where a cell or a root of the document is granted to both, or the result of one is granted to the other, and then so are those that are
+//! together with either.
 //! The definitions stand in specs/: what is linked, and the least partition that follows from it (specs/Links.antt); how its classes are listed
 //! (specs/Groups.antt), for a page as its manifest tells of it (specs/Pages.antt).
 //!
@@ -21,14 +22,15 @@ mod pages;
 pub use list::groups;
 pub use pages::{page_groups, page_links};
 
-/// What may be together on a page: a module or a cell, each by its number from 0.
+/// What may be together on a page: a module, a cell or a granted root of its document, each by its number from 0.
 #[derive(Debug, Clone, Copy, PartialEq, Eq)]
 pub enum Node {
     Module(u32),
     Cell(u32),
+    Root(u32),
 }
 
-/// Two modules or cells have one representative exactly where the least partition has them together.
+/// Two modules, cells or roots have one representative exactly where the least partition has them together.
 #[tactic(auto, using(crate::proofs::Classes::groups_are_classes))]
 pub fn representatives_tell_the_classes()
     ensures { (ls : Links) (a b : Node) → (representative ls a ≡ representative ls b) ↔ Linked ls a b }
@@ -63,6 +65,11 @@ pub fn modules_without_grants_are_apart()
 /// Two modules that are granted one cell are a group.
 pub fn a_shared_cell_joins()
     ensures { groups (page_links worked.a_shared_cell) 2 ≡ (0 ∷ 1 ∷ []) ∷ [] }
+{}
+
+/// Two modules that are granted one root are a group, and one with another root is by itself.
+pub fn a_shared_root_joins()
+    ensures { groups (page_links worked.a_shared_root) 3 ≡ (0 ∷ 2 ∷ []) ∷ (1 ∷ []) ∷ [] }
 {}
 
 /// A module whose result is lent is in one group with who has it, and a third module is by itself.

@@ -16,6 +16,7 @@ fn is_same(a: Node, b: Node) -> bool
     match (a, b) {
         (Node::Module(m), Node::Module(n)) => m == n,
         (Node::Cell(j), Node::Cell(k)) => j == k,
+        (Node::Root(q), Node::Root(r)) => q == r,
         _ => false,
     }
 }

@@ -70,7 +70,7 @@ module _ {first : Objects} {places : Native → ℕ} {m : ℕ} (h : Objects) (w 
   AreNodes root ms = IsChange (g.nodes root) ms
 
   -- as many as before
-  as_many_are : (root : ℕ) (ms : List Node) → AreNodes root ms → length ms ≡ length (g.nodes root) → KeptIs first places m h (with_nodes root ms w) (record { heap = h; page = record { cells = g.cells; queues = g.queues; nodes = es3.with_of root ms g.nodes; facets = g.facets; handlers = g.handlers } })
+  pub as_many_are : (root : ℕ) (ms : List Node) → AreNodes root ms → length ms ≡ length (g.nodes root) → KeptIs first places m h (with_nodes root ms w) (record { heap = h; page = record { cells = g.cells; queues = g.queues; nodes = es3.with_of root ms g.nodes; facets = g.facets; handlers = g.handlers } })
   as_many_are root ms c long = record {
     objects = o;
     keeps = keeps_refl;

@@ -1,8 +1,9 @@
 -- What is kept of a page's document for its modules.
-use Rattle.std.specs.Prelude.{ℕ, List, [], Option, None, length, nat_lt, if◌then◌else◌}
+use Rattle.std.specs.Prelude.{ℕ, List, [], Option, Some, None, length, nat_lt, if◌then◌else◌}
 use Rattle.es3_objects.specs.declared.value.Value.{Value}
+use Rattle.es3_objects.specs.declared.value.Value.TheVariants as v
 use Rattle.es3_heap.specs.Objects.{Objects}
-use Rattle.doc_nodes.specs.Rows.{Doc}
+use Rattle.doc_nodes.specs.Rows.{Doc, node_with}
 use Rattle.node_deeds.specs.declared.told.Change.{Change}
 use Rattle.node_deeds.specs.Told.{Deed}
 use Rattle.dom_facets.specs.Facets as facets
@@ -44,6 +45,18 @@ pub record Facet : Type 0 where
 
 abbrev pub facet : ℕ → Objects → Lent → Facet
 facet n h z = let f = facets.facet n z.doc h z.facets in record { object = f.object; heap = f.heap; lent = with_facets f.facets z }
+
+-- the object of a root's node, by the node's number there, where there is one
+abbrev pub as_value : Option ℕ → Value
+as_value None = v.Undefined
+as_value (Some o) = v.Obj o
+
+abbrev pub object_in : Option ℕ → Lent → Value
+object_in None z = v.Undefined
+object_in (Some n) z = as_value (facets.facet_at z.facets n)
+
+abbrev pub object_of : ℕ → ℕ → Lent → Value
+object_of root k z = object_in (node_with z.doc root k) z
 
 -- the store, with what is lent
 pub record Held : Type 0 where

@@ -8,6 +8,7 @@ use Rattle.es3_convert.specs.Conversions.{and_then, text_of}
 use Rattle.es3_language.specs.Natives.{Turn}
 use Rattle.row_outcomes.specs.Arguments.{argument}
 use Rattle.row_outcomes.specs.Arrays.{new_array}
+use Rattle.guard_marks.specs.Closures.{is_closure}
 use Rattle.html_kept.specs.Table.{Answers}
 use Rattle.doc_nodes.specs.Rows.{Doc}
 use Rattle.node_deeds.specs.declared.deeds.Asked.{Asked}
@@ -18,7 +19,6 @@ use Rattle.dom_facets.specs.Facets as facets
 use Rattle.dom_facets.specs.Facets.{node_of}
 use Rattle.dom_handlers.specs.declared.kinds.EventKind.{EventKind}
 use Rattle.dom_handlers.specs.Handlers.{kind_of}
-use Rattle.dom_handlers.specs.Closures.{may_listen}
 use Rattle.tamed_dom.specs.declared.methods.NodeMethod.{NodeMethod}
 use Rattle.tamed_dom.specs.declared.methods.NodeMethod.TheVariants as m
 use Rattle.tamed_dom.specs.Lent.{Lent, told, with_facets, with_deed, with_handler, Facet, facet, grown}
@@ -78,7 +78,7 @@ listens None b f n by h z = threw (codes "bad argument") by h z
 listens (Some k) b f n by h z = if b then gives v.Undefined h (with_handler k f n z) else threw (codes "bad argument") by h z
 
 abbrev pub on_turn : Result (List ℕ) Fault → Value → ℕ → ℕ → Objects → Lent → Turn Lent
-on_turn (Ok us) f n by h z = listens (kind_of us) (may_listen h f) f n by h z
+on_turn (Ok us) f n by h z = listens (kind_of us) (is_closure h f) f n by h z
 on_turn (Err e) f n by h z = stops e h z
 
 abbrev pub is_on : NodeMethod → Bool

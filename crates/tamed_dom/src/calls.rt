@@ -9,7 +9,7 @@ ghost use Rattle.html_urls.specs.Answers.{for_documents};
 ghost use Rattle.node_deeds.specs.Told.{as_told};
 ghost use Rattle.dom_facets.specs.Facets.{facets};
 ghost use Rattle.dom_handlers.specs.Handlers.{kind_of};
-ghost use Rattle.dom_handlers.specs.Closures.{may_listen};
+ghost use Rattle.guard_marks.specs.Closures.{is_closure};
 ghost use Rattle.tamed_dom.specs.Lent.{facet as facet_of};
 ghost use Rattle.tamed_dom.specs.Ends.{done_of, Leaves};
 ghost use Rattle.tamed_dom.specs.Methods.{shown, shown_all, told_turn, asked_turn, listens, on_turn, method_turn, node_turn, given};
@@ -19,9 +19,10 @@ use crate::given::given;
 use crate::methods::NodeMethod;
 use caja_units::Units;
 use doc_tree::NodeId;
-use dom_handlers::{EventKind, may_listen};
+use dom_handlers::EventKind;
 use es3_convert::{out_of_memory, to_text};
 use es3_heap::{Heap, Stop, Value};
+use guard_marks::is_closure;
 use node_deeds::Told;
 use row_outcomes::{Outcome, new_array, thrown, value_or};
 use std::alloc::Global;
@@ -120,11 +121,11 @@ fn register(
     kind: EventKind,
     function: &Value,
 ) -> Result<Outcome, Stop>
-    ensures outcome { Comes (done_of (listens (Some kind) (may_listen h.old function.now) function.now n by h.old d.old)) result h.new }
-    ensures dom { Leaves result (listens (Some kind) (may_listen h.old function.now) function.now n by h.old d.old).state d.new }
+    ensures outcome { Comes (done_of (listens (Some kind) (is_closure h.old function.now) function.now n by h.old d.old)) result h.new }
+    ensures dom { Leaves result (listens (Some kind) (is_closure h.old function.now) function.now n by h.old d.old).state d.new }
     ensures live { length h.old.list ≤ length h.new.list }
 {
-    if !may_listen(alloc, h, function).map_err(out_of_memory)? {
+    if !is_closure(alloc, h, function).map_err(out_of_memory)? {
         return thrown(alloc, h, by, b"bad argument");
     }
     let function = function.copy(alloc).map_err(out_of_memory)?;
@@ -142,8 +143,8 @@ fn listen(
     name: &Units,
     function: &Value,
 ) -> Result<Outcome, Stop>
-    ensures outcome { Comes (done_of (listens (kind_of name.now) (may_listen h.old function.now) function.now n by h.old d.old)) result h.new }
-    ensures dom { Leaves result (listens (kind_of name.now) (may_listen h.old function.now) function.now n by h.old d.old).state d.new }
+    ensures outcome { Comes (done_of (listens (kind_of name.now) (is_closure h.old function.now) function.now n by h.old d.old)) result h.new }
+    ensures dom { Leaves result (listens (kind_of name.now) (is_closure h.old function.now) function.now n by h.old d.old).state d.new }
     ensures live { length h.old.list ≤ length h.new.list }
 {
     match EventKind::of_name(name) {

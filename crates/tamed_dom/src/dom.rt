@@ -8,7 +8,7 @@ ghost use Rattle.node_deeds.specs.Told.{as_told};
 ghost use Rattle.node_deeds.specs.Deeds.{deed};
 ghost use Rattle.dom_facets.specs.Facets.{node_of, facets};
 ghost use Rattle.dom_handlers.specs.Handlers.{functions_of};
-ghost use Rattle.tamed_dom.specs.Lent.{new_lent, told, with_facets, with_deed, with_handler, begun, grown, facet as facet_of};
+ghost use Rattle.tamed_dom.specs.Lent.{new_lent, told, with_facets, with_deed, with_handler, begun, grown, facet as facet_of, object_of};
 
 use caja_units::Memory;
 use doc_tree::{Document, NodeId};
@@ -73,6 +73,19 @@ impl Dom {
         ensures taken { self.new ≡ told self.old }
     {
         self.change.take()
+    }
+
+    /// The object of a root's node as a value, by the node's number there, and undefined exactly where there is no such node or it has no object. It takes no memory.
+    pub fn object_of(&self, root: u32, number: u32) -> Value
+        ensures { result ≡ object_of root number self.now }
+    {
+        let Some(n) = self.doc.node_with(root, number) else {
+            return Value::Undefined;
+        };
+        match self.facets.object_of(n) {
+            Some(object) => Value::Obj(object),
+            None => Value::Undefined,
+        }
     }
 
     /// The node that a value stands for.

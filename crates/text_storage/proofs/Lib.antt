@@ -1,2 +1,1 @@
-pub mod Concat
 mod Feeding

@@ -2,7 +2,7 @@
 //! long text is not.
 #![tactic(auto)]
 
-ghost use Rattle.std.specs.Prelude.{◌≡◌, ◌≢◌, ◌+◌, ◌<◌, ◌≤◌, ◌^◌, ◌⊎◌, ◌++◌, length, slice_get, vec_len, IsTrue, IfOk, IfSome, IfNone, OnOk, All};
+ghost use Rattle.std.specs.Prelude.{◌≡◌, ◌≢◌, ◌+◌, ◌<◌, ◌≤◌, ◌^◌, ◌⊎◌, ◌++◌, length, slice_get, IsTrue, IfOk, IfSome, IfNone, OnOk, All};
 ghost use Rattle.std.specs.Fmt.{decimal};
 ghost use Rattle.std.specs.List.{slice_range};
 ghost use Rattle.text_storage.specs.Kept.{kept_units};
@@ -10,16 +10,15 @@ ghost use Rattle.text_storage.specs.Number.{number_of};
 
 mod known;
 mod number;
-mod pieces;
 mod short;
 
 use known::{Index, Key};
 use number::{number_of_pieces, number_of_units};
-use pieces::Pieces;
 use short::{MOST_SHORT, Short};
 use std::alloc::{AllocError, Global};
 use std::marker::Model;
 use std::rc::Rc;
+use text_pieces::Pieces;
 
 /// Up to this length, what is joined is copied.
 const MOST_COPIED: usize = 256;

@@ -1,6 +1,6 @@
 use Rattle.std.proofs.Common.{◌≡◌, ◌≤◌, Some, length, map, string_bytes, sym, ◌∙◌, arith}
 use Rattle.command_words.specs.Words.{command_of, longest_input}
-use Rattle.caja_cli.proofs.Promised.{lone_is_meant, are_isolated}
+use Rattle.caja_cli.proofs.Promised.{lone_is_meant, lone_document, are_isolated}
 use Rattle.caja_cli.proofs.Written.{wrote-too_long, wrote_part-too_long, wrote-read, wrote_part-read}
 use Rattle.caja_cli.proofs.caja.Goals as goal
 
@@ -84,3 +84,24 @@ returns-in-Err-perform-clause-isolated g c = are_isolated
 
 pub returns-clause-isolated : goal.returns-clause-isolated
 returns-clause-isolated g c = are_isolated
+
+pub returns-in-Err-clause-lone : goal.returns-in-Err-clause-lone
+returns-in-Err-clause-lone g c = lone_document
+
+pub returns-in-Ok-None-clause-lone : goal.returns-in-Ok-None-clause-lone
+returns-in-Ok-None-clause-lone g c = lone_document
+
+pub returns-in-Err-Failed-clause-lone : goal.returns-in-Err-Failed-clause-lone
+returns-in-Err-Failed-clause-lone g c = lone_document
+
+pub returns-in-Err-Memory-clause-lone : goal.returns-in-Err-Memory-clause-lone
+returns-in-Err-Memory-clause-lone g c = lone_document
+
+pub returns-in-Err-TooLong-clause-lone : goal.returns-in-Err-TooLong-clause-lone
+returns-in-Err-TooLong-clause-lone g c = lone_document
+
+pub returns-in-Err-perform-clause-lone : goal.returns-in-Err-perform-clause-lone
+returns-in-Err-perform-clause-lone g c = lone_document
+
+pub returns-clause-lone : goal.returns-clause-lone
+returns-clause-lone g c = lone_document

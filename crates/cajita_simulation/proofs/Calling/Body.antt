@@ -154,16 +154,21 @@ at_page H J = record J { rules = H.rules; turn = H.turn }
 body_ends : {form : Bool} {H : Here} (J : Here) {T U : Temps} {a k : ℕ} {w w' : State} {g g' : Tags} {s s' : Store} {m m' : ℕ} (go : Going) (next : Cont) (next' : Cont') → Covers T U → AreScopes s → StandsIn form H g s → Stays w g s m w' g' s' m' → NextAt form H T a k w g s m (Source.called_next go next) next' → NextEffect bare function_jumps (at_page H J) U a k w' g' s' m' (body_next H.by J.by go next) (behind' Target.body_end next')
 body_ends {form = form} {H = H} J {T = T} go next next' f are here keep x = record {
   finishes = record {
-    on = λ c1 le v v' w1 z1 n1 g1 s1 y1 m1 r1 k1. x.gives.on c1 le World.undefined es.Undefined w1 z1 n1 g1 s1 y1 m1 tt (rel_back f are here (stays_trans keep k1) r1) (stays_trans keep k1);
+    on = λ c1 le v v' w1 z1 n1 g1 s1 y1 m1 r1 k1. x.gives.on c1 le World.undefined es.Undefined w1 z1 n1 g1 s1 y1 m1 tt (rel_back refl f are here (stays_trans keep k1) r1) (stays_trans keep k1);
     breaks = λ c1 le l out v' w1 z1 n1 g1 s1 y1 m1 r1 k1. absurd (no_jump out);
     continues = λ c1 le l out v' w1 z1 n1 g1 s1 y1 m1 r1 k1. absurd (no_jump out);
   };
-  returns = λ out. record { on = λ c1 le v e w1 z1 n1 g1 s1 y1 m1 is r1 k1. passed_match {H = H} {T = T} J.by H.by (v ∷ []) (good_value v w1) go next (rel_back f are here (stays_trans keep k1) r1) (λ z2 r2. x.gives.on c1 le v e w1 z2 n1 g1 s1 y1 m1 is r2 (stays_trans keep k1)) };
-  throws = record { on = λ c1 le v e w1 z1 n1 g1 s1 y1 m1 is r1 k1. passed_match {H = H} {T = T} J.by H.by (v ∷ []) (answer bad (v ∷ []) w1) go next (rel_back f are here (stays_trans keep k1) r1) (λ z2 r2. x.throws.on c1 le v e w1 z2 n1 g1 s1 y1 m1 is r2 (stays_trans keep k1)) };
+  returns = λ out. record { on = λ c1 le v e w1 z1 n1 g1 s1 y1 m1 is r1 k1. passed_match {H = H} {T = T} J.by H.by (v ∷ []) (good_value v w1) go next (rel_back refl f are here (stays_trans keep k1) r1) (λ z2 r2. x.gives.on c1 le v e w1 z2 n1 g1 s1 y1 m1 is r2 (stays_trans keep k1)) };
+  throws = record { on = λ c1 le v e w1 z1 n1 g1 s1 y1 m1 is r1 k1. passed_match {H = H} {T = T} J.by H.by (v ∷ []) (answer bad (v ∷ []) w1) go next (rel_back refl f are here (stays_trans keep k1) r1) (λ z2 r2. x.throws.on c1 le v e w1 z2 n1 g1 s1 y1 m1 is r2 (stays_trans keep k1)) };
 }
   where
     no_jump : false ≡ true → ⊥
     no_jump e = cc
+
+-- a closure's body in its scope, without what goes to its module
+abbrev pub entered_reply : c.Tree c.func → List ℕ → ℕ → List Value → Here → State → Asking.Reply
+entered_reply (c.fun name params args body) direct by us H w =
+    Asking.body_reply body params args us (next_scope by w) (record { chain = next_scope by w ∷ direct; calls = H.around.calls + 1 }) by H.by w
 
 -- the laws of statements that both sides have entered
 abbrev pub Entries : Here → ℕ → Type 0
@@ -228,7 +233,7 @@ module _ (form : Bool) (H : Here) (T : Temps) (by i : ℕ) (name : Option (List 
       let firsts = with_vars (own_names false fs names xs) (with_params params qs []) in
       let alike : ScopeIs (named_store fs chain by s).heap pairs all_names = λ x shown. scope_alike params names fs g s by outer chain below few r.all.objects code.guest.6 x first_pairs firsts (call_alike s.heap us qs news is x shown) in
       let scopes = new_scopes by (next_scope by w) g (named_store fs chain by s) (es.Obj i) params qs scopes_new T pairs alike in
-      let begun : Related T 0 w z n' g s y m = related_steps (omega arith) (omega (arith, fits, ones1, sixes, from)) r.all in
+      let begun : Related H.rules T 0 w z n' g s y m = related_steps (omega arith) (omega (arith, fits, ones1, sixes, from)) r.all in
       let both = related_declared {k = 0} fs by outer chain below few (omega (arith, fits, ones, ones1, sixes, from)) scopes (captured_here r) code.guest.7 begun in
       let are : AreScopes scoped = scopes_are (activation (es.Obj i) params qs) all_names s tt r.all.scopes.are in
       record { all = related_told told (related_steps (omega (arith, ones, ones1, sixes, from)) fits both); here = in_stays (shaped_named fs chain by tags scoped) are are (stands_here r) }
@@ -242,11 +247,11 @@ module _ (form : Bool) (H : Here) (T : Temps) (by i : ℕ) (name : Option (List 
       body_ends {H = H} inner go next next' (declares_covers (temps c.stmts xs) T r.all.scopes) r.all.scopes.are r.here (stays_declared fs by outer chain pairs (activation (es.Obj i) params qs) all_names below (few_before from named) r.all.objects (omega (arith, ones1, sixes, from))) x
 
   -- both enter it, and bind its names
-  opened_match : {k a : ℕ} {z : List Item} {n : ℕ} {y : Kept} {m : ℕ} (go : Going) (next : Cont) (next' : Cont') → RelAt form H T k w z n g s y m
+  opened_match : {k a : ℕ} {z : List Item} {n : ℕ} {y : Kept} {m : ℕ} (go : Going) (next : Cont) (next' : Cont') → nat_lt H.around.calls 1000 ≡ true → RelAt form H T k w z n g s y m
       → ((z' : List Item) (n' : ℕ) → RelAt form H T k w z' n g s y m → n' ≡ n + count → M H a (bind (replied source go) next) z' n' (bind (Target.list true (statements false fs names xs) None (env_of inner) (bare_store fs chain by scoped) Target.body_end) next') y m)
-      → M H a (bind (replied (entry_reply (c.fun name params false (c.a_body fs names xs)) direct by us H.around.calls H.by w) go) next) z n (bind (apply_callable (heap.callable_of (heap.object_at s.heap i)) (es.Obj i) this qs (env_of H) s) next') y m
+      → M H a (bind (replied (entered_reply (c.fun name params false (c.a_body fs names xs)) direct by us H w) go) next) z n (bind (apply_callable (heap.callable_of (heap.object_at s.heap i)) (es.Obj i) this qs (env_of H) s) next') y m
   unfolding rewritten
-  opened_match {k = k} {a = a} {z = z} {n = n} {y = y} {m = m} go next next' r f =
+  opened_match {k = k} {a = a} {z = z} {n = n} {y = y} {m = m} go next next' allowed r f =
       let f0 = c.fun name params false (c.a_body fs names xs) in
       let owner = activation (es.Obj i) params qs in
       let firsts = with_vars (own_names false fs names xs) (with_params params qs []) in
@@ -255,18 +260,17 @@ module _ (form : Bool) (H : Here) (T : Temps) (by i : ℕ) (name : Option (List 
       let goes : (z' : List Item) → RelAt form H T k w z' n g s y m → (n' : ℕ) → n' ≡ n + count → M H a (bind (replied source go) next) z' n' (bind (target (functions_of (statements false fs names xs))) next') y m = λ z' r0 n' same.
       subst (λ l. M H a (bind (replied source go) next) z' n' (bind (target l) next') y m) (sym (functions_are _ _ false fs names xs code.guest.8))
       (subst (λ s1. M H a (bind (replied source go) next) z' n' (bind (ends s1) next') y m) (sym (functions_first fs owner firsts chain by s)) (f z' n' r0 same)) in
-      let cases = elim (nat_lt H.around.calls 1000) as (λ b. M H a (bind (replied (cond b (passing H.by by us (stepping_all count w source)) (fault depth_fault w)) go) next) z n (bind (cond b (target (functions_of (statements false fs names xs))) (stops depth_fault s)) next') y m) [
-        | false ↦ both_stop (steps_hold r) (refl, tt, r.all.items)
-        | true ↦ passed_match H.by by us (stepping_all count w source) go next r (λ z' r0. ticked H count w source go next n (λ n' same. goes z' r0 n' same))
-      ] in
-      subst (λ o. M H a (bind (replied (entry_reply f0 direct by us H.around.calls H.by w) go) next) z n (bind (apply_callable o (es.Obj i) this qs (env_of H) s) next') y m) (sym code.callable)
-      (subst (λ o. M H a (bind (replied (entry_reply f0 direct by us H.around.calls H.by w) go) next) z n (bind (open_code o by (es.Obj i) (this_of this s) qs H.around.calls s Target.body_end) next') y m) (sym code.code) cases)
+      let goes_in : M H a (bind (replied (stepping_all count w source) go) next) z n (bind (target (functions_of (statements false fs names xs))) next') y m = ticked H count w source go next n (λ n' same. goes z r n' same) in
+      let entered = entered_reply f0 direct by us H w in
+      subst (λ o. M H a (bind (replied entered go) next) z n (bind (apply_callable o (es.Obj i) this qs (env_of H) s) next') y m) (sym code.callable)
+      (subst (λ o. M H a (bind (replied entered go) next) z n (bind (open_code o by (es.Obj i) (this_of this s) qs H.around.calls s Target.body_end) next') y m) (sym code.code)
+      (subst (λ b. M H a (bind (replied entered go) next) z n (bind (cond b (target (functions_of (statements false fs names xs))) (stops depth_fault s)) next') y m) (sym allowed) goes_in))
 
   -- where its names, each a step of the direct meaning, pay for its head, or it has none
-  counted_match : {d k a : ℕ} {z : List Item} {n : ℕ} {y : Kept} {m : ℕ} (go : Going) (next : Cont) (next' : Cont') → a < d → by < 64 → Effects inner d → Vals s.heap us qs → ((m1 : ℕ) → m1 ≤ suc m → Paid (heads false names xs) m m1 → m1 ≤ m + count) → RelAt form H T k w z n g s y m → NextAt form H T a k w g s m (Source.called_next go next) next'
-      → M H a (bind (replied (entry_reply (c.fun name params false (c.a_body fs names xs)) direct by us H.around.calls H.by w) go) next) z n (bind (apply_callable (heap.callable_of (heap.object_at s.heap i)) (es.Obj i) this qs (env_of H) s) next') y m
+  counted_match : {d k a : ℕ} {z : List Item} {n : ℕ} {y : Kept} {m : ℕ} (go : Going) (next : Cont) (next' : Cont') → a < d → by < 64 → nat_lt H.around.calls 1000 ≡ true → Effects inner d → Vals s.heap us qs → ((m1 : ℕ) → m1 ≤ suc m → Paid (heads false names xs) m m1 → m1 ≤ m + count) → RelAt form H T k w z n g s y m → NextAt form H T a k w g s m (Source.called_next go next) next'
+      → M H a (bind (replied (entered_reply (c.fun name params false (c.a_body fs names xs)) direct by us H w) go) next) z n (bind (apply_callable (heap.callable_of (heap.object_at s.heap i)) (es.Obj i) this qs (env_of H) s) next') y m
   unfolding rewritten
-  counted_match {k = k} {a = a} {n = n} {y = y} {m = m} go next next' lt below effects is enough r x = opened_match go next next' r (λ z' n' r0 same.
+  counted_match {k = k} {a = a} {n = n} {y = y} {m = m} go next next' lt below allowed effects is enough r x = opened_match go next next' allowed r (λ z' n' r0 same.
       let body = rewritten false c.stmts 0 xs in
       let q = temps c.stmts xs in
       let are : AreScopes scoped = scopes_are (activation (es.Obj i) params qs) all_names s tt r.all.scopes.are in
@@ -284,11 +288,11 @@ module _ (form : Bool) (H : Here) (T : Temps) (by i : ℕ) (name : Option (List 
       (own_match {J = inner} H.by effects xs code.guest.8 code.guest.5 0 acc a k go Target.body_end next next' lt (declares_room {H = inner} q T code.guest.4) (begins_here below is r0 from fits told named) (ends_here go next next' below r0 from named x))))))
 
 -- a closure that binds no name, and has statements
-bare_match : {form : Bool} {H : Here} {T : Temps} {d k a : ℕ} (by i : ℕ) (name : Option (List ℕ)) (u : c.Tree c.stmt) (xs : c.Tree c.stmts) (direct : List ℕ) (this : EsValue) (us : List Value) (qs : List EsValue) {w : State} {z : List Item} {n : ℕ} {g : Tags} {s : Store} {y : Kept} {m : ℕ} (code : CodeIs by g s (c.fun name [] false (c.a_body c.no_funcs [] (c.more_stmts u xs))) direct i) (go : Going) (next : Cont) (next' : Cont') → a < d → by < 64
+bare_match : {form : Bool} {H : Here} {T : Temps} {d k a : ℕ} (by i : ℕ) (name : Option (List ℕ)) (u : c.Tree c.stmt) (xs : c.Tree c.stmts) (direct : List ℕ) (this : EsValue) (us : List Value) (qs : List EsValue) {w : State} {z : List Item} {n : ℕ} {g : Tags} {s : Store} {y : Kept} {m : ℕ} (code : CodeIs by g s (c.fun name [] false (c.a_body c.no_funcs [] (c.more_stmts u xs))) direct i) (go : Going) (next : Cont) (next' : Cont') → a < d → by < 64 → nat_lt H.around.calls 1000 ≡ true
     → ((J : Here) → J.by < 64 → Effects J d) → ((J : Here) → J.by < 64 → Entries J d) → Vals s.heap us qs → RelAt form H T k w z n g s y m → NextAt form H T a k w g s m (Source.called_next go next) next'
-    → M H a (bind (replied (entry_reply (c.fun name [] false (c.a_body c.no_funcs [] (c.more_stmts u xs))) direct by us H.around.calls H.by w) go) next) z n (bind (apply_callable (heap.callable_of (heap.object_at s.heap i)) (es.Obj i) this qs (env_of H) s) next') y m
+    → M H a (bind (replied (entered_reply (c.fun name [] false (c.a_body c.no_funcs [] (c.more_stmts u xs))) direct by us H w) go) next) z n (bind (apply_callable (heap.callable_of (heap.object_at s.heap i)) (es.Obj i) this qs (env_of H) s) next') y m
 unfolding rewritten
-bare_match {form = form} {H = H} {T = T} {k = k} {a = a} by i name u xs direct this us qs {w = w} {n = n} {g = g} {s = s} {y = y} {m = m} code go next next' lt below effects entries is r x =
+bare_match {form = form} {H = H} {T = T} {k = k} {a = a} by i name u xs direct this us qs {w = w} {n = n} {g = g} {s = s} {y = y} {m = m} code go next next' lt below allowed effects entries is r x =
     let list = c.more_stmts u xs in
     let J = inner form H T by i name [] [] c.no_funcs list direct this us qs w code in
     let S = scoped form H T by i name [] [] c.no_funcs list direct this us qs w code in
@@ -296,7 +300,7 @@ bare_match {form = form} {H = H} {T = T} {k = k} {a = a} by i name u xs direct t
     let tags1 = tags form H T by i name [] [] c.no_funcs list direct this us qs w code in
     let w1 = World.with_scope by [] w in
     let room : Room J U 0 (temps c.stmts list) = declares_room {H = J} (temps c.stmts list) T code.guest.4 in
-    opened_match form H T by i name [] [] c.no_funcs list direct this us qs w code go next next' r (λ z' n' r0 same.
+    opened_match form H T by i name [] [] c.no_funcs list direct this us qs w code go next next' allowed r (λ z' n' r0 same.
     first_match J (heads false [] list) (temps_none 0 (temps c.stmts list) _ (names_none (others [] (declared c.stmts list)))) (Source.effect_of u [] J) (rewritten false c.stmt 0 u) (rewritten false c.stmts (0 + temps c.stmt u) xs) w1 S (rest_next J H.by xs go next) Target.body_end next' (omega (arith, r0.all.steps, same)) r0.all.items (λ a1 m1 less from to.
     let none : Few c.no_funcs m1 = λ j few. absurd (omega (arith, few)) in
     let r1 : Rel J U (more k) w1 z' (suc n') tags1 S y m1 = begins_here form H T by i name [] [] c.no_funcs list direct this us qs w code {k = k} {j = more k} {z = z'} {z2 = z'} {n = n} {n' = suc n'} {m = m} {m1 = m1} below is r0 (omega (arith, from)) (omega (arith, r0.all.steps, same, to)) refl none in
@@ -306,21 +310,21 @@ bare_match {form = form} {H = H} {T = T} {k = k} {a = a} by i name u xs direct t
     (own_after H.by xs (rewritten false c.stmts (0 + temps c.stmt u) xs) None go Target.body_end next next' (omega arith) after (λ c1 le acc1 w2 z2 n2 g2 s2 y2 m2 r2 k2.
     own_match {J = J} H.by (effects J below) xs code.guest.8.1 code.guest.5.1 (0 + temps c.stmt u) acc1 c1 k go Target.body_end next next' (omega (arith, le, less, lt)) (room_part (omega arith) (omega arith) room) (rel_less (omega arith) r2) (effect_from {j = k} {k = k} le (omega arith) k2 after)))))
 
--- a closure's code is called: a call leaves as many steps in hand as it began with
-closure_match : {form : Bool} {H : Here} {T : Temps} {d k : ℕ} → ((J : Here) → J.by < 64 → Effects J d) → ((J : Here) → J.by < 64 → Entries J d) → (a by i : ℕ) (f : c.Tree c.func) (direct : List ℕ) (this : EsValue) (us : List Value) (qs : List EsValue) {w : State} {z : List Item} {n : ℕ} {g : Tags} {s : Store} {y : Kept} {m : ℕ} (go : Going) (next : Cont) (next' : Cont') → a < d → by < 64 → CodeIs by g s f direct i → Vals s.heap us qs → (m ≤ 4294967295 → length qs < 4294967296) → RelAt form H T k w z n g s y m → NextAt form H T a k w g s m (Source.called_next go next) next'
-    → M H a (bind (replied (entry_reply f direct by us H.around.calls H.by w) go) next) z n (bind (apply_callable (heap.callable_of (heap.object_at s.heap i)) (es.Obj i) this qs (env_of H) s) next') y m
+-- a closure's code is entered: a call leaves as many steps in hand as it began with
+entered_match : {form : Bool} {H : Here} {T : Temps} {d k : ℕ} → ((J : Here) → J.by < 64 → Effects J d) → ((J : Here) → J.by < 64 → Entries J d) → (a by i : ℕ) (f : c.Tree c.func) (direct : List ℕ) (this : EsValue) (us : List Value) (qs : List EsValue) {w : State} {z : List Item} {n : ℕ} {g : Tags} {s : Store} {y : Kept} {m : ℕ} (go : Going) (next : Cont) (next' : Cont') → a < d → by < 64 → CodeIs by g s f direct i → Vals s.heap us qs → (m ≤ 4294967295 → length qs < 4294967296) → nat_lt H.around.calls 1000 ≡ true → RelAt form H T k w z n g s y m → NextAt form H T a k w g s m (Source.called_next go next) next'
+    → M H a (bind (replied (entered_reply f direct by us H w) go) next) z n (bind (apply_callable (heap.callable_of (heap.object_at s.heap i)) (es.Obj i) this qs (env_of H) s) next') y m
 unfolding rewritten
-closure_match {form = form} {H = H} {T = T} effects entries a by i (c.fun name (p ∷ params) false (c.a_body fs names xs)) direct this us qs {w = w} go next next' lt below code is few r x =
-    counted_match form H T by i name (p ∷ params) names fs xs direct this us qs w code go next next' lt below (effects (inner form H T by i name (p ∷ params) names fs xs direct this us qs w code) below) is (λ m1 to paid. omega (arith, to)) r x
-closure_match {form = form} {H = H} {T = T} effects entries a by i (c.fun name [] false (c.a_body fs (p ∷ names) xs)) direct this us qs {w = w} go next next' lt below code is few r x =
-    counted_match form H T by i name [] (p ∷ names) fs xs direct this us qs w code go next next' lt below (effects (inner form H T by i name [] (p ∷ names) fs xs direct this us qs w code) below) is (λ m1 to paid. omega (arith, to)) r x
-closure_match {form = form} {H = H} {T = T} effects entries a by i (c.fun name [] false (c.a_body (c.more_funcs f fs) [] xs)) direct this us qs {w = w} go next next' lt below code is few r x =
-    counted_match form H T by i name [] [] (c.more_funcs f fs) xs direct this us qs w code go next next' lt below (effects (inner form H T by i name [] [] (c.more_funcs f fs) xs direct this us qs w code) below) is (λ m1 to paid. omega (arith, to)) r x
-closure_match {form = form} {H = H} {T = T} effects entries a by i (c.fun name [] false (c.a_body c.no_funcs [] c.no_stmts)) direct this us qs {w = w} go next next' lt below code is few r x =
-    counted_match form H T by i name [] [] c.no_funcs c.no_stmts direct this us qs w code go next next' lt below (effects (inner form H T by i name [] [] c.no_funcs c.no_stmts direct this us qs w code) below) is (λ m1 to paid. omega (arith, paid)) r x
-closure_match effects entries a by i (c.fun name [] false (c.a_body c.no_funcs [] (c.more_stmts u xs))) direct this us qs go next next' lt below code is few r x =
-    bare_match by i name u xs direct this us qs code go next next' lt below effects entries is r x
-closure_match {form = form} {H = H} {T = T} {k = k} effects entries a by i (c.fun name params true (c.a_body fs names xs)) direct this us qs {w = w} {z = z} {n = n} {g = g} {s = s} {y = y} {m = m} go next next' lt below code is few r x =
+entered_match {form = form} {H = H} {T = T} effects entries a by i (c.fun name (p ∷ params) false (c.a_body fs names xs)) direct this us qs {w = w} go next next' lt below code is few allowed r x =
+    counted_match form H T by i name (p ∷ params) names fs xs direct this us qs w code go next next' lt below allowed (effects (inner form H T by i name (p ∷ params) names fs xs direct this us qs w code) below) is (λ m1 to paid. omega (arith, to)) r x
+entered_match {form = form} {H = H} {T = T} effects entries a by i (c.fun name [] false (c.a_body fs (p ∷ names) xs)) direct this us qs {w = w} go next next' lt below code is few allowed r x =
+    counted_match form H T by i name [] (p ∷ names) fs xs direct this us qs w code go next next' lt below allowed (effects (inner form H T by i name [] (p ∷ names) fs xs direct this us qs w code) below) is (λ m1 to paid. omega (arith, to)) r x
+entered_match {form = form} {H = H} {T = T} effects entries a by i (c.fun name [] false (c.a_body (c.more_funcs f fs) [] xs)) direct this us qs {w = w} go next next' lt below code is few allowed r x =
+    counted_match form H T by i name [] [] (c.more_funcs f fs) xs direct this us qs w code go next next' lt below allowed (effects (inner form H T by i name [] [] (c.more_funcs f fs) xs direct this us qs w code) below) is (λ m1 to paid. omega (arith, to)) r x
+entered_match {form = form} {H = H} {T = T} effects entries a by i (c.fun name [] false (c.a_body c.no_funcs [] c.no_stmts)) direct this us qs {w = w} go next next' lt below code is few allowed r x =
+    counted_match form H T by i name [] [] c.no_funcs c.no_stmts direct this us qs w code go next next' lt below allowed (effects (inner form H T by i name [] [] c.no_funcs c.no_stmts direct this us qs w code) below) is (λ m1 to paid. omega (arith, paid)) r x
+entered_match effects entries a by i (c.fun name [] false (c.a_body c.no_funcs [] (c.more_stmts u xs))) direct this us qs go next next' lt below code is few allowed r x =
+    bare_match by i name u xs direct this us qs code go next next' lt below allowed effects entries is r x
+entered_match {form = form} {H = H} {T = T} {k = k} effects entries a by i (c.fun name params true (c.a_body fs names xs)) direct this us qs {w = w} {z = z} {n = n} {g = g} {s = s} {y = y} {m = m} go next next' lt below code is few allowed r x =
     let f = c.fun name params true (c.a_body fs names xs) in
     let q = temps c.stmts xs in
     let guest = code.guest in
@@ -380,7 +384,7 @@ closure_match {form = form} {H = H} {T = T} {k = k} effects entries a by i (c.fu
     let array = later.still.named (made_name by (length (w.objects by))) _ (array_named fs by outer chain (es.Obj i) params us qs all tag w g s below (omega (arith, small)) long is r.all.objects) in
     let alike : ScopeIs h' pairs names1 = alike_here fs by outer chain (es.Obj i) params us qs all tag w g s params names place first_pairs firsts s.heap v _ _ h' guest.6 begun2.keeps array (λ x shown. call_alike_own s.heap us qs news is x shown) given in
     let scopes = new_scopes by number g (record s { heap = h'; codes = all_codes fs chain s.codes }) (es.Obj i) params qs new2 T pairs alike in
-    let before : Related T 0 w z2 n' g s y m = related_told (told2 ∙ told) (related_steps (omega arith) (omega (arith, r0.all.steps, same)) r0.all) in
+    let before : Related H.rules T 0 w z2 n' g s y m = related_told (told2 ∙ told) (related_steps (omega arith) (omega (arith, r0.all.steps, same)) r0.all) in
     let plain = later.plain _ (item_plain fs by outer chain (es.Obj i) params us qs all tag w g s below (omega (arith, small)) long is r.all.objects) in
     let both = related_here {k = k} fs by outer chain (es.Obj i) params us qs all h' (omega (arith, r0.all.steps, same, ones, sixes)) scopes plain begun2 before in
     let r1 : Rel J (declares act q T) k (World.with_scope by pairs (objects_world fs outer by w1)) z2 n' tags S2 y (six fs (one_each fs m6)) = record { all = both; here = in_stays (shaped_heap tags S h') are2 are2 stands2 } in
@@ -406,12 +410,34 @@ closure_match {form = form} {H = H} {T = T} {k = k} effects entries a by i (c.fu
     let goes : (z' : List Item) → RelAt form H T k w z' n g s y m → (n' : ℕ) → n' ≡ n + count → M H a (bind (replied source go) next) z' n' (bind (target (functions_of (statements true fs names xs))) next') y m = λ z' r0 n' same.
     subst (λ l. M H a (bind (replied source go) next) z' n' (bind (target l) next') y m) (sym (functions_are _ _ true fs names xs guest.8))
     (subst (λ s1. M H a (bind (replied source go) next) z' n' (bind (ends s1) next') y m) (sym (functions_first fs owner firsts chain by s)) (entered z' r0 n' same)) in
-    let cases = elim (nat_lt H.around.calls 1000) as (λ b. M H a (bind (replied (cond b (passing H.by by us (stepping_all count w source)) (fault depth_fault w)) go) next) z n (bind (cond b (target (functions_of (statements true fs names xs))) (stops depth_fault s)) next') y m) [
-      | false ↦ both_stop (steps_hold r) (refl, tt, r.all.items)
-      | true ↦ passed_match H.by by us (stepping_all count w source) go next r (λ z' r0. ticked H count w source go next n (λ n' same. goes z' r0 n' same))
-    ] in
-    subst (λ o. M H a (bind (replied (entry_reply f direct by us H.around.calls H.by w) go) next) z n (bind (apply_callable o (es.Obj i) this qs (env_of H) s) next') y m) (sym code.callable)
-    (subst (λ o. M H a (bind (replied (entry_reply f direct by us H.around.calls H.by w) go) next) z n (bind (open_code o by (es.Obj i) (this_of this s) qs H.around.calls s Target.body_end) next') y m) (sym code.code) cases)
+    let goes_in : M H a (bind (replied (stepping_all count w source) go) next) z n (bind (target (functions_of (statements true fs names xs))) next') y m = ticked H count w source go next n (λ n' same. goes z r n' same) in
+    let inside_it = entered_reply f direct by us H w in
+    subst (λ o. M H a (bind (replied inside_it go) next) z n (bind (apply_callable o (es.Obj i) this qs (env_of H) s) next') y m) (sym code.callable)
+    (subst (λ o. M H a (bind (replied inside_it go) next) z n (bind (open_code o by (es.Obj i) (this_of this s) qs H.around.calls s Target.body_end) next') y m) (sym code.code)
+    (subst (λ b. M H a (bind (replied inside_it go) next) z n (bind (cond b (target (functions_of (statements true fs names xs))) (stops depth_fault s)) next') y m) (sym allowed) goes_in))
+
+-- what is given goes to the closure's module first, where no more calls are open than may be
+closure_match : {form : Bool} {H : Here} {T : Temps} {d k : ℕ} → ((J : Here) → J.by < 64 → Effects J d) → ((J : Here) → J.by < 64 → Entries J d) → (a by i : ℕ) (f : c.Tree c.func) (direct : List ℕ) (this : EsValue) (us : List Value) (qs : List EsValue) {w : State} {z : List Item} {n : ℕ} {g : Tags} {s : Store} {y : Kept} {m : ℕ} (go : Going) (next : Cont) (next' : Cont') → a < d → by < 64 → CodeIs by g s f direct i → Vals s.heap us qs → (m ≤ 4294967295 → length qs < 4294967296) → RelAt form H T k w z n g s y m → NextAt form H T a k w g s m (Source.called_next go next) next'
+    → M H a (bind (replied (entry_reply f direct by us H.around.calls H.by w) go) next) z n (bind (apply_callable (heap.callable_of (heap.object_at s.heap i)) (es.Obj i) this qs (env_of H) s) next') y m
+closure_match {H = H} effects entries a by i (c.fun name params args body) direct this us qs {w = w} {z = z} {n = n} {s = s} {y = y} {m = m} go next next' lt below code is few r x =
+    let f = c.fun name params args body in
+    let source : Bool → Asking.Reply = λ b. cond b (passing H.by by us (entered_reply f direct by us H w)) (fault depth_fault w) in
+    let target : Target.Plan = apply_callable (heap.callable_of (heap.object_at s.heap i)) (es.Obj i) this qs (env_of H) s in
+    let by_test : (b : Bool) → nat_lt H.around.calls 1000 ≡ b → M H a (bind (replied (source b) go) next) z n (bind target next') y m = λ b. elim b as (λ b. nat_lt H.around.calls 1000 ≡ b → M H a (bind (replied (source b) go) next) z n (bind target next') y m) [
+      | false ↦ λ closed.
+          subst (λ o. M H a (bind (replied (source false) go) next) z n (bind (apply_callable o (es.Obj i) this qs (env_of H) s) next') y m) (sym code.callable)
+          (subst (λ o. M H a (bind (replied (source false) go) next) z n (bind (open_code o by (es.Obj i) (this_of this s) qs H.around.calls s Target.body_end) next') y m) (sym code.code)
+          (rw closed (both_stop (steps_hold r) (refl, tt, r.all.items))))
+      | true ↦ λ allowed. passed_match H.by by us (entered_reply f direct by us H w) go next r (λ z' r0. entered_match effects entries a by i f direct this us qs go next next' lt below code is few allowed r0 x)
+    ] in by_test (nat_lt H.around.calls 1000) refl
+
+-- both enter a closure whose module has been told what it is given, with fewer than d tasks
+pub record EntryAt (form : Bool) (H : Here) (d : ℕ) : Type 0 where
+  pub on : {T : Temps} {a k : ℕ} (by i : ℕ) (f : c.Tree c.func) (direct : List ℕ) (this : EsValue) (us : List Value) (qs : List EsValue) {w : State} {z : List Item} {n : ℕ} {g : Tags} {s : Store} {y : Kept} {m : ℕ} (go : Going) (next : Cont) (next' : Cont') → a < d → by < 64 → CodeIs by g s f direct i → Vals s.heap us qs → (m ≤ 4294967295 → length qs < 4294967296) → nat_lt H.around.calls 1000 ≡ true → RelAt form H T k w z n g s y m → NextAt form H T a k w g s m (Source.called_next go next) next'
+      → M H a (bind (replied (entered_reply f direct by us H w) go) next) z n (bind (apply_callable (heap.callable_of (heap.object_at s.heap i)) (es.Obj i) this qs (env_of H) s) next') y m
 
 pub closure_law : {d : ℕ} → ((J : Here) → J.by < 64 → Effects J d) → ((J : Here) → J.by < 64 → Entries J d) → {form : Bool} (H : Here) → ClosureAt form H d
 closure_law effects entries H = record { on = λ by i f direct this us qs go next next' lt below code is few r x. closure_match effects entries _ by i f direct this us qs go next next' lt below code is few r x }
+
+pub entry_law : {d : ℕ} → ((J : Here) → J.by < 64 → Effects J d) → ((J : Here) → J.by < 64 → Entries J d) → {form : Bool} (H : Here) → EntryAt form H d
+entry_law effects entries H = record { on = λ by i f direct this us qs go next next' lt below code is few allowed r x. entered_match effects entries _ by i f direct this us qs go next next' lt below code is few allowed r x }

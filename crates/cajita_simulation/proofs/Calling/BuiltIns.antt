@@ -1,5 +1,5 @@
--- The rows of the built-in functions: all end by themselves, but those of `call` and `apply`, which end in a call of what they have looked at. Those of nodes refuse
--- whatever is no node.
+-- The rows of the built-in functions: all end by themselves, but those of `call` and `apply`, which end in a call of what they have looked at. Those of nodes stand in a
+-- file of their own.
 use Rattle.std.proofs.Common.{◌≡◌, ℕ, zero, suc, ◌+◌, ◌-◌, ◌≤◌, Bool, true, false, List, [], ◌∷◌, ◌++◌, length, Option, Some, None, cond, ◌⊎◌, inl, inr, refl, ap, arith}
 use Rattle.std.specs.Prelude.{ℤ, pos, codes, nat_eq, int_lt, drop, reverse}
 use Rattle.rows.specs.Rows as r
@@ -12,7 +12,10 @@ use Rattle.rows.specs.Arrays as arrays
 use Rattle.rows.specs.Nodes.{Rules, no_rules}
 use Rattle.rows.specs.Table.{row_of}
 use Rattle.heap_rows.specs.Natives.{is_common}
-use Rattle.page_natives.proofs.Nodes.{Refuses}
+use Rattle.tamed_dom.specs.declared.methods.NodeMethod.{NodeMethod}
+use Rattle.tamed_dom.specs.declared.methods.NodeMethod.TheVariants as m
+use Rattle.node_rows.specs.Promises.{of_method}
+use Rattle.page_natives.specs.OwnFunctions.{is_of_node}
 use Rattle.cajita_simulation.proofs.Rows.{EndsPlainly, NoTouches}
 use Rattle.cajita_simulation.proofs.Calling.Calls.{Looked, CallsSeen, EndsCalling, IsCalling}
 
@@ -276,32 +279,33 @@ plain_calling b (r.as_same_root x v go) o p = absurd p
 plain_calling b (r.branches x go other) o p = absurd p
 plain_calling b (r.touches t x k next) o p = absurd p
 
--- a built-in function's row ends by itself or in such a call, whatever rules a page has; or it refuses whatever is no node; it touches nothing
+-- a built-in function's row ends by itself or in such a call, whatever rules a page has, and touches nothing; or it is that of a method of nodes
 
 pub record IsOrdinary (f : Native) : Type 0 where
   pub calling : (n : ℕ) → IsCalling (n - 1) [] (row_of no_rules f n)
   pub silent : (n : ℕ) → NoTouches (row_of no_rules f n)
   pub any : (rules : Rules) (n : ℕ) → row_of rules f n ≡ row_of no_rules f n
+  pub other : is_of_node f ≡ false
 
 not_common : false ≡ true → ⊥
 not_common e = cc
 
-pub built_in_row : (f : Native) → is_common f ≡ true → IsOrdinary f ⊎ ((rules : Rules) (n : ℕ) → Refuses (row_of rules f n))
-built_in_row r.call common = inl (record { calling = call_calling; silent = call_silent; any = λ rules n. refl })
-built_in_row r.apply common = inl (record { calling = apply_calling; silent = apply_silent; any = λ rules n. refl })
-built_in_row r.get_tag_name common = inr (λ rules n. refl)
-built_in_row r.get_parent_node common = inr (λ rules n. refl)
-built_in_row r.get_child_nodes common = inr (λ rules n. refl)
-built_in_row r.get_element_by_id common = inr (λ rules n. refl)
-built_in_row r.get_attribute common = inr (λ rules n. refl)
-built_in_row r.set_attribute common = inr (λ rules n. refl)
-built_in_row r.get_text common = inr (λ rules n. refl)
-built_in_row r.set_text common = inr (λ rules n. refl)
-built_in_row r.create_element common = inr (λ rules n. refl)
-built_in_row r.create_text_node common = inr (λ rules n. refl)
-built_in_row r.append_child common = inr (λ rules n. refl)
-built_in_row r.remove_child common = inr (λ rules n. refl)
-built_in_row r.on common = inr (λ rules n. refl)
+pub built_in_row : (f : Native) → is_common f ≡ true → IsOrdinary f ⊎ ((method : NodeMethod) × (of_method method ≡ f))
+built_in_row r.call common = inl (record { calling = call_calling; silent = call_silent; any = λ rules n. refl; other = refl })
+built_in_row r.apply common = inl (record { calling = apply_calling; silent = apply_silent; any = λ rules n. refl; other = refl })
+built_in_row r.get_tag_name common = inr (m.GetTagName, refl)
+built_in_row r.get_parent_node common = inr (m.GetParentNode, refl)
+built_in_row r.get_child_nodes common = inr (m.GetChildNodes, refl)
+built_in_row r.get_element_by_id common = inr (m.GetElementById, refl)
+built_in_row r.get_attribute common = inr (m.GetAttribute, refl)
+built_in_row r.set_attribute common = inr (m.SetAttribute, refl)
+built_in_row r.get_text common = inr (m.GetText, refl)
+built_in_row r.set_text common = inr (m.SetText, refl)
+built_in_row r.create_element common = inr (m.CreateElement, refl)
+built_in_row r.create_text_node common = inr (m.CreateTextNode, refl)
+built_in_row r.append_child common = inr (m.AppendChild, refl)
+built_in_row r.remove_child common = inr (m.RemoveChild, refl)
+built_in_row r.on common = inr (m.On, refl)
 built_in_row (r.service k) common = absurd (not_common common)
 built_in_row r.say common = absurd (not_common common)
 built_in_row r.later common = absurd (not_common common)
@@ -309,4 +313,4 @@ built_in_row r.get common = absurd (not_common common)
 built_in_row r.set common = absurd (not_common common)
 built_in_row r.forward_get common = absurd (not_common common)
 built_in_row r.forward_set common = absurd (not_common common)
-built_in_row f common = inl (record { calling = λ n. plain_calling (n - 1) (row_of no_rules f n) [] (built_in_plain no_rules f tt n); silent = λ n. silent_touches (row_of no_rules f n) (built_in_plain no_rules f tt n); any = λ rules n. refl })
+built_in_row f common = inl (record { calling = λ n. plain_calling (n - 1) (row_of no_rules f n) [] (built_in_plain no_rules f tt n); silent = λ n. silent_touches (row_of no_rules f n) (built_in_plain no_rules f tt n); any = λ rules n. refl; other = refl })

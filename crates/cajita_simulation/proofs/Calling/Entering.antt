@@ -15,7 +15,7 @@ use Rattle.cajita_meaning.specs.Direct.{Item}
 use Rattle.page_natives.specs.Natives.{Kept}
 use Rattle.cajita_simulation.specs.Guest as Guest
 use Rattle.cajita_simulation.proofs.Heaps.Lists.{slice_get-push}
-use Rattle.cajita_simulation.proofs.Relation.{StandsIn, RelAt, EsValue, tag_of_scope, Tags, Here, Temps, Slot, unknown, declared, holds, keys, SlotIs, ScopesAre, ScopeIs, names_at, AreScopes, Place, Captured, In, Rel, Stays}
+use Rattle.cajita_simulation.proofs.Relation.{StandsIn, RelAt, EsValue, tag_of_scope, Tags, Here, Temps, Slot, unknown, declared, holds, keys, SlotIs, ScopesAre, ScopeIs, names_at, AreScopes, Place, Captured, In, Related, Rel, Stays}
 use Rattle.cajita_simulation.proofs.Scopes.{stands_stays, passes, captured_stays}
 use Rattle.cajita_simulation.proofs.Written.{same_place}
 use Rattle.cajita_simulation.proofs.Writes.{Covers, rel_covers}
@@ -159,5 +159,5 @@ module _ {all : Names} {vars free vars1 free1 : Guest.Names} {q : ℕ} (by numbe
   }
 
 -- back in the form that called
-pub rel_back : {form : Bool} {H J : Here} {T U : Temps} {i k : ℕ} {u w : State} {z : List Item} {n : ℕ} {g g' : Tags} {t s : Store} {y : Kept} {m : ℕ} → Covers T U → AreScopes t → StandsIn form H g t → Stays u g t i w g' s m → Rel J U k w z n g' s y m → RelAt form H T k w z n g' s y m
-rel_back {form = form} {H = H} f are here keep r = record { all = (rel_covers f r).all; here = stands_stays form H keep.shaped are r.all.scopes.are here }
+pub rel_back : {form : Bool} {H J : Here} {T U : Temps} {i k : ℕ} {u w : State} {z : List Item} {n : ℕ} {g g' : Tags} {t s : Store} {y : Kept} {m : ℕ} → J.rules ≡ H.rules → Covers T U → AreScopes t → StandsIn form H g t → Stays u g t i w g' s m → Rel J U k w z n g' s y m → RelAt form H T k w z n g' s y m
+rel_back {form = form} {H = H} {T = T} {k = k} {w = w} {z = z} {n = n} {g' = g'} {s = s} {y = y} {m = m} same f are here keep r = record { all = subst (λ l. Related l T k w z n g' s y m) same (rel_covers f r).all; here = stands_stays form H keep.shaped are r.all.scopes.are here }

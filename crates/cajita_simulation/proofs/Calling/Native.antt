@@ -22,14 +22,13 @@ use Rattle.heap_rows.specs.Natives.{number_of, kind_of, own_number, cell_number,
 use Rattle.heap_rows.specs.Doing as es3
 use Rattle.heap_rows.specs.Opening.{place_of, empty_page}
 use Rattle.row_simulation.specs.Among.{AreAnswersAmong}
-use Rattle.row_simulation.specs.RowLaw.{PagesAre}
 use Rattle.row_simulation.specs.Correspond.{IsNative}
 use Rattle.row_simulation.proofs.Row.{vals_length}
 use Rattle.row_simulation.proofs.Tables.{tables}
 use Rattle.page_natives.specs.declared.natives.Callee.TheVariants as callee
 use Rattle.page_natives.specs.Answered.{turn_of}
 use Rattle.page_natives.specs.Natives.{Kept, page_table}
-use Rattle.page_natives.proofs.Nodes.{refusal, Refuses, refused}
+use Rattle.page_natives.specs.OwnFunctions.{is_of_node}
 use Rattle.page_natives.proofs.Numbers.{built_ins_are_their_rows, say_has_its_number, later_has_its_number, get_has_its_number, set_has_its_number}
 use Rattle.page_natives.proofs.OwnFunctions.{say_does_its_row, later_does_its_row, get_does_its_row, set_does_its_row}
 use Rattle.cajita_simulation.proofs.Doing as Source
@@ -40,6 +39,7 @@ use Rattle.cajita_simulation.proofs.Calling.Laws.{NativeAt, ClosureAt, applied, 
 use Rattle.cajita_simulation.proofs.Calling.Receiver.{first_free, no_receiver}
 use Rattle.cajita_simulation.proofs.Calling.BuiltIns.{built_in_row}
 use Rattle.cajita_simulation.proofs.Calling.Natives.{kind_entered, applied_native, self_of, Entered, native_enters, called_row}
+use Rattle.cajita_simulation.proofs.Calling.Nodes.{node_called}
 use Rattle.cajita_simulation.proofs.Calling.Own.{say_settled, later_settled, get_settled, set_settled, own_row}
 
 -- the rows of the tables are among objects, under the rules of a page without a document
@@ -64,30 +64,16 @@ self_same f common by n i this qs h =
       | false ↦ λ e. first_free place_of by this (es.Obj i) (row_of no_rules f n) (no_receiver no_rules f common e n) qs h empty_page []
     ] refl
 
--- a row that refuses what is no node
-
-refused_here : (by : ℕ) (q : Row) → Refuses q → (v : Value) (us : List Value) (w : State) → ((n : ℕ) → direct.around w n v ≡ None) → direct.does by q (direct.given (v ∷ us)) w [] ≡ direct.does by refusal (direct.given []) w []
-refused_here by (r.branches (r.held zero) go other) p v us w none =
-    subst (λ o. direct.with_branch o (λ b. direct.does by (go b.branch) (direct.and_seen (direct.given (v ∷ us)) (direct.way_into (direct.given (v ∷ us)) (r.held 0)) b.values) w []) (direct.does by other (direct.given (v ∷ us)) w []) ≡ direct.does by refusal (direct.given []) w []) (sym (none (length (v ∷ us))))
-    (ap (λ q. direct.does by q (direct.given (v ∷ us)) w []) p)
-refused_here by q p v us w none = absurd p
-
--- a page without nodes has no value that is one
-no_node : {h : Objects} {w : State} {g : es3.Page} → PagesAre h w g → ((root : ℕ) → g.nodes root ≡ []) → (v : Value) (e : EsValue) → Val h v e → (n : ℕ) → direct.around w n v ≡ None
-no_node {g = g} p none (object (facet_name root k)) (es.Obj i) is n = let lt : k < length (g.nodes root) = p.known root k i is in let e = ap length (none root) in absurd (omega (arith, lt, e))
-no_node p none (object (facet_name root k)) e is n = absurd is
-no_node p none v e is n = refl
-
 -- what is called by its number comes to its row
-turn_is : (f : Native) → is_common f ≡ true → (by : ℕ) (this : EsValue) (qs : List EsValue) (h : Objects) (y : Kept) (came : es3.Came) → es3.does place_of by (row_of no_rules f (suc (length qs))) (this ∷ qs) h empty_page [] ≡ came
+turn_is : (f : Native) → is_common f ≡ true → is_of_node f ≡ false → (by : ℕ) (this : EsValue) (qs : List EsValue) (h : Objects) (y : Kept) (came : es3.Came) → es3.does place_of by (row_of no_rules f (suc (length qs))) (this ∷ qs) h empty_page [] ≡ came
     → page_table.answer (number_of f) by this qs h y ≡ turn_of came.done y
-turn_is f common by this qs h y came same = built_ins_are_their_rows f common by this qs h y ∙ ap (λ (c : es3.Came). turn_of c.done y) same
+turn_is f common other by this qs h y came same = built_ins_are_their_rows f common other by this qs h y ∙ ap (λ (c : es3.Came). turn_of c.done y) same
 
 -- a built-in function, once both sides have entered it
 built_in_called : {form : Bool} {H : Here} {T : Temps} {d k : ℕ} → H.by < 64 → ClosureAt form H d → NativeAt form H d → (b : ℕ) → b < d → (f : Native) → is_common f ≡ true → (i : ℕ) (receiver : Value) (this : EsValue) (us : List Value) (qs : List EsValue) {w : State} {z : List Item} {n : ℕ} {g : Tags} {s : Store} {y : Kept} {m : ℕ} (go : Going) (next : Cont) (next' : Cont') → suc m ≤ 4294967295
     → Named s.heap (built_name f) i → Val s.heap receiver this → Vals s.heap us qs → length qs < 4294967296 → RelAt form H T (suc (suc k)) w z n g s y m → NextAt form H T b k w g s m (Source.called_next go next) next'
     → Entered H b f (self_of f (built_name f) receiver ∷ us) (number_of f) this qs w z n s y m go next next'
-built_in_called {form = form} {H = H} {k = k} below closures natives b lt f common i receiver this us qs {w = w} {s = s} {y = y} go next next' few named at args short r x =
+built_in_called {form = form} {H = H} {k = k} below closures natives b lt f common i receiver this us qs {w = w} {z = z} {n = n} {s = s} {y = y} {m = m} go next next' few named at args short r x =
     let self = self_of f (built_name f) receiver in
     let vs : List Value = self ∷ us in
     let self' = self_in f i this in
@@ -98,13 +84,11 @@ built_in_called {form = form} {H = H} {k = k} below closures natives b lt f comm
           let q = row_of no_rules f (suc (length us)) in
           called_row {k = k} below closures natives b lt f vs (number_of f) this qs q (tables.built_ins no_rules no_answers f (suc (length us))) (p.silent (suc (length us))) (suc (length us) - 1) (omega (arith, long, short)) (p.calling (suc (length us))) vs (self' ∷ qs) go next next' few
           (ap (λ c. direct.does H.by c (direct.given vs) w []) (p.any H.rules (suc (length us))))
-          (turn_is f common H.by this qs s.heap y (es3.does place_of H.by q (self' ∷ qs) s.heap empty_page []) (self_same f common H.by (suc (length qs)) i this qs s.heap ∙ ap (λ l. es3.does place_of H.by (row_of no_rules f (suc l)) (self' ∷ qs) s.heap empty_page []) (sym long)))
+          (turn_is f common p.other H.by this qs s.heap y (es3.does place_of H.by q (self' ∷ qs) s.heap empty_page []) (self_same f common H.by (suc (length qs)) i this qs s.heap ∙ ap (λ l. es3.does place_of H.by (row_of no_rules f (suc l)) (self' ∷ qs) s.heap empty_page []) (sym long)))
           (is, args) r x
       | inr p ↦
-          called_row {k = k} below closures natives b lt f vs (number_of f) this qs refusal tt tt 0 (omega arith) tt [] [] go next next' few
-          (refused_here H.by (row_of H.rules f (suc (length us))) (p H.rules (suc (length us))) self us w (no_node r.all.pages (λ root. refl) self self' is))
-          (turn_is f common H.by this qs s.heap y (es3.does place_of H.by refusal [] s.heap empty_page []) (refused (row_of no_rules f (suc (length qs))) (p no_rules (suc (length qs))) H.by this qs s.heap empty_page [] (λ root. refl)))
-          tt r x
+          subst (λ l. Entered H b l (self_of l (built_name f) receiver ∷ us) (number_of l) this qs w z n s y m go next next') p.1
+          (node_called {k = k} below b p.0 receiver this us qs go next next' few at args r x (built_name f))
     ]
 
 -- where the function stands, and by what kind it is called
@@ -122,25 +106,25 @@ module _ {form : Bool} {H : Here} {T : Temps} {d k : ℕ} (below : H.by < 64) (c
   say_called o named =
       let there = all.all.objects.each (own_name o 0) i named in
       native_enters a k recorded (own_name o 0) r.say i (own_number o 0) receiver this us qs go next next' all named (callable_there s.heap i there.there there.is.1) (simple_called (own_number o 0) (callable_there s.heap i there.there there.is.1)) (λ b z1 y1 less few r1.
-      own_row {k = k} below b (callee.Say o) r.say (own_number o 0) (own_name o 0) i this us qs (say_does_its_row o) (say_has_its_number o) (tables.built_ins no_rules no_answers r.say (suc (length us))) go next next' few (say_settled H.by (suc (length us)) o us w) named args r1 (value_from {j = k} {k = k} (omega (arith, less)) (omega arith) stays_refl x))
+      own_row {k = k} below b (callee.Say o) tt r.say (own_number o 0) (own_name o 0) i this us qs (say_does_its_row o) (say_has_its_number o) (tables.built_ins no_rules no_answers r.say (suc (length us))) go next next' few (say_settled H.by (suc (length us)) o us w) named args r1 (value_from {j = k} {k = k} (omega (arith, less)) (omega arith) stays_refl x))
 
   later_called : (o : ℕ) → Named s.heap (own_name o 1) i → Called (own_name o 1) r.later
   later_called o named =
       let there = all.all.objects.each (own_name o 1) i named in
       native_enters a k recorded (own_name o 1) r.later i (own_number o 1) receiver this us qs go next next' all named (callable_there s.heap i there.there there.is.1) (simple_called (own_number o 1) (callable_there s.heap i there.there there.is.1)) (λ b z1 y1 less few r1.
-      own_row {k = k} below b (callee.Later o) r.later (own_number o 1) (own_name o 1) i this us qs (later_does_its_row o) (later_has_its_number o) (tables.built_ins no_rules no_answers r.later (suc (length us))) go next next' few (later_settled H.by (suc (length us)) o us w) named args r1 (value_from {j = k} {k = k} (omega (arith, less)) (omega arith) stays_refl x))
+      own_row {k = k} below b (callee.Later o) tt r.later (own_number o 1) (own_name o 1) i this us qs (later_does_its_row o) (later_has_its_number o) (tables.built_ins no_rules no_answers r.later (suc (length us))) go next next' few (later_settled H.by (suc (length us)) o us w) named args r1 (value_from {j = k} {k = k} (omega (arith, less)) (omega arith) stays_refl x))
 
   get_called : (c : ℕ) → Named s.heap (cell_name c 1) i → Called (cell_name c 1) r.get
   get_called c named =
       let there = all.all.objects.each (cell_name c 1) i named in
       native_enters a k recorded (cell_name c 1) r.get i (cell_number c 1) receiver this us qs go next next' all named (callable_there s.heap i there.there there.is.1) (simple_called (cell_number c 1) (callable_there s.heap i there.there there.is.1)) (λ b z1 y1 less few r1.
-      own_row {k = k} below b (callee.Get c) r.get (cell_number c 1) (cell_name c 1) i this us qs (get_does_its_row c) (get_has_its_number c) (tables.built_ins no_rules no_answers r.get (suc (length us))) go next next' few (get_settled H.by c us w) named args r1 (value_from {j = k} {k = k} (omega (arith, less)) (omega arith) stays_refl x))
+      own_row {k = k} below b (callee.Get c) tt r.get (cell_number c 1) (cell_name c 1) i this us qs (get_does_its_row c) (get_has_its_number c) (tables.built_ins no_rules no_answers r.get (suc (length us))) go next next' few (get_settled H.by c us w) named args r1 (value_from {j = k} {k = k} (omega (arith, less)) (omega arith) stays_refl x))
 
   set_called : (c : ℕ) → Named s.heap (cell_name c 2) i → Called (cell_name c 2) r.set
   set_called c named =
       let there = all.all.objects.each (cell_name c 2) i named in
       native_enters a k recorded (cell_name c 2) r.set i (cell_number c 2) receiver this us qs go next next' all named (callable_there s.heap i there.there there.is.1) (simple_called (cell_number c 2) (callable_there s.heap i there.there there.is.1)) (λ b z1 y1 less few r1.
-      own_row {k = k} below b (callee.Set c) r.set (cell_number c 2) (cell_name c 2) i this us qs (set_does_its_row c) (set_has_its_number c) (tables.built_ins no_rules no_answers r.set (suc (length us))) go next next' few (set_settled H.by (suc (length us)) c us w) named args r1 (value_from {j = k} {k = k} (omega (arith, less)) (omega arith) stays_refl x))
+      own_row {k = k} below b (callee.Set c) tt r.set (cell_number c 2) (cell_name c 2) i this us qs (set_does_its_row c) (set_has_its_number c) (tables.built_ins no_rules no_answers r.set (suc (length us))) go next next' few (set_settled H.by (suc (length us)) c us w) named args r1 (value_from {j = k} {k = k} (omega (arith, less)) (omega arith) stays_refl x))
 
   built_called : (f : Native) → Named s.heap (built_name f) i → Called (built_name f) f
   built_called f named =

@@ -10,6 +10,7 @@ use Rattle.es3_heap.specs.Making.{count_at}
 use Rattle.es3_language.specs.Store as store
 use Rattle.es3_language.specs.Store.{Store, Names, activation, name_value, with_name, with_heap, with_scope}
 use Rattle.es3_language.specs.Arguments.{is_arguments, arguments_name}
+use Rattle.rows.specs.Nodes.{Rules}
 use Rattle.cajita_tree.specs.Tree as c
 use Rattle.cajita_rewrite.specs.Rewrite.{arguments_copy}
 use Rattle.cajita_meaning.specs.Asking.{func_name}
@@ -180,11 +181,11 @@ module _ (fs : c.Tree c.funcs) (by : ℕ) (direct chain : List ℕ) (f : EsValue
           ] in cases refl
 
 -- the relation, once the functions have their names
-pub related_here : {T T' : Temps} {j k : ℕ} {w : State} {z : List Item} {n : ℕ} {g : Tags} {s : Store} {y : Kept} {m mm : ℕ} {pairs : Pairs} (fs : c.Tree c.funcs) (by : ℕ) (direct chain : List ℕ) (f : EsValue) (params : List (List ℕ)) (us : List Value) (qs : List EsValue) (all : Names) (h : Objects)
+pub related_here : {rules : Rules} {T T' : Temps} {j k : ℕ} {w : State} {z : List Item} {n : ℕ} {g : Tags} {s : Store} {y : Kept} {m mm : ℕ} {pairs : Pairs} (fs : c.Tree c.funcs) (by : ℕ) (direct chain : List ℕ) (f : EsValue) (params : List (List ℕ)) (us : List Value) (qs : List EsValue) (all : Names) (h : Objects)
     → (let tags = g ++ tag_of_scope by (next_scope by w) ∷ [] in let w1 = World.with_object by (an_array true us) w in let sF = with_heap (inner_store fs by direct chain f params us qs all (tag_of_scope by (next_scope by w)) w g s) h in
     mm + k ≤ 64 * n → NewScopes T T' pairs (activation f params qs) (args_names f params qs all (bare_store fs chain by s)) (record s { heap = h; codes = all_codes fs chain s.codes }) → rows.IsPlain first h (length (bare_store fs chain by s).heap.list)
-    → Begun (all_objects fs direct by w1.objects) s.heap tags (with_scope (activation f params qs) (args_names f params qs all (bare_store fs chain by s)) sF) mm → Related T j w z n g s y m
-    → Related T' k (World.with_scope by pairs (objects_world fs direct by w1)) z n tags (with_scope (activation f params qs) (args_names f params qs all (bare_store fs chain by s)) sF) y mm)
+    → Begun (all_objects fs direct by w1.objects) s.heap tags (with_scope (activation f params qs) (args_names f params qs all (bare_store fs chain by s)) sF) mm → Related rules T j w z n g s y m
+    → Related rules T' k (World.with_scope by pairs (objects_world fs direct by w1)) z n tags (with_scope (activation f params qs) (args_names f params qs all (bare_store fs chain by s)) sF) y mm)
 related_here {w = w} {g = g} {s = s} {pairs = pairs} fs by direct chain f params us qs all h fits new plain begun r =
     let keeps = begun.keeps in
     let before = with_scope (activation f params qs) (args_names f params qs all (bare_store fs chain by s)) (record s { heap = h; codes = all_codes fs chain s.codes }) in

@@ -7,6 +7,7 @@ use Rattle.es3_objects.specs.declared.value.Value.TheVariants as es
 use Rattle.es3_heap.specs.Objects.{Objects}
 use Rattle.es3_language.specs.Store as store
 use Rattle.es3_language.specs.Store.{Store, Code, name_value, with_name, with_scope}
+use Rattle.rows.specs.Nodes.{Rules}
 use Rattle.cajita_tree.specs.Tree as c
 use Rattle.cajita_meaning.specs.Asking.{func_name, count_of}
 use Rattle.cajita_meaning.specs.World as World
@@ -159,8 +160,8 @@ closures_older c.no_funcs direct by objects a l o e = e
 closures_older (c.more_funcs f fs) direct by objects a l o e = closures_older fs direct by (with_last by (a_closure f direct) objects) a l o (last_kept by a l (a_closure f direct) o objects e)
 
 -- the relation
-pub related_declared : {T T' : Temps} {j k : ℕ} {w : State} {z : List Item} {n : ℕ} {g : Tags} {s : Store} {y : Kept} {m : ℕ} {pairs : Pairs} {owner : store.Owner} {names : store.Names} {vars free : Names} (fs : c.Tree c.funcs) (by : ℕ) (direct chain : List ℕ) → by < 64 → Few fs m → one_each fs m + k ≤ 64 * n → NewScopes T T' pairs owner names (named_store fs chain by s) → Captured vars free by (g ++ tag_of_scope by (next_scope by w) ∷ []) direct chain (with_scope owner names s) → Guest vars free c.funcs fs → Related T j w z n g s y m
-    → Related T' k (World.with_scope by pairs (objects_world fs direct by w)) z n (g ++ tag_of_scope by (next_scope by w) ∷ []) (with_scope owner names (named_store fs chain by s)) y (one_each fs m)
+pub related_declared : {rules : Rules} {T T' : Temps} {j k : ℕ} {w : State} {z : List Item} {n : ℕ} {g : Tags} {s : Store} {y : Kept} {m : ℕ} {pairs : Pairs} {owner : store.Owner} {names : store.Names} {vars free : Names} (fs : c.Tree c.funcs) (by : ℕ) (direct chain : List ℕ) → by < 64 → Few fs m → one_each fs m + k ≤ 64 * n → NewScopes T T' pairs owner names (named_store fs chain by s) → Captured vars free by (g ++ tag_of_scope by (next_scope by w) ∷ []) direct chain (with_scope owner names s) → Guest vars free c.funcs fs → Related rules T j w z n g s y m
+    → Related rules T' k (World.with_scope by pairs (objects_world fs direct by w)) z n (g ++ tag_of_scope by (next_scope by w) ∷ []) (with_scope owner names (named_store fs chain by s)) y (one_each fs m)
 related_declared {w = w} {g = g} {s = s} {pairs = pairs} {owner = owner} {names = names} fs by direct chain below few fits new captured guest r =
     let keeps = keeps_all fs g s by direct chain below few r.objects in
     let tags = g ++ tag_of_scope by (next_scope by w) ∷ [] in

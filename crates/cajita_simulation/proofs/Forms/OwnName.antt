@@ -14,6 +14,7 @@ use Rattle.es3_heap.specs.Making.{count_at}
 use Rattle.es3_language.specs.Store as store
 use Rattle.es3_language.specs.Store.{Store, Code, own_name, name_value, with_scope, with_code}
 use Rattle.es3_language.specs.Hoisting.{code_of}
+use Rattle.rows.specs.Nodes.{Rules}
 use Rattle.cajita_tree.specs.Tree as c
 use Rattle.cajita_rewrite.specs.Rewrite.{rewritten, runtime_name, runtime_call, single}
 use Rattle.cajita_meaning.specs.World as World
@@ -49,7 +50,7 @@ or_right : (a b : Bool) → a ≡ false → ((a || false) || b) ≡ true → b �
 or_right true b e f = cc
 or_right false b e f = f
 
-module _ {g : Tags} {s : Store} {T : Temps} {j : ℕ} {w : State} {z : List Item} {n : ℕ} {y : Kept} {m : ℕ} (by : ℕ) (x : List ℕ) (f : c.Tree c.func) (direct chain : List ℕ) (guest : GuestName x) (below : by < 64) (small : suc m ≤ 4294967295) (r : Related T j w z n g s y m) where
+module _ {rules : Rules} {g : Tags} {s : Store} {T : Temps} {j : ℕ} {w : State} {z : List Item} {n : ℕ} {y : Kept} {m : ℕ} (by : ℕ) (x : List ℕ) (f : c.Tree c.func) (direct chain : List ℕ) (guest : GuestName x) (below : by < 64) (small : suc m ≤ 4294967295) (r : Related rules T j w z n g s y m) where
   abbrev pub outer : List ℕ
   outer = next_scope by w ∷ direct
 
@@ -169,7 +170,7 @@ module _ {g : Tags} {s : Store} {T : Temps} {j : ℕ} {w : State} {z : List Item
   }
 
   -- the relation with the closure and the scope of its name
-  related_own : {vars free : Names} {k : ℕ} → suc m + k ≤ 64 * n → Captured vars free by g direct chain s → Guest (inner [] (x ∷ []) vars) (without x free) c.func f → Related T k bound z n tags after y (suc m)
+  related_own : {vars free : Names} {k : ℕ} → suc m + k ≤ 64 * n → Captured vars free by g direct chain s → Guest (inner [] (x ∷ []) vars) (without x free) c.func f → Related rules T k bound z n tags after y (suc m)
   related_own fits captured is =
       let keeps = closure_keeps g s by f outer scoped few in
       let r1 = related_code code r in

@@ -85,7 +85,7 @@ try_body {H = H} {d = d} {b = b} few law xs (c.some_handler u ys) f gx gh gf = r
         list_match {H = C} {J = J} (law C few) ys gh.1 ty (b + temps c.stmts xs) [] None a k (Direct.finally_act f H.around) (Es.finally_plan (rewritten false c.maybe_block (b + (temps c.stmts xs + temps c.stmts ys)) f) (env_of H)) next next' lt (same_room room) (rel_catch u v e gh.0 is r) (each (record {
           on = λ c1 le1 e1 e1' w1 z1 n1 g1 s1 y1 m1 is1 r1 k1.
               let keep = stays_trans (stays_catch H.by u v e) k1 in
-              finally_match {J = J} (law H few) f gf tf lt (room_part (omega arith) (omega arith) room) x c1 le1 e1 e1' w1 z1 n1 g1 s1 y1 m1 is1 (rel_back {J = C} {T = T} r.all.scopes.are r.here keep r1) keep;
+              finally_match {J = J} (law H few) f gf tf lt (room_part (omega arith) (omega arith) room) x c1 le1 e1 e1' w1 z1 n1 g1 s1 y1 m1 is1 (rel_back {J = C} {T = T} refl r.all.scopes.are r.here keep r1) keep;
         }))
       where
         same_room : Room H T b (temps c.stmts xs + (temps c.stmts ys + temps c.maybe_block f)) → Room (catching H w s u) T (b + temps c.stmts xs) (temps c.stmts ys)

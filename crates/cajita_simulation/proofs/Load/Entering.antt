@@ -125,7 +125,7 @@ function_keeps by q s = subst (λ h. rows.Keeps s.heap h) (sym (function_new (le
 abbrev load_task : ℕ → Store → Target.Task
 load_task by s = Target.native_call load_module (es.Obj runtime_id) (es.Obj (length s.heap.list) ∷ []) (Target.outermost by s)
 
-load_is : (by : ℕ) (q : Module) (s : Store) (y : Kept) → KnowsPage y → imports_of by y ≡ q.object → Target.task_plan page_table (load_task by s) (made_store by q s) y ≡ Target.list true (module_body q) None (inner by s) (module_store by q s) Target.body_end
+load_is : {rules : Rules} (by : ℕ) (q : Module) (s : Store) (y : Kept) → KnowsPage rules y → imports_of by y ≡ q.object → Target.task_plan page_table (load_task by s) (made_store by q s) y ≡ Target.list true (module_body q) None (inner by s) (module_store by q s) Target.body_end
 load_is by q s y knows is =
     let made = made_store by q s in
     let f = length s.heap.list in
@@ -143,7 +143,7 @@ load_keeps by q s y = refl
 abbrev pub after_load : Cont' → Cont'
 after_load next' e s = bind (Target.on_value_of Target.to_normal e s) next'
 
-called : (rules : Rules) (turn : Turn) {by d : ℕ} (q : Module) (s : Store) {p : Source.Plan} {z : List Item} {n : ℕ} {y : Kept} {m : ℕ} (next' : Cont') → KnowsPage y → imports_of by y ≡ q.object → IsOpened s.heap → Match (sides rules turn) d p z n (bind (Target.list true (module_body q) None (inner by s) (module_store by q s) Target.body_end) next') y (suc m) → Match (sides rules turn) d p z n (bind (Target.do_call (Target.called (member (es.Obj runtime_id) (codes "loadModule"))) (es.Obj (length s.heap.list) ∷ []) (Target.outermost by s) (made_store by q s)) next') y m
+called : (rules : Rules) (turn : Turn) {by d : ℕ} (q : Module) (s : Store) {p : Source.Plan} {z : List Item} {n : ℕ} {y : Kept} {m : ℕ} (next' : Cont') → KnowsPage rules y → imports_of by y ≡ q.object → IsOpened s.heap → Match (sides rules turn) d p z n (bind (Target.list true (module_body q) None (inner by s) (module_store by q s) Target.body_end) next') y (suc m) → Match (sides rules turn) d p z n (bind (Target.do_call (Target.called (member (es.Obj runtime_id) (codes "loadModule"))) (es.Obj (length s.heap.list) ∷ []) (Target.outermost by s) (made_store by q s)) next') y m
 called rules turn {by = by} {d = d} q s {p = p} {z = z} {n = n} {y = y} {m = m} next' knows has is f =
     let made = made_store by q s in
     let vs : List EsValue = es.Obj (length s.heap.list) ∷ [] in
@@ -170,7 +170,7 @@ head_match rules turn {by = by} {d = d} q s {p = p} {z = z} {n = n} {y = y} {m =
     right_enter (subst (λ o. Match (sides rules turn) d p z n (bind o (λ e s1. bind (Target.list_rest true (statements q) None (inner by s) Target.body_end e s1) next')) y (suc m)) (sym skipped) f)
 
 -- the call, the member, the name, the function, `loadModule` itself, and the head of the module's function
-pub enters : (rules : Rules) (turn : Turn) {by d : ℕ} (vars free : KnownNames) (q : Module) (s : Store) {p : Source.Plan} {z : List Item} {n : ℕ} {y : Kept} {m : ℕ} (next' : Cont') → Guest vars free c.stmts q.list → KnowsPage y → imports_of by y ≡ q.object → IsOpened s.heap → s.globals ≡ globals_id
+pub enters : (rules : Rules) (turn : Turn) {by d : ℕ} (vars free : KnownNames) (q : Module) (s : Store) {p : Source.Plan} {z : List Item} {n : ℕ} {y : Kept} {m : ℕ} (next' : Cont') → Guest vars free c.stmts q.list → KnowsPage rules y → imports_of by y ≡ q.object → IsOpened s.heap → s.globals ≡ globals_id
     → Match (sides rules turn) d p z n (bind (Target.list true (statements q) None (inner by s) (module_store by q s) Target.body_end) (after_load next')) y (suc (suc (suc (suc (suc (suc m))))))
     → Match (sides rules turn) d p z n (bind (Target.stmt_plan (load_stmt (module_body q)) [] (Target.outermost by s) s) next') y m
 enters rules turn {by = by} {d = d} vars free q s {p = p} {z = z} {n = n} {y = y} {m = m} next' guest knows has is global f =

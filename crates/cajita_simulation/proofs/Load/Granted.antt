@@ -6,6 +6,8 @@ use Rattle.caja_units.specs.Units.{is_hidden}
 use Rattle.es3_heap.specs.Objects.{Objects, with_object}
 use Rattle.es3_heap.specs.Properties.{find, own, value_of}
 use Rattle.es3_language.specs.Store.{Store}
+use Rattle.doc_nodes.specs.Rows.{Doc}
+use Rattle.rows.specs.Nodes.{Rules}
 use Rattle.cajita_meaning.specs.World.{Pairs, World, value_at}
 use Rattle.cajita_meaning.specs.Doing.{or_nothing}
 use Rattle.cajita_meaning.specs.Imports.{fixed_imports, imports_among}
@@ -73,8 +75,8 @@ all_found : (h : Objects) (o : ℕ) (ps : Pairs) → ((k : List ℕ) → Rattle.
 all_found h o ps f [] = tt
 all_found h o ps f (k ∷ names) = (f k, all_found h o ps f names)
 
-pub load_begins : (modules cells m : ℕ) → m < modules → m < 64 → (names : List (List ℕ)) (ps : Pairs) (qs : Granted) (d : ℕ) (w : World) (z : List Item) (n : ℕ) (g : Tags) (s : Store) (y : Kept) (i : ℕ) → PagePlaces modules cells s.heap → GrantsAre s.heap ps qs → BetweenTurns d w z n g s y i → LoadBegins m names ps qs d w z n g s y i
-load_begins modules cells m among below names ps qs d w z n g s y i places are r =
+pub load_begins : (rules : Rules) (modules cells : ℕ) (doc : Doc) (m : ℕ) → m < modules → m < 64 → (names : List (List ℕ)) (ps : Pairs) (qs : Granted) (d : ℕ) (w : World) (z : List Item) (n : ℕ) (g : Tags) (s : Store) (y : Kept) (i : ℕ) → PagePlaces modules cells doc s.heap → GrantsAre s.heap ps qs → BetweenTurns rules d w z n g s y i → LoadBegins rules m names ps qs d w z n g s y i
+load_begins rules modules cells doc m among below names ps qs d w z n g s y i places are r =
     let l = fixed_values (say_place m) ++ qs in
     let x = record_object (copied l) in
     let h = with_object s.heap x in
@@ -96,7 +98,7 @@ load_begins modules cells m among below names ps qs d w z n g s y i places are r
     let found : (k : List ℕ) → Rattle.row_simulation.specs.Correspond.Val h (or_nothing (value_at k (fixed_imports m ++ ps))) (value_of (own h o k)) = λ k. rw (get-push s.heap.list x) (pair_found h (fixed_imports m ++ ps) l pairs k) in
     let at : imports_of m y' ≡ o = let many = r.kept.imports in get_or-set_same y.imports m o y.runtime (omega (arith, many, below)) in
     record {
-      between = related_settled changes (record { runtime = r.kept.runtime; imports = length-set y.imports m o ∙ r.kept.imports }) r.items (omega arith) r.steps r;
+      between = related_settled changes (record { runtime = r.kept.runtime; imports = length-set y.imports m o ∙ r.kept.imports; whole = r.kept.whole; ruled = r.kept.ruled }) r.items (omega arith) r.steps r;
       lasts = λ a j t. keeps.named a j t;
       imports = record {
         there = let long = length-append s.heap.list (x ∷ []) in omega (arith, at, long);

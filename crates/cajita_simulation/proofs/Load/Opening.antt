@@ -161,12 +161,12 @@ begins_runtime by q us s opens was k e is =
     (λ other. was k e (sym (ap (name_value runtime_name) (names_other (owner_of q s) (scope_names by q us s) (made_store by q s) k other)) ∙ is))
 
 -- the relation behind the marks, when the direct meaning took a step for each import, each function and one more at least, and the interpreter as many as it takes
-pub opening : (rules : Rules) (turn : Turn) (by : ℕ) → by < 64 → (q : Module) (vs : List Value) (us : List EsValue) {w : World} {z : List Item} {n : ℕ} {g : Tags} {s : Store} {y : Kept} {m : ℕ} (n' m' : ℕ) → Guest (known q) (module_free q.vars q.funcs) c.stmts q.list → Declares q → GuestNames q → Guest (known q) (module_free q.vars q.funcs) c.funcs q.funcs → Vals (made_store by q s).heap vs us → length vs ≡ length q.imports → Few q.funcs (suc (suc m)) → one_each q.funcs (suc (suc m)) ≤ m' → m' + 40 ≤ 64 * n' → 64 * n + 2 ≤ 64 * n' → Between w z n g s y m
+pub opening : (rules : Rules) (turn : Turn) (by : ℕ) → by < 64 → (q : Module) (vs : List Value) (us : List EsValue) {w : World} {z : List Item} {n : ℕ} {g : Tags} {s : Store} {y : Kept} {m : ℕ} (n' m' : ℕ) → Guest (known q) (module_free q.vars q.funcs) c.stmts q.list → Declares q → GuestNames q → Guest (known q) (module_free q.vars q.funcs) c.funcs q.funcs → Vals (made_store by q s).heap vs us → length vs ≡ length q.imports → Few q.funcs (suc (suc m)) → one_each q.funcs (suc (suc m)) ≤ m' → m' + 40 ≤ 64 * n' → 64 * n + 2 ≤ 64 * n' → Between rules w z n g s y m
     → Rel (here rules turn by q w s) (first_temps q s) 40 (bound_world by q vs w) z n' (bound_tags by w g) (begun_store by q us s) y m' × Keeps s.heap (begun_store by q us s).heap
 opening rules turn by below q vs us {w = w} {z = z} {n = n} {g = g} {s = s} {y = y} {m = m} n' m' guest same guests functions are long few some fits more r =
     let open_names = opens (known q) (module_free q.vars q.funcs) q (place_first by q s) us guest same guests in
-    let begun : Related no_temps 0 w z n' g s y m = related_steps (omega arith) (omega (arith, more, r.steps)) r in
-    let with_function : Related no_temps 0 w z n' g (made_store by q s) y (suc (suc m)) = related_function (module_code q) by (omega (arith, more, r.steps)) begun in
+    let begun : Related rules no_temps 0 w z n' g s y m = related_steps (omega arith) (omega (arith, more, r.steps)) r in
+    let with_function : Related rules no_temps 0 w z n' g (made_store by q s) y (suc (suc m)) = related_function (module_code q) by (omega (arith, more, r.steps)) begun in
     let direct = next_scope by w ∷ [] in
     let chain = length s.scopes ∷ [] in
     let stands = in_begins rules turn by q us w g s r.scopes.count open_names in

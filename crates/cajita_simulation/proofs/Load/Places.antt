@@ -1,13 +1,20 @@
 -- Where the objects stand that a page begins with, and that they stay there.
-use Rattle.std.proofs.Common.{◌≡◌, ℕ, zero, suc, ◌+◌, ◌*◌, ◌<◌, [], ◌∷◌, ◌++◌, length, sym, ap, subst, arith}
+use Rattle.std.proofs.Common.{◌≡◌, ℕ, zero, suc, ◌+◌, ◌*◌, ◌<◌, false, [], ◌∷◌, ◌++◌, length, sym, ap, subst, arith}
 use Rattle.std.proofs.lemmas.List.{length-append}
+use Rattle.html_kept.specs.Table.{no_urls}
+use Rattle.doc_nodes.specs.Rows.{Doc}
+use Rattle.doc_laws.specs.Reached.{Reached}
+use Rattle.doc_views.specs.Clear.{IsClear}
+use Rattle.doc_views.proofs.Views.{count_is_seen}
+use Rattle.es3_objects.specs.declared.value.Value.TheVariants as es
 use Rattle.es3_objects.specs.declared.value.Tag.TheVariants as tag
 use Rattle.es3_heap.specs.Objects as heap
 use Rattle.es3_heap.specs.Objects.{Objects, with_object}
-use Rattle.cajita_meaning.specs.World.{Value, own_name, cell_name, built_name, tools_name}
-use Rattle.heap_rows.specs.Opening.{first_say, opened, cell_function, cell_record, with_module, with_cell, with_modules, begun}
+use Rattle.cajita_meaning.specs.World.{Name, Value, object, own_name, cell_name, built_name, tools_name, facet_name}
+use Rattle.heap_rows.specs.Opening.{runtime_id, first_say, opened, cell_function, cell_record, with_module, with_cell, with_modules, begun}
 use Rattle.heap_rows.proofs.Made.{opened_long, module_long}
-use Rattle.module_loader.specs.Turns.{say_place, cell_place}
+use Rattle.page_natives.specs.Natives.{new_kept, page_of}
+use Rattle.module_loader.specs.Turns.{say_place, cell_place, page_objects, page_lent}
 use Rattle.row_simulation.specs.Correspond.{Keeps}
 use Rattle.row_simulation.proofs.Relation.{val_still}
 use Rattle.row_simulation.proofs.Row.{keeps_refl, keeps_trans}
@@ -18,13 +25,15 @@ use Rattle.row_simulation.proofs.Imported.{module_there, say_keeps, later_keeps}
 use Rattle.cajita_simulation.specs.Places.{PagePlaces}
 use Rattle.cajita_simulation.specs.Sides.{Lasts}
 use Rattle.cajita_simulation.proofs.Relation.{EsValue, Named, Val}
+use Rattle.cajita_simulation.proofs.Load.Rooted.{page_is}
 
-pub places_last : (modules cells : ℕ) (a b : Objects) → Lasts a b → PagePlaces modules cells a → PagePlaces modules cells b
-places_last modules cells a b l p = record {
+pub places_last : (modules cells : ℕ) (doc : Doc) (a b : Objects) → Lasts a b → PagePlaces modules cells doc a → PagePlaces modules cells doc b
+places_last modules cells doc a b l p = record {
   tools = λ t. l (tools_name t) _ (p.tools t);
   says = λ m lt. l (own_name m 0) _ (p.says m lt);
   delays = λ m lt. l (own_name m 1) _ (p.delays m lt);
   records = λ c lt. l (cell_name c 0) _ (p.records c lt);
+  roots = λ root has. let there = p.roots root has in (there.0, l (facet_name root 0) there.0 there.1);
 }
 
 pub values_last : (a b : Objects) → Lasts a b → (v : Value) (e : EsValue) → Val a v e → Val b v e
@@ -100,10 +109,22 @@ record_at n (suc k) c lt =
     subst (λ i. Named (begun n (suc k)) (cell_name i 0) (cell_place n i)) (sym same) (subst (Named (begun n (suc k)) (cell_name k 0)) place (record_there k (begun n k))))
     (λ other. (cell_keeps k (begun n k)).named (cell_name c 0) _ (record_at n k c (omega (arith, lt, other))))
 
-pub places_begin : (modules cells : ℕ) → PagePlaces modules cells (begun modules cells)
-places_begin modules cells = record {
-  tools = λ t. (cells_keep modules cells).named (tools_name t) _ ((modules_keep modules).named (tools_name t) _ (tools_there t));
-  says = λ m lt. (own_keep m (cells_keep modules cells) (own_there modules m lt)).says;
-  delays = λ m lt. (own_keep m (cells_keep modules cells) (own_there modules m lt)).delays;
-  records = λ c lt. record_at modules cells c lt;
-}
+-- an object that stands for a name
+object_at : (h : Objects) (o : Name) (e : EsValue) → Val h (object o) e → (i : ℕ) × Named h o i
+object_at h o (es.Obj i) is = (i, is)
+object_at h o _ is = absurd is
+
+pub places_begin : (modules cells : ℕ) (doc : Doc) → Reached doc → IsClear doc → PagePlaces modules cells doc (page_objects modules cells doc)
+places_begin modules cells doc reached clear =
+    let is = page_is modules cells doc reached clear in
+    let pages = is.pages false no_urls in
+    record {
+      tools = λ t. is.keeps.named (tools_name t) _ ((cells_keep modules cells).named (tools_name t) _ ((modules_keep modules).named (tools_name t) _ (tools_there t)));
+      says = λ m lt. is.keeps.named (own_name m 0) _ (own_keep m (cells_keep modules cells) (own_there modules m lt)).says;
+      delays = λ m lt. is.keeps.named (own_name m 1) _ (own_keep m (cells_keep modules cells) (own_there modules m lt)).delays;
+      records = λ c lt. is.keeps.named (cell_name c 0) _ (record_at modules cells c lt);
+      roots = λ root has.
+          let many : 0 < length ((page_of (new_kept runtime_id false (page_lent modules cells doc) no_urls)).nodes root) =
+          let same = ap length (pages.nodes root) in let count = count_is_seen doc root in omega (arith, same, count, has) in
+          object_at (page_objects modules cells doc) (facet_name root 0) _ (pages.facets root 0 many);
+    }

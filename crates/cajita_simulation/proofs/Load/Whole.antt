@@ -133,7 +133,7 @@ own_going rules by q vs w a us w' = plan_of (Source.forms rules) by 3 (put 2 us 
 abbrev all_made : World → Reply
 all_made w = answer good [] w
 
-loaded : (rules : Rules) (turn : Turn) (by : ℕ) → by < 64 → (q : Module) → IsGuest q → (vs : List Value) (us : List EsValue) → Laws → (d : ℕ) {w : World} {z : List Item} {n : ℕ} {g : Tags} {s : Store} {y : Kept} {m : ℕ} → imports_of by y ≡ q.object → turn.load ≡ true → turn.began ≡ s.heap → ImportsRead rules turn by q us s → Vals (made_store by q s).heap vs us → length vs ≡ length q.imports → Between w z n g s y m → Match (sides rules turn) d (enter (Source.load_of (module_of q) by vs) w ends) z n (Target.program_plan (t.script (t.more_stmts (load_stmt (module_body q)) t.no_stmts)) by s) y m
+loaded : (rules : Rules) (turn : Turn) (by : ℕ) → by < 64 → (q : Module) → IsGuest q → (vs : List Value) (us : List EsValue) → Laws → (d : ℕ) {w : World} {z : List Item} {n : ℕ} {g : Tags} {s : Store} {y : Kept} {m : ℕ} → imports_of by y ≡ q.object → turn.load ≡ true → turn.began ≡ s.heap → ImportsRead rules turn by q us s → Vals (made_store by q s).heap vs us → length vs ≡ length q.imports → Between rules w z n g s y m → Match (sides rules turn) d (enter (Source.load_of (module_of q) by vs) w ends) z n (Target.program_plan (t.script (t.more_stmts (load_stmt (module_body q)) t.no_stmts)) by s) y m
 loaded rules turn by few q guest vs us laws zero at load began reads are long r = both_cut (omega (arith, r.steps)) r.items
 loaded rules turn by few q guest vs us laws (suc d) {w = w} {z = z} {n = n} {g = g} {s = s} {y = y} {m = m} at load began reads are long r =
     let H = here rules turn by q w s in
@@ -173,7 +173,7 @@ loaded rules turn by few q guest vs us laws (suc d) {w = w} {z = z} {n = n} {g =
     (own_match (laws H few (suc d)) q.list guest.list guest.targets None acc result_stmts d 0 40 Target.body_end ends waits (omega arith) has (room_first q rules turn by w s guest.few) r2 (module_ends H (first_temps q s) by s begins load lasts)))))))))
 
 -- the law of the load of a module
-pub whole : (rules : Rules) (turn : Turn) (by : ℕ) → by < 64 → (q : Module) → IsGuest q → (vs : List Value) (us : List EsValue) → Laws → (d : ℕ) {w : World} {z : List Item} {n : ℕ} {g : Tags} {s : Store} {y : Kept} {m : ℕ} → imports_of by y ≡ q.object → turn.load ≡ true → turn.began ≡ s.heap → ImportsRead rules turn by q us s → Vals (made_store by q s).heap vs us → length vs ≡ length q.imports → Between w z n g s y m → Match (sides rules turn) d (enter (Source.load_of (module_of q) by vs) w ends) z n (Target.program_plan (program_of (module_of q)) by s) y m
+pub whole : (rules : Rules) (turn : Turn) (by : ℕ) → by < 64 → (q : Module) → IsGuest q → (vs : List Value) (us : List EsValue) → Laws → (d : ℕ) {w : World} {z : List Item} {n : ℕ} {g : Tags} {s : Store} {y : Kept} {m : ℕ} → imports_of by y ≡ q.object → turn.load ≡ true → turn.began ≡ s.heap → ImportsRead rules turn by q us s → Vals (made_store by q s).heap vs us → length vs ≡ length q.imports → Between rules w z n g s y m → Match (sides rules turn) d (enter (Source.load_of (module_of q) by vs) w ends) z n (Target.program_plan (program_of (module_of q)) by s) y m
 whole rules turn by few q guest vs us laws d {w = w} {z = z} {n = n} {g = g} {s = s} {y = y} {m = m} at load began reads are long r =
     subst (λ p. Match (sides rules turn) d (enter (Source.load_of (module_of q) by vs) w ends) z n (Target.program_plan p by s) y m) (sym (program_is q))
     (loaded rules turn by few q guest vs us laws d at load began reads are long r)

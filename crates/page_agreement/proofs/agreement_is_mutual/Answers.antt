@@ -1,4 +1,5 @@
-use Rattle.page_agreement.proofs.Worked.{agrees_with_itself, agrees_back}
+use Rattle.page_agreement.proofs.Agrees.{agrees_back}
+use Rattle.page_agreement.proofs.Worked.{agrees_with_itself}
 use Rattle.page_agreement.proofs.agreement_is_mutual.Goals as goal
 
 pub returns-clause-itself : goal.returns-clause-itself

@@ -1,7 +1,7 @@
 use Rattle.std.proofs.Common.{◌<◌, ◌≤◌, length, sym, ap, ◌∙◌, arith}
 use Rattle.es3_objects.specs.declared.value.Value.TheVariants.{Undefined}
-use Rattle.page_natives.specs.Natives.{padded}
-use Rattle.page_natives.proofs.Padded.{padded_more, padded_all}
+use Rattle.dom_facets.specs.Places.{padded}
+use Rattle.dom_facets.proofs.Padded.{padded_more, padded_all}
 use Rattle.page_natives.proofs.natives.pad.Goals as goal
 
 pub loop-cells-preserved : goal.loop-cells-preserved

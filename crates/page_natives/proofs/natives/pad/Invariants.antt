@@ -1,6 +1,6 @@
 use Rattle.std.proofs.Common.{◌≡◌, ◌-◌, length}
 use Rattle.es3_objects.specs.declared.value.Value.TheVariants.{Undefined}
-use Rattle.page_natives.specs.Natives.{padded}
+use Rattle.dom_facets.specs.Places.{padded}
 use Rattle.page_natives.proofs.natives.pad.Given as goal
 
 abbrev pub invariant-loop-cells : goal.invariant-loop-cells

@@ -1,5 +1,5 @@
 use Rattle.std.proofs.Common.{◌<◌, [], length, map, ap, ◌∙◌, arith}
-use Rattle.page_natives.specs.Natives.{padded}
+use Rattle.dom_facets.specs.Places.{padded}
 use Rattle.page_natives.proofs.Queues.{one_more}
 use Rattle.page_natives.proofs.waiting.reach.Goals as goal
 

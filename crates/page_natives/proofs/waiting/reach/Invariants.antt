@@ -1,5 +1,5 @@
 use Rattle.std.proofs.Common.{◌≡◌, ◌-◌, [], length, map}
-use Rattle.page_natives.specs.Natives.{padded}
+use Rattle.dom_facets.specs.Places.{padded}
 use Rattle.page_natives.proofs.waiting.reach.Given as goal
 
 abbrev pub invariant-reach : goal.invariant-reach

@@ -10,7 +10,7 @@ loop-name-preserved c =
     let steps : into_iter_items c.loop-name.name-iterator ≡ (c.in-Some.name, c.in-Some.grant) ∷ rest = search rules in
     record {
       values =
-          one_more c.args.modules (results_of c.args.results.now) c.loop-name.values.items c.push.new.self.items (into_iter_items c.loop-name.name-iterator) rest c.in-Some.name c.in-Some.grant c.in_ok-value.value _ c.loop-name.invariant.values
+          one_more c.args.modules (results_of c.args.results.now) c.args.dom.now c.loop-name.values.items c.push.new.self.items (into_iter_items c.loop-name.name-iterator) rest c.in-Some.name c.in-Some.grant c.in_ok-value.value _ c.loop-name.invariant.values
           steps c.in_ok-value.ensures c.in_ok-push.ensures.items;
       fit = others_fit (into_iter_items c.loop-name.name-iterator) rest c.in-Some.name c.in-Some.grant steps c.loop-name.invariant.fit;
     }

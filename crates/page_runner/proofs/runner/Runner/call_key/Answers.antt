@@ -1,6 +1,7 @@
-use Rattle.std.proofs.Common.{◌≡◌, List, ◌∷◌, map, false, rules, refl, ap, ◌∙◌}
+use Rattle.std.proofs.Common.{◌≡◌, List, ◌∷◌, map, false, Ok, rules, refl, ap, ◌∙◌}
 use Rattle.std.specs.Prelude.{slice_get, unwrap_or}
 use Rattle.std.proofs.lemmas.Option.{unwrap_or-slice_get}
+use Rattle.std.proofs.lemmas.Result.{IfOk-at_ok}
 use Rattle.es3_objects.specs.declared.value.Value.{Value}
 use Rattle.es3_objects.specs.declared.value.Value.TheVariants.{Undefined}
 use Rattle.es3_language.specs.Natives.{throw_reply, invoke_reply}
@@ -23,8 +24,9 @@ returns-in-Call-clause-came c =
     let on = c.value_or-on.result.now in
     let args = c.in_ok-values.values.items in
     let k = c.in_ok-function.field-0 in
-    let replies : (z : Kept) → reply_of k ≡ (key_done m key (on ∷ args) a.heap z).reply = search rules in
-    let heaps : (z : Kept) → c.key_call.new.h ≡ (key_done m key (on ∷ args) a.heap z).heap = search rules in
+    let found_it : c.key_call.result ≡ Ok k = search (c.in_ok-function.was, c.map_err-2.ensures.cases, rules) in
+    let replies : (z : Kept) → reply_of k ≡ (key_done m key (on ∷ args) a.heap z).reply = IfOk-at_ok (λ q. (z : Kept) → reply_of q ≡ (key_done m key (on ∷ args) a.heap z).reply) found_it c.key_call.ensures.reply in
+    let heaps : (z : Kept) → c.key_call.new.h ≡ (key_done m key (on ∷ args) a.heap z).heap = IfOk-at_ok (λ q. (z : Kept) → c.key_call.new.h ≡ (key_done m key (on ∷ args) a.heap z).heap) found_it c.key_call.ensures.store in
     let same_on : on ≡ results_of a.results.items m = c.value_or-on.ensures ∙ ap (λ (l : List Value). unwrap_or (slice_get l m) Undefined) c.deref.ensures.value ∙ unwrap_or-slice_get a.results.items m Undefined in
     let same_args : args ≡ us = search rules in
     let found = looked a m key on (results_of a.results.items m) args us b.heap k (invoke_reply false c.in-Call.function c.in-Call.receiver c.in-Call.values.items) replies heaps same_on same_args (ap reply_of c.in-Call.is) in
@@ -40,8 +42,9 @@ returns-clause-came c =
     let on = c.value_or-on.result.now in
     let args = c.in_ok-values.values.items in
     let k = c.in_ok-function.field-0 in
-    let replies : (z : Kept) → reply_of k ≡ (key_done m key (on ∷ args) a.heap z).reply = search rules in
-    let heaps : (z : Kept) → c.key_call.new.h ≡ (key_done m key (on ∷ args) a.heap z).heap = search rules in
+    let found_it : c.key_call.result ≡ Ok k = search (c.in_ok-function.was, c.map_err-2.ensures.cases, rules) in
+    let replies : (z : Kept) → reply_of k ≡ (key_done m key (on ∷ args) a.heap z).reply = IfOk-at_ok (λ q. (z : Kept) → reply_of q ≡ (key_done m key (on ∷ args) a.heap z).reply) found_it c.key_call.ensures.reply in
+    let heaps : (z : Kept) → c.key_call.new.h ≡ (key_done m key (on ∷ args) a.heap z).heap = IfOk-at_ok (λ q. (z : Kept) → c.key_call.new.h ≡ (key_done m key (on ∷ args) a.heap z).heap) found_it c.key_call.ensures.store in
     let same_on : on ≡ results_of a.results.items m = c.value_or-on.ensures ∙ ap (λ (l : List Value). unwrap_or (slice_get l m) Undefined) c.deref.ensures.value ∙ unwrap_or-slice_get a.results.items m Undefined in
     let same_args : args ≡ us = search rules in
     let found = looked a m key on (results_of a.results.items m) args us b.heap k (throw_reply c.in-Throw.value) replies heaps same_on same_args (ap reply_of c.in-Throw.is) in

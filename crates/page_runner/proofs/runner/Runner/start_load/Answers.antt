@@ -15,14 +15,14 @@ use Rattle.page_runner.proofs.runner.Runner.start_load.Goals as goal
 pub add_imports_of-requires-clause-new : goal.add_imports_of-requires-clause-new
 add_imports_of-requires-clause-new c =
     let a = c.args.self.now in
-    let granted = c.in_ok-granted.ensures ∙ ap (λ (vs : List Value). granted_pairs a.modules (results_of vs) (grants_of c.args.grants.items)) c.deref.ensures.value in
-    subst (λ ps. AreNew (fixed_values (say_place c.args.owner)) ps) (sym granted) (granted_are_new a.modules (results_of a.results.items) c.args.owner c.args.grants.items c.requires.fit.1)
+    let granted = c.in_ok-granted.ensures ∙ ap (λ (vs : List Value). granted_pairs a.modules (results_of vs) a.natives.dom (grants_of c.args.grants.items)) c.deref.ensures.value in
+    subst (λ ps. AreNew (fixed_values (say_place c.args.owner)) ps) (sym granted) (granted_are_new a.modules (results_of a.results.items) a.natives.dom c.args.owner c.args.grants.items c.requires.fit.1)
 
 pub returns-clause-starts : goal.returns-clause-starts
 returns-clause-starts c =
     let a = c.args.self.now in
     let h = c.add_imports_of.new.heap in
-    let granted = c.in_ok-granted.ensures ∙ ap (λ (vs : List Value). granted_pairs a.modules (results_of vs) (grants_of c.args.grants.items)) c.deref.ensures.value in
+    let granted = c.in_ok-granted.ensures ∙ ap (λ (vs : List Value). granted_pairs a.modules (results_of vs) a.natives.dom (grants_of c.args.grants.items)) c.deref.ensures.value in
     on_ok_weaker c.start_program.result (λ started. record {
       started = started;
       heap = c.in_ok-imports.ensures.store ∙ ap (λ ps. with_imports_of c.args.owner ps a.heap) granted;

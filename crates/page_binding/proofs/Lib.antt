@@ -1,0 +1,12 @@
+pub mod Names
+pub mod Least
+pub mod Walked
+pub mod Found
+pub mod Once
+pub mod Overlaps
+pub mod Apart
+pub mod Grantable
+pub mod Bind
+pub mod Rows
+pub mod Entering
+pub mod Tested

@@ -1,0 +1,4 @@
+pub mod Html
+pub mod Documents
+pub mod Ready
+pub mod Answered

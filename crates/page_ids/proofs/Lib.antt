@@ -1,0 +1,5 @@
+pub mod Marks
+pub mod Marked
+pub mod Named
+pub mod Bound
+pub mod Ids

@@ -1,6 +1,0 @@
-use Rattle.std.proofs.Common.{rules}
-use Rattle.property_tables.proofs.Numbers.{number_is_written}
-use Rattle.property_tables.proofs.key_numbers.KeyNumberHasher.write_u64.Goals as goal
-
-pub returns : goal.returns
-returns c = search (rules, number_is_written c.args.self.now.number c.args.i c.ranges.i.fits)

@@ -1,0 +1,5 @@
+//! Worked rows of services.
+#![tactic(auto)]
+
+#[cfg(test)]
+mod rows;
