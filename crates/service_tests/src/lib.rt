@@ -1,5 +1,0 @@
-//! Worked rows of services.
-#![tactic(auto)]
-
-#[cfg(test)]
-mod rows;
