@@ -22,7 +22,7 @@ fn cleaned(alloc: Global, page: &Page) -> Result<Clean, Fail> {
 
 /// The page of a manifest.
 fn page_of(alloc: Global, text: &str) -> Result<Page, Fail> {
-    match read_page(alloc, text.as_bytes(), false) {
+    match read_page(alloc, Vec::new(alloc), text.as_bytes(), false) {
         Ok(page) => Ok(page),
         Err(_) => Err("the manifest is refused".into()),
     }
@@ -31,6 +31,7 @@ fn page_of(alloc: Global, text: &str) -> Result<Page, Fail> {
 /// The roots of a page that is bound.
 fn bound(alloc: Global, page: &Page) -> Result<Result<Roots, PageError>, Fail> {
     let clean = cleaned(alloc, page)?;
+    u32::try_from(page.styles.len())?;
     u32::try_from(page.modules.len())?;
     u32::try_from(page.events.len())?;
     Ok(bind_page(alloc, page, &clean))

@@ -1,7 +1,7 @@
 //! Pages with their documents, each with the number and the place of the first fault in what is granted and asked for; zeros where there is none.
 
-/// Roots, clicks and inputs.
-pub static BOUND: [(&str, &str, u8, u32); 38] = [
+/// Roots, clicks, inputs and sheets.
+pub static BOUND: [(&str, &str, u8, u32); 46] = [
     (
         "nothing is granted",
         r#"{"version":1,"html":"<div id=\"r0\"><p id=\"p\">one<b>two</b></p><input id=\"i\"></div><div id=\"r1\"><span id=\"q\">q</span></div><div id=\"r2\"></div>","modules":[{"name":"m0","language":"cajita","source":""}]}"#,
@@ -228,6 +228,54 @@ pub static BOUND: [(&str, &str, u8, u32); 38] = [
         "a click on an id between",
         r#"{"version":1,"html":"<div id=\"r\"><p id=\"m\"><b id=\"n\"></b></p></div>","modules":[{"name":"m0","language":"cajita","source":"","grants":[{"name":"g0","root":"r"}]}],"events":[{"click":"n"},{"click":"m"}]}"#,
         0,
+        0,
+    ),
+    (
+        "a sheet for a granted root",
+        r#"{"version":1,"html":"<div id=\"r0\"><p id=\"p\">one</p></div><div id=\"r1\"></div>","styles":[{"root":"r0","css":""}],"modules":[{"name":"m0","language":"cajita","source":"","grants":[{"name":"g0","root":"r0"}]}]}"#,
+        0,
+        0,
+    ),
+    (
+        "a sheet for an element inside a root",
+        r#"{"version":1,"html":"<div id=\"r0\"><p id=\"p\">one</p></div><div id=\"r1\"></div>","styles":[{"root":"p","css":""}],"modules":[{"name":"m0","language":"cajita","source":"","grants":[{"name":"g0","root":"r0"}]}]}"#,
+        0,
+        0,
+    ),
+    (
+        "a sheet for an element that nobody is granted",
+        r#"{"version":1,"html":"<div id=\"r0\"><p id=\"p\">one</p></div><div id=\"r1\"></div>","styles":[{"root":"r1","css":""},{"root":"r1","css":""}],"modules":[{"name":"m0","language":"cajita","source":"","grants":[{"name":"g0","root":"r0"}]}]}"#,
+        0,
+        0,
+    ),
+    (
+        "a sheet for an element that isn't there",
+        r#"{"version":1,"html":"<div id=\"r0\"><p id=\"p\">one</p></div><div id=\"r1\"></div>","styles":[{"root":"r0","css":""},{"root":"x","css":""},{"root":"y","css":""}],"modules":[{"name":"m0","language":"cajita","source":"","grants":[{"name":"g0","root":"r0"}]}]}"#,
+        7,
+        1,
+    ),
+    (
+        "a root that isn't there, before a sheet's element",
+        r#"{"version":1,"html":"<div id=\"r0\"><p id=\"p\">one</p></div><div id=\"r1\"></div>","styles":[{"root":"x","css":""}],"modules":[{"name":"m0","language":"cajita","source":""},{"name":"m1","language":"cajita","source":"","grants":[{"name":"g0","root":"y"}]}]}"#,
+        7,
+        1,
+    ),
+    (
+        "a sheet's element that isn't there, before roots that overlap",
+        r#"{"version":1,"html":"<div id=\"r0\"><p id=\"p\">one</p></div><div id=\"r1\"></div>","styles":[{"root":"x","css":""}],"modules":[{"name":"m0","language":"cajita","source":"","grants":[{"name":"g0","root":"r0"}]},{"name":"m1","language":"cajita","source":"","grants":[{"name":"g0","root":"p"}]}]}"#,
+        7,
+        0,
+    ),
+    (
+        "an id twice, before a sheet's element",
+        r#"{"version":1,"html":"<p id=\"a\"></p><p id=\"a\"></p>","styles":[{"root":"x","css":""}],"modules":[{"name":"m0","language":"cajita","source":""}]}"#,
+        6,
+        0,
+    ),
+    (
+        "a sheet's element in other case",
+        r#"{"version":1,"html":"<div id=\"r0\"><p id=\"p\">one</p></div><div id=\"r1\"></div>","styles":[{"root":"R0","css":""}],"modules":[{"name":"m0","language":"cajita","source":"","grants":[{"name":"g0","root":"r0"}]}]}"#,
+        7,
         0,
     ),
 ];

@@ -1,5 +1,6 @@
 -- The page that is run for the page of a manifest, and what is written of it.
-use Rattle.std.proofs.Common.{◌≡◌, ℕ, List, ◌++◌, Bool, Result, Ok, length, sym, ap, subst, ◌∙◌, append_assoc}
+use Rattle.std.proofs.Common.{◌≡◌, ℕ, List, ◌++◌, map, Bool, Result, Ok, length, sym, ap, subst, ◌∙◌, append_assoc}
+use Rattle.std.specs.Global.{Vec}
 use Rattle.html_grammar.specs.Trees.{Tree, many}
 use Rattle.html_kept.specs.Table.{Answers}
 use Rattle.doc_nodes.specs.Rows.{Doc}
@@ -9,12 +10,14 @@ use Rattle.heap_rows.specs.Opening.{runtime_id}
 use Rattle.page_log.specs.Items.{names_of}
 use Rattle.page_natives.specs.Natives.{new_kept}
 use Rattle.module_loader.specs.Turns.{page_lent}
-use Rattle.page_manifest.specs.Page.{Page}
+use Rattle.page_manifest.specs.Page.{Page, Style as Told}
+use Rattle.page_manifest.specs.View.{style}
+use Rattle.page_manifest.specs.declared.Style.{Style}
 use Rattle.page_manifest.specs.Deeds.{deeds}
 use Rattle.page_roots.specs.Roots.{roots_of, number_in}
 use Rattle.page_binding.specs.Nodes.{node_of}
 use Rattle.page_documents.specs.Answered.{Has}
-use Rattle.page_documents.specs.Documents.{page_urls, page_doc, document_outcome}
+use Rattle.page_documents.specs.Documents.{page_urls, page_doc, styles_outcome, document_outcome}
 use Rattle.page_documents.specs.declared.PageDocument.{PageDocument}
 use Rattle.manifest_deeds.specs.Names.{page_names}
 use Rattle.page_runner.specs.Page.{Deed, Run, es3_page}
@@ -23,7 +26,7 @@ use Rattle.page_runner.specs.Outcome.{log_of, html_of, end_of, rule_of, run_from
 use Rattle.page_runner.specs.declared.running.Page.{Page as Plan}
 use Rattle.page_runner.specs.declared.running.Outcome.{Outcome}
 use Rattle.page_meaning.specs.PageRuns.{run_in}
-use Rattle.caja_cli.specs.Output.{framed_groups, framed_html, end_line, run_parts}
+use Rattle.caja_cli.specs.Output.{style_parts, styles_written, framed_groups, framed_html, end_line, run_parts}
 
 abbrev Programs : Type 0
 Programs = List (t.Tree t.program)
@@ -66,12 +69,23 @@ shown opened p ts found plan ps qs touching steps o has e done same names module
     done ∙ ap (deeds (number_in (roots_of p)) (node_of found.document) p) same ∙ ap (λ (d : Doc). deeds (number_in (roots_of p)) (node_of d) p qs) its in
     shown_in opened p (page_doc p ts) plan qs touching steps o all names modules cells (document ∙ its) urls shows
 
+-- what is written for its sheets
+abbrev pub its_styles : Page → List ℕ
+its_styles p = styles_written p.styles (styles_outcome p)
+
+pub styles_are : (p : Page) (found : PageDocument) (before out : List ℕ) (styles : List Style) (texts : List (Vec ℕ)) → Has p found → map style styles ≡ p.styles → texts ≡ found.styles.items
+    → out ≡ before ++ style_parts (map style styles) (map (λ text. text.items) texts) → out ≡ before ++ its_styles p
+styles_are p found before out styles texts h same are is =
+    is ∙ ap (λ (ss : List Told). before ++ style_parts ss (map (λ text. text.items) texts)) same
+    ∙ ap (λ (ts : List (Vec ℕ)). before ++ style_parts p.styles (map (λ text. text.items) ts)) are
+    ∙ ap (λ y. before ++ styles_written p.styles y) (sym h.styles)
+
 -- what was written of it, from its pieces
 pub parts_of :
-    (framed : Bool) (p : Page) (r : Run) (o : Outcome) (texts before out : List ℕ) → Shows (page_names p) r o → before ≡ texts ++ framed_groups framed p
+    (framed : Bool) (p : Page) (r : Run) (o : Outcome) (texts before out : List ℕ) → Shows (page_names p) r o → before ≡ texts ++ (its_styles p ++ framed_groups framed p)
     → out ≡ (before ++ o.log.items) ++ (framed_html framed o.html.items ++ end_line o.end) → out ≡ texts ++ run_parts framed p r
 parts_of framed p r o texts before out shows e all =
-    let groups : List ℕ = framed_groups framed p in
+    let groups : List ℕ = its_styles p ++ framed_groups framed p in
     let html : List ℕ = framed_html framed (html_of r) in
     let last : List ℕ = end_line (end_of r) in
     let log : List ℕ = log_of (page_names p) r in

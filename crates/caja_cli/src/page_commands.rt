@@ -1,6 +1,6 @@
-// The commands that run a page: `page` and `run` over a manifest, and `solo`, the page of one module.
+// The commands that run a page: `page` and `run` over a manifest, `solo`, the page of one module, and `gen`, a page that is generated.
 
-ghost use Rattle.std.specs.Prelude.{◌≡◌, ◌++◌, ◌<◌, ◌^◌, true, false, length, map, IfOk, OnOk};
+ghost use Rattle.std.specs.Prelude.{◌≡◌, ◌++◌, ◌<◌, ◌≤◌, ◌^◌, true, false, length, map, IfOk, OnOk};
 ghost use Rattle.html_grammar.specs.Trees.{Tree, many};
 ghost use Rattle.es3_tree.specs.View.{program as program_view};
 ghost use Rattle.page_cajole.specs.PageAnswers.{refusal_of, runnable};
@@ -11,12 +11,16 @@ ghost use Rattle.page_manifest.specs.Read.{page_of};
 ghost use Rattle.page_manifest.specs.Valid.{IsValid};
 ghost use Rattle.page_manifest.specs.View.{page as page_view};
 ghost use Rattle.manifest_deeds.specs.Names.{page_names};
-ghost use Rattle.caja_cli.specs.Output.{lone_page, of_manifest, page_output, cajoled_parts, texts_parts, module_parts, programs_in, module_refused, framed_groups, framed_html, end_line as end_line_of};
+ghost use Rattle.url_rule.specs.Table.{rows_of};
+ghost use Rattle.caja_gen.specs.Generated.{generated};
+ghost use Rattle.caja_cli.specs.Output.{lone_page, of_manifest, page_output, cajoled_parts, texts_parts, summary_parts, parts_in, module_parts, programs_in, module_refused, framed_groups, framed_html, end_line as end_line_of};
 
 use crate::ending::{end_line, end_status};
-use crate::parts::{push_groups, push_html, push_module, push_name};
+use crate::forms::Form;
+use crate::parts::{push_groups, push_html, push_module, push_name, push_styles, push_summary};
 use crate::refusal::refused;
 use crate::status::Status;
+use caja_gen::generate;
 use caja_units::{Memory, Units};
 use command_words::Options;
 use es3_tree::Program;
@@ -27,6 +31,7 @@ use page_manifest::{Lang, ModuleSpec, Page, PageError, read_page};
 use page_runner::{End, run_page, run_texts};
 use reach_report::page_groups;
 use std::alloc::Global;
+use url_rule::{Asks, UriRow, UriRule};
 
 /// The steps of ECMAScript 3 for each direct one.
 const STEPS_OF_ONE: u64 = 64;
@@ -37,9 +42,9 @@ pub const MAIN: &[u8] = b"main";
 /// The number of the only refusal of the stage `label`.
 const BAD_LABEL: u8 = 1;
 
-/// The page of one module, without HTML, grants and events.
-fn lone_page(alloc: Global, source: &[u8]) -> Result<Page, Memory>
-    ensures { IfOk result (λ p. page_view p ≡ lone_page source.now) }
+/// The page of one module, without HTML, sheets, grants and events.
+fn lone_page(alloc: Global, rule: Vec<UriRow>, source: &[u8]) -> Result<Page, Memory>
+    ensures { IfOk result (λ p. page_view p ≡ lone_page (rows_of rule.items) source.now) }
 {
     let main = ModuleSpec {
         name: Units::from_ascii(alloc, MAIN)?,
@@ -48,7 +53,10 @@ fn lone_page(alloc: Global, source: &[u8]) -> Result<Page, Memory>
         grants: Vec::new(alloc),
     };
     Ok(Page {
+        rule,
+        base: None,
         html: Vec::new(alloc),
+        styles: Vec::new(alloc),
         cells: Vec::new(alloc),
         modules: vec![in alloc; main]?,
         events: Vec::new(alloc),
@@ -81,6 +89,7 @@ fn refused_module(
         Stage::Read(number, place) => refused(alloc, &who, "read", number, place),
         Stage::Label(place) => refused(alloc, &who, "label", BAD_LABEL, place),
         Stage::Rule(number, place) => refused(alloc, &who, "rule", number, place),
+        Stage::Valija(number, place) => refused(alloc, &who, "valija", number, place),
     }
 }
 
@@ -165,6 +174,7 @@ fn run_cajoled(
 {
     let mut out = Vec::new(alloc);
     push_texts(alloc, &mut out, &page, &cajoled)?;
+    push_styles(alloc, &mut out, &page.styles, &found.styles)?;
     if framed {
         push_page_groups(alloc, &mut out, &page)?;
     }
@@ -174,6 +184,61 @@ fn run_cajoled(
     out.extend_from_slice(&outcome.log)?;
     push_end(alloc, &mut out, &outcome.html, outcome.end, framed)?;
     Ok((out, end_status(outcome.end)))
+}
+
+/// What is written of a page that was generated to have so many events.
+fn run_summed(
+    alloc: Global,
+    page: Page,
+    found: PageDocument,
+    cajoled: Vec<CajoledModule>,
+    options: Options,
+    wanted: u32,
+) -> Result<(Vec<u8>, Status), Memory>
+    requires valid { IsValid (page_view page) }
+    requires found { Has (page_view page) found }
+    requires same { length cajoled.items ≡ length page.modules.items }
+    ensures text { IfOk result (λ r. (ts : Tree many) → document_outcome (page_view page) ≡ Ok ts → r.0.items ≡ (summary_parts wanted options (page_view page) ts (map runnable cajoled.items)).0) }
+    ensures status { IfOk result (λ r. (ts : Tree many) → document_outcome (page_view page) ≡ Ok ts → r.1 ≡ (summary_parts wanted options (page_view page) ts (map runnable cajoled.items)).1) }
+{
+    let modules = page.modules.len();
+    let events = page.events.len();
+    let plan = planned(alloc, page, found, programs_of(alloc, cajoled)?)?;
+    let steps = STEPS_OF_ONE * u64::from(options.steps);
+    let outcome = run_page(alloc, plan, steps, options.touch)?;
+    let mut out = Vec::new(alloc);
+    push_summary(
+        alloc,
+        &mut out,
+        wanted,
+        modules,
+        events,
+        outcome.lines,
+        outcome.end,
+    )?;
+    Ok((out, end_status(outcome.end)))
+}
+
+/// What is written of a page whose modules are cajoled, in this form.
+fn run_in_form(
+    alloc: Global,
+    page: Page,
+    found: PageDocument,
+    cajoled: Vec<CajoledModule>,
+    options: Options,
+    form: Form,
+) -> Result<(Vec<u8>, Status), Memory>
+    requires valid { IsValid (page_view page) }
+    requires found { Has (page_view page) found }
+    requires same { length cajoled.items ≡ length page.modules.items }
+    ensures text { IfOk result (λ r. (ts : Tree many) → document_outcome (page_view page) ≡ Ok ts → r.0.items ≡ (parts_in form options (page_view page) ts (map runnable cajoled.items)).0) }
+    ensures status { IfOk result (λ r. (ts : Tree many) → document_outcome (page_view page) ≡ Ok ts → r.1 ≡ (parts_in form options (page_view page) ts (map runnable cajoled.items)).1) }
+{
+    match form {
+        Form::Alone => run_cajoled(alloc, page, found, cajoled, options, false),
+        Form::Framed => run_cajoled(alloc, page, found, cajoled, options, true),
+        Form::Summed(wanted) => run_summed(alloc, page, found, cajoled, options, wanted),
+    }
 }
 
 /// What is written of a page of texts that run as they stand.
@@ -191,6 +256,7 @@ fn run_as_they_stand(
     ensures status { IfOk result (λ r. (ts : Tree many) → document_outcome (page_view page) ≡ Ok ts → r.1 ≡ (texts_parts options (page_view page) ts (map runnable texts.items)).1) }
 {
     let mut out = Vec::new(alloc);
+    push_styles(alloc, &mut out, &page.styles, &found.styles)?;
     push_page_groups(alloc, &mut out, &page)?;
     let plan = planned(alloc, page, found, programs_of(alloc, texts)?)?;
     let outcome = run_texts(alloc, plan, u64::from(options.steps), options.touch)?;
@@ -205,15 +271,15 @@ fn run_modules(
     page: Page,
     found: PageDocument,
     options: Options,
-    framed: bool,
+    form: Form,
 ) -> Result<(Vec<u8>, Status), Memory>
     requires valid { IsValid (page_view page) }
     requires found { Has (page_view page) found }
-    ensures text { IfOk result (λ r. r.0.items ≡ (page_output (cajoled_parts framed options) (page_view page)).0) }
-    ensures status { IfOk result (λ r. r.1 ≡ (page_output (cajoled_parts framed options) (page_view page)).1) }
+    ensures text { IfOk result (λ r. r.0.items ≡ (page_output (parts_in form options) (page_view page)).0) }
+    ensures status { IfOk result (λ r. r.1 ≡ (page_output (parts_in form options) (page_view page)).1) }
 {
     match cajole_all(alloc, &page) {
-        Ok(cajoled) => run_cajoled(alloc, page, found, cajoled, options, framed),
+        Ok(cajoled) => run_in_form(alloc, page, found, cajoled, options, form),
         Err(CajoleError::Module(at, stage)) => refused_module(alloc, &page, at, stage),
         Err(CajoleError::Memory) => Err(Memory),
     }
@@ -239,70 +305,107 @@ fn run_all_texts(
 }
 
 /// What is written of a page, where it has a document or none.
-fn run_sources(
+fn run_sources<F: Asks>(
     alloc: Global,
+    rule: &UriRule<F>,
     page: Page,
     options: Options,
-    framed: bool,
+    form: Form,
 ) -> Result<(Vec<u8>, Status), Memory>
+    requires rule { rows_of rule.now.table.items ≡ (page_view page).rule }
     requires valid { IsValid (page_view page) }
-    ensures text { IfOk result (λ r. r.0.items ≡ (page_output (cajoled_parts framed options) (page_view page)).0) }
-    ensures status { IfOk result (λ r. r.1 ≡ (page_output (cajoled_parts framed options) (page_view page)).1) }
+    ensures text { IfOk result (λ r. r.0.items ≡ (page_output (parts_in form options) (page_view page)).0) }
+    ensures status { IfOk result (λ r. r.1 ≡ (page_output (parts_in form options) (page_view page)).1) }
 {
-    match document_of(alloc, &page) {
-        Ok(found) => run_modules(alloc, page, found, options, framed),
+    match document_of(alloc, rule, &page) {
+        Ok(found) => run_modules(alloc, page, found, options, form),
         Err(DocumentError::Html(number, place)) => refused(alloc, b"-", "html", number, place),
+        Err(DocumentError::Css(number, place)) => refused(alloc, b"-", "css", number, place),
         Err(DocumentError::Ids(number, place)) => refused(alloc, b"-", "page", number, place),
         Err(DocumentError::Memory) => Err(Memory),
     }
 }
 
 /// The same of a page of texts.
-fn run_manifest_texts(
+fn run_manifest_texts<F: Asks>(
     alloc: Global,
+    rule: &UriRule<F>,
     page: Page,
     options: Options,
 ) -> Result<(Vec<u8>, Status), Memory>
+    requires rule { rows_of rule.now.table.items ≡ (page_view page).rule }
     requires valid { IsValid (page_view page) }
     ensures text { IfOk result (λ r. r.0.items ≡ (page_output (texts_parts options) (page_view page)).0) }
     ensures status { IfOk result (λ r. r.1 ≡ (page_output (texts_parts options) (page_view page)).1) }
 {
-    match document_of(alloc, &page) {
+    match document_of(alloc, rule, &page) {
         Ok(found) => run_all_texts(alloc, page, found, options),
         Err(DocumentError::Html(number, place)) => refused(alloc, b"-", "html", number, place),
+        Err(DocumentError::Css(number, place)) => refused(alloc, b"-", "css", number, place),
         Err(DocumentError::Ids(number, place)) => refused(alloc, b"-", "page", number, place),
         Err(DocumentError::Memory) => Err(Memory),
     }
 }
 
 /// What is written for the source of a module that is alone, and the status.
-pub fn solo(alloc: Global, input: &[u8], options: Options) -> Result<(Vec<u8>, Status), Memory>
-    ensures text { IfOk result (λ r. r.0.items ≡ (page_output (cajoled_parts false options) (lone_page input.now)).0) }
-    ensures status { IfOk result (λ r. r.1 ≡ (page_output (cajoled_parts false options) (lone_page input.now)).1) }
+pub fn solo<F: Asks>(
+    alloc: Global,
+    rule: &UriRule<F>,
+    input: &[u8],
+    options: Options,
+) -> Result<(Vec<u8>, Status), Memory>
+    ensures text { IfOk result (λ r. r.0.items ≡ (page_output (cajoled_parts false options) (lone_page (rows_of rule.now.table.items) input.now)).0) }
+    ensures status { IfOk result (λ r. r.1 ≡ (page_output (cajoled_parts false options) (lone_page (rows_of rule.now.table.items) input.now)).1) }
 {
-    let page = lone_page(alloc, input)?;
-    run_sources(alloc, page, options, false)
+    let page = lone_page(alloc, rule.rows(alloc)?, input)?;
+    run_sources(alloc, rule, page, options, Form::Alone)
+}
+
+/// What is written of a page that is generated to have so many events, and the status.
+pub fn generated<F: Asks>(
+    alloc: Global,
+    rule: &UriRule<F>,
+    wanted: u32,
+    options: Options,
+) -> Result<(Vec<u8>, Status), Memory>
+    requires some { 1 ≤ wanted }
+    requires few { wanted ≤ 2000 }
+    ensures text { IfOk result (λ r. r.0.items ≡ (page_output (summary_parts wanted options) (generated (rows_of rule.now.table.items) wanted)).0) }
+    ensures status { IfOk result (λ r. r.1 ≡ (page_output (summary_parts wanted options) (generated (rows_of rule.now.table.items) wanted)).1) }
+{
+    let page = generate(alloc, rule.rows(alloc)?, wanted)?;
+    run_sources(alloc, rule, page, options, Form::Summed(wanted))
 }
 
 /// What is written for the manifest of a page, and the status.
-pub fn page(alloc: Global, input: &[u8], options: Options) -> Result<(Vec<u8>, Status), Memory>
-    ensures text { IfOk result (λ r. r.0.items ≡ (of_manifest (page_output (cajoled_parts true options)) (page_of false input.now)).0) }
-    ensures status { IfOk result (λ r. r.1 ≡ (of_manifest (page_output (cajoled_parts true options)) (page_of false input.now)).1) }
+pub fn page<F: Asks>(
+    alloc: Global,
+    rule: &UriRule<F>,
+    input: &[u8],
+    options: Options,
+) -> Result<(Vec<u8>, Status), Memory>
+    ensures text { IfOk result (λ r. r.0.items ≡ (of_manifest (page_output (cajoled_parts true options)) (page_of (rows_of rule.now.table.items) false input.now)).0) }
+    ensures status { IfOk result (λ r. r.1 ≡ (of_manifest (page_output (cajoled_parts true options)) (page_of (rows_of rule.now.table.items) false input.now)).1) }
 {
-    match read_page(alloc, input, false) {
-        Ok(page) => run_sources(alloc, page, options, true),
+    match read_page(alloc, rule.rows(alloc)?, input, false) {
+        Ok(page) => run_sources(alloc, rule, page, options, Form::Framed),
         Err(PageError::Fault(number, place)) => refused(alloc, b"-", "page", number, place),
         Err(PageError::Memory) => Err(Memory),
     }
 }
 
 /// What is written for the manifest of a page of texts, and the status.
-pub fn run(alloc: Global, input: &[u8], options: Options) -> Result<(Vec<u8>, Status), Memory>
-    ensures text { IfOk result (λ r. r.0.items ≡ (of_manifest (page_output (texts_parts options)) (page_of true input.now)).0) }
-    ensures status { IfOk result (λ r. r.1 ≡ (of_manifest (page_output (texts_parts options)) (page_of true input.now)).1) }
+pub fn run<F: Asks>(
+    alloc: Global,
+    rule: &UriRule<F>,
+    input: &[u8],
+    options: Options,
+) -> Result<(Vec<u8>, Status), Memory>
+    ensures text { IfOk result (λ r. r.0.items ≡ (of_manifest (page_output (texts_parts options)) (page_of (rows_of rule.now.table.items) true input.now)).0) }
+    ensures status { IfOk result (λ r. r.1 ≡ (of_manifest (page_output (texts_parts options)) (page_of (rows_of rule.now.table.items) true input.now)).1) }
 {
-    match read_page(alloc, input, true) {
-        Ok(page) => run_manifest_texts(alloc, page, options),
+    match read_page(alloc, rule.rows(alloc)?, input, true) {
+        Ok(page) => run_manifest_texts(alloc, rule, page, options),
         Err(PageError::Fault(number, place)) => refused(alloc, b"-", "page", number, place),
         Err(PageError::Memory) => Err(Memory),
     }

@@ -1,10 +1,15 @@
-// The parts of an output: the texts of modules, the groups, and the text of the document.
+// The parts of an output: the texts of modules, what is written for sheets, the groups, and the text of the document.
 
 ghost use Rattle.std.specs.Prelude.{◌≡◌, ◌++◌, map, OnOk};
 ghost use Rattle.page_log.specs.Log.{name_in};
-ghost use Rattle.caja_cli.specs.Output.{sized, module_part, html_part, group_words, group_line, group_lines};
+ghost use Rattle.page_manifest.specs.View.{style as style_told};
+ghost use Rattle.caja_units.specs.Index.{number_units};
+ghost use Rattle.caja_cli.specs.Output.{sized, module_part, style_part, style_parts, html_part, group_words, group_line, group_lines, summary};
 
+use crate::ending::end_line;
 use caja_units::{Memory, Units};
+use page_manifest::Style;
+use page_runner::End;
 use std::alloc::Global;
 
 /// Appends `LENGTH`, and the text.
@@ -32,6 +37,31 @@ pub fn push_module(
     name.push_utf8(out)?;
     out.push(b' ')?;
     push_sized(alloc, out, text)
+}
+
+/// Appends `style ROOT LENGTH`, and what is written for a sheet.
+fn push_style(alloc: Global, out: &mut Vec<u8>, root: &Units, text: &[u8]) -> Result<(), Memory>
+    ensures { OnOk result (out.new.items ≡ out.old.items ++ style_part root.now text.now) }
+{
+    out.extend_from_slice(b"style ")?;
+    root.push_utf8(out)?;
+    out.push(b' ')?;
+    push_sized(alloc, out, text)
+}
+
+/// Appends what is written for each sheet.
+pub fn push_styles(
+    alloc: Global,
+    out: &mut Vec<u8>,
+    styles: &[Style],
+    texts: &[Vec<u8>],
+) -> Result<(), Memory>
+    ensures { OnOk result (out.new.items ≡ out.old.items ++ style_parts (map style_told styles.now) (map (λ text. text.items) texts.now)) }
+{
+    for (style, text) in styles.iter().zip(texts.iter()) {
+        push_style(alloc, out, &style.root, text)?;
+    }
+    Ok(())
 }
 
 /// Appends `html LENGTH`, and the text.
@@ -88,5 +118,36 @@ pub fn push_groups(out: &mut Vec<u8>, names: &[Units], groups: &[Vec<u32>]) -> R
     for group in groups {
         push_group(out, names, group)?;
     }
+    Ok(())
+}
+
+/// Appends a word and a number.
+fn push_count(alloc: Global, out: &mut Vec<u8>, word: &[u8], count: u64) -> Result<(), Memory>
+    ensures { OnOk result (out.new.items ≡ out.old.items ++ (word.now ++ number_units count)) }
+{
+    out.extend_from_slice(word)?;
+    let digits = count.to_string(alloc)?;
+    out.extend_from_slice(digits.as_bytes())?;
+    Ok(())
+}
+
+/// Appends `gen N modules K events M lines L` and how the page ended.
+pub fn push_summary(
+    alloc: Global,
+    out: &mut Vec<u8>,
+    wanted: u32,
+    modules: usize,
+    events: usize,
+    lines: u64,
+    end: End,
+) -> Result<(), Memory>
+    ensures { OnOk result (out.new.items ≡ out.old.items ++ summary wanted modules events lines end) }
+{
+    push_count(alloc, out, b"gen ", u64::from(wanted))?;
+    push_count(alloc, out, b" modules ", modules as u64)?;
+    push_count(alloc, out, b" events ", events as u64)?;
+    push_count(alloc, out, b" lines ", lines)?;
+    out.push(b' ')?;
+    out.extend_from_slice(end_line(end))?;
     Ok(())
 }

@@ -1,5 +1,6 @@
 //! Tables of pages: a row is a title behind `# `, the words, the manifest, a line `⇒`, and what is written.
 
+use crate::manifests::manifest_in;
 use crate::runs::run;
 use caja_cli::Status;
 use caja_units::Memory;
@@ -67,6 +68,38 @@ pub fn behind_texts(output: &str) -> Option<&str> {
         }
     }
     Some(rest)
+}
+
+/// The log of a page of one module, `main`, without a document, if it ends done.
+fn log_of_main(output: &str) -> Option<&str> {
+    let log = behind_texts(output)?.strip_prefix("group main\n")?;
+    log.strip_suffix("\nhtml 0\n\nend done\n")
+}
+
+/// Whether the page of a module in this language ends done with the log that its row tells, with a bar between its lines.
+fn is_logged(alloc: Global, language: &str, row: &str) -> Result<bool, Memory> {
+    let (source, wanted) = row.split_once(" ⇒ ").unwrap_or((row, ""));
+    let manifest = manifest_in(alloc, language, source)?;
+    let (status, output) = run(alloc, "page", manifest.as_bytes())?;
+    let log = match str::from_utf8(&output) {
+        Ok(output) => log_of_main(output),
+        Err(_) => None,
+    };
+    let is_wanted = match log {
+        Some(log) => log.lines().eq(wanted.split('¦')),
+        None => false,
+    };
+    Ok(status == Status::Done && is_wanted)
+}
+
+/// The first row of a table of modules in this language, each with its log, that gives another log is the failure.
+pub fn check_modules(alloc: Global, language: &str, table: &'static str) -> Result<(), Fail> {
+    for row in table.lines() {
+        if !row.is_empty() && !is_logged(alloc, language, row)? {
+            return Err(row.into());
+        }
+    }
+    Ok(())
 }
 
 /// Whether what is written is as a row wants it, with the texts of the modules or behind them.

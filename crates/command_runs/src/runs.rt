@@ -3,8 +3,10 @@
 use caja_cli::{Status, caja};
 use caja_io::{MemSink, MemSource};
 use caja_units::Memory;
+use host_services::{Row, Services};
 use std::alloc::Global;
 use std::test::Fail;
+use url_rule::{UriRow, UriRule};
 
 /// The room for what a row writes, in bytes.
 pub const ROOM: usize = 16_384;
@@ -29,7 +31,23 @@ pub fn sink(alloc: Global, room: usize) -> Result<MemSink, Memory> {
     Ok(MemSink::new(4096, room, Vec::new(alloc)))
 }
 
-/// What a command answers and writes, from this source to this sink.
+/// The rule of the program: any URL by `https` may be named.
+pub fn secure(alloc: Global) -> Result<UriRule<Vec<UriRow>>, Memory> {
+    let row = UriRow {
+        kind: None,
+        scheme: String::from_str(alloc, "https")?,
+        host: None,
+        sub: false,
+    };
+    UriRule::of_table(alloc, vec![in alloc; row]?)
+}
+
+/// No services.
+pub fn no_services(alloc: Global) -> Services<Vec<Row>> {
+    Services::none(alloc)
+}
+
+/// What a command answers and writes, from this source to this sink, by the rule of the program.
 pub fn outcome(
     alloc: Global,
     command: &str,
@@ -37,7 +55,14 @@ pub fn outcome(
     mut sink: MemSink,
 ) -> Result<(Status, Vec<u8>), Memory> {
     let words = words(alloc, command)?;
-    let status = caja(&words, &mut source, &mut sink, alloc);
+    let status = caja(
+        &words,
+        &mut source,
+        &mut sink,
+        &secure(alloc)?,
+        &no_services(alloc),
+        alloc,
+    );
     Ok((status, sink.written().to_vec(alloc)?))
 }
 

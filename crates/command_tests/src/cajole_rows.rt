@@ -4,19 +4,21 @@ use caja_cli::Status;
 use caja_units::Memory;
 use command_runs::runs::run;
 use command_runs::tables::check_ends;
-use page_cajole::{Answer, cajole};
+use page_cajole::{Answer, Dialect, cajole};
 use std::alloc::Global;
 use std::test::Fail;
 
 /// What becomes of a source: the length of its cajoled text, in bytes, or the stage that refuses it, the number of the refusal
 /// and the byte where it is.
 fn answer(alloc: Global, source: &str) -> Result<(usize, &'static str, u8, u32), Memory> {
-    Ok(match cajole(alloc, source.as_bytes(), &[])? {
-        Answer::Module(module) => (module.text.len(), "", 0, 0),
-        Answer::Uncut(number, at) => (0, "lex", number, at),
-        Answer::Unread(number, at) => (0, "read", number, at),
-        Answer::Broken(number, at) => (0, "rule", number, at),
-    })
+    Ok(
+        match cajole(alloc, Dialect::Cajita, source.as_bytes(), &[])? {
+            Answer::Module(module) => (module.text.len(), "", 0, 0),
+            Answer::Uncut(number, at) => (0, "lex", number, at),
+            Answer::Unread(number, at) => (0, "read", number, at),
+            Answer::Broken(number, at) => (0, "rule", number, at),
+        },
+    )
 }
 
 /// A source and what becomes of it.

@@ -4,7 +4,9 @@ use caja_cli::{Status, caja};
 use caja_io::{MemSink, MemSource, read_all};
 use caja_units::Memory;
 use command_runs::page_tables::check_outputs;
-use command_runs::runs::{ROOM, check_refusals, outcome, refuses, run, sink, source, words};
+use command_runs::runs::{
+    ROOM, check_refusals, no_services, outcome, refuses, run, secure, sink, source, words,
+};
 use command_runs::tables::check_ends;
 use std::alloc::Global;
 use std::test::Fail;
@@ -161,7 +163,14 @@ fn a_sink_that_takes_nothing_has_no_room(rt: HostRuntime) -> Result<(), Fail> {
 fn is_answered(alloc: Global, source: &mut MemSource) -> Result<bool, Memory> {
     let words = words(alloc, "walk")?;
     let mut sink = sink(alloc, ROOM)?;
-    let status = caja(&words, source, &mut sink, alloc);
+    let status = caja(
+        &words,
+        source,
+        &mut sink,
+        &secure(alloc)?,
+        &no_services(alloc),
+        alloc,
+    );
     Ok(status == Status::Usage && sink.written() == b"usage\n".as_slice())
 }
 

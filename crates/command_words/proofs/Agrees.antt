@@ -12,7 +12,7 @@ use Rattle.clap.specs.Words.{App, fault_of, is_simple, is_simple_and_free, match
 use Rattle.clap.specs.declared.error.Error.{Error}
 use Rattle.clap.specs.declared.error.kind.ErrorKind.TheVariants.{OutOfMemory}
 use Rattle.clap.proofs.OnLiterals.{clap_on_literals}
-use Rattle.command_words.specs.Words.{alone, beside, given, given_alone, number_of, options, options_of}
+use Rattle.command_words.specs.Words.{alone, beside, given, given_alone, most_steps, number_of, options, options_of}
 use Rattle.command_words.specs.Matched.{is_dashes, is_fault, refuses, steps_in}
 use Rattle.command_words.specs.declared.Options.{Options}
 use Rattle.command_words.specs.declared.Command.{Command}
@@ -55,10 +55,10 @@ and_some f (Some x) = refl
 at_end : (s : Told) → read (walk_at s) [] ≡ told_of s []
 unfolding clap_on_literals
 at_end nothing = refl
-at_end (of_steps v) = ap (λ (o : Option Options). (o, true)) (and_some (λ n. options n false) (number_of v))
+at_end (of_steps v) = ap (λ (o : Option Options). (o, true)) (and_some (λ n. options n false) (number_of most_steps v))
 at_end of_touch = refl
-at_end (steps_touch v) = ap (λ (o : Option Options). (o, true)) (and_some (λ n. options n true) (number_of v))
-at_end (touch_steps v) = ap (λ (o : Option Options). (o, true)) (and_some (λ n. options n true) (number_of v))
+at_end (steps_touch v) = ap (λ (o : Option Options). (o, true)) (and_some (λ n. options n true) (number_of most_steps v))
+at_end (touch_steps v) = ap (λ (o : Option Options). (o, true)) (and_some (λ n. options n true) (number_of most_steps v))
 
 then_told : (ws : List Text) (o : Option Told) → ((s : Told) → read (walk_at s) ws ≡ told_of s ws) → read_then ws o ≡ (chosen_then (given ws) o, true)
 then_told ws None rest = refl

@@ -1,4 +1,4 @@
--- A text that is no number of steps.
+-- A text that is no number up to the most.
 use Rattle.std.proofs.Common.{◌≡◌, ℕ, ◌<◌, ◌≤◌, ◌^◌, true, List, [], ◌∷◌, None, Err, length, refl, sym, ◌∙◌, arith, rules}
 use Rattle.std.specs.Char.{is_ascii_digit}
 use Rattle.std.specs.List.{list_all}
@@ -12,17 +12,18 @@ own : IsNumeralModel (λ ds. list_all is_ascii_digit ds ≡ true) (digits_value 
 own = numerals_by_value _ (search rules)
 
 -- of a word that has digits alone, and eight at most
-number_digits : (w : List ℕ) → list_all is_ascii_digit w ≡ true → length w ≤ 8 → number_of w ≡ within (digits_value 10 w)
-number_digits w digits short = rw (digits, le-leb (length w) 8 short) refl
+number_digits : (most : ℕ) (w : List ℕ) → list_all is_ascii_digit w ≡ true → length w ≤ 8 → number_of most w ≡ within most (digits_value 10 w)
+number_digits most w digits short = rw (digits, le-leb (length w) 8 short) refl
 
-within_far : (n : ℕ) → 2 ^ 32 ≤ n → within n ≡ None
-within_far n far = grind (arith, nat_tests)
+within_far : (most n : ℕ) → most < 2 ^ 32 → 2 ^ 32 ≤ n → within most n ≡ None
+within_far most n small far = grind (arith, nat_tests)
 
 -- of a text that is no number below 2^32
-none_within : (w : List ℕ) → ((0 < length w) × (digits_value 10 w < 2 ^ 32) → ⊥) → within (digits_value 10 w) ≡ None
-none_within [] none = refl
-none_within (c ∷ cs) none = within_far (digits_value 10 (c ∷ cs)) (grind (arith, none))
+none_within : (most : ℕ) (w : List ℕ) → most < 2 ^ 32 → ((0 < length w) × (digits_value 10 w < 2 ^ 32) → ⊥) → within most (digits_value 10 w) ≡ None
+none_within most [] small none = refl
+none_within most (c ∷ cs) small none = within_far most (digits_value 10 (c ∷ cs)) small (grind (arith, none))
 
-pub number_unread : (E : Type 0) (w : List ℕ) (e : E) → ParsesUnsigned 32 10 w (Err e) → list_all is_ascii_digit w ≡ true → length w ≤ 8 → None ≡ number_of w
-number_unread E w e parses digits short =
-    let none = parse_digits own {E = E} 32 w (Err e) parses digits in sym (number_digits w digits short ∙ none_within w none)
+pub number_unread : (E : Type 0) (most : ℕ) (w : List ℕ) (e : E) → most < 2 ^ 32 → ParsesUnsigned 32 10 w (Err e) → list_all is_ascii_digit w ≡ true → length w ≤ 8
+    → None ≡ number_of most w
+number_unread E most w e small parses digits short =
+    let none = parse_digits own {E = E} 32 w (Err e) parses digits in sym (number_digits most w digits short ∙ none_within most w small none)

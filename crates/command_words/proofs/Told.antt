@@ -5,7 +5,7 @@ use Rattle.std.specs.List.{list_any}
 use Rattle.std.specs.Option.{option_map_or}
 use Rattle.std.specs.Str.{bytes_eq}
 use Rattle.std.proofs.lemmas.Slice.Eq.{bytes_eq-Decides}
-use Rattle.command_words.specs.Words.{Given, steps_are, touched, given_alone, beside, given, numbers, touches, steps_of, touch_of, number_of, options, chosen, options_of}
+use Rattle.command_words.specs.Words.{Given, steps_are, touched, given_alone, beside, given, numbers, touches, steps_of, touch_of, most_steps, number_of, options, chosen, options_of}
 use Rattle.command_words.specs.Matched.{is_dashes}
 use Rattle.command_words.specs.declared.Options.{Options}
 
@@ -82,7 +82,7 @@ or_right false e = e
 
 -- a text that is no number
 abbrev no_number : Given → Bool
-no_number (steps_are n) = not (is_some (number_of n))
+no_number (steps_are n) = not (is_some (number_of most_steps n))
 no_number touched = false
 
 and_of_none : {X Y : Type 0} (f : X → Option Y) (o : Option X) → o ≡ None → option_and_then f o ≡ None
@@ -96,18 +96,18 @@ more_bad : (n : Text) (ns : List Text) → steps_of ns ≡ None → steps_of (n 
 more_bad n [] none = absurd (true≢false (ap is_some none))
 more_bad n (m ∷ ms) none = refl
 
-first_bad : (n : Text) (ns : List Text) → number_of n ≡ None → steps_of (n ∷ ns) ≡ None
+first_bad : (n : Text) (ns : List Text) → number_of most_steps n ≡ None → steps_of (n ∷ ns) ≡ None
 first_bad n [] none = none
 first_bad n (m ∷ ms) none = refl
 
 bad_steps : (gs : List Given) → list_any no_number gs ≡ true → steps_of (numbers gs) ≡ None
 bad_steps [] bad = absurd (true≢false (sym bad))
 bad_steps (touched ∷ gs) bad = bad_steps gs bad
-bad_steps (steps_are n ∷ gs) bad = go (not (is_some (number_of n))) refl (λ h. bad_steps gs h) bad
+bad_steps (steps_are n ∷ gs) bad = go (not (is_some (number_of most_steps n))) refl (λ h. bad_steps gs h) bad
   where
-    go : (b : Bool) → not (is_some (number_of n)) ≡ b → (list_any no_number gs ≡ true → steps_of (numbers gs) ≡ None) → (b || list_any no_number gs) ≡ true
+    go : (b : Bool) → not (is_some (number_of most_steps n)) ≡ b → (list_any no_number gs ≡ true → steps_of (numbers gs) ≡ None) → (b || list_any no_number gs) ≡ true
         → steps_of (n ∷ numbers gs) ≡ None
-    go true is rest h = first_bad n (numbers gs) (none_of (number_of n) is)
+    go true is rest h = first_bad n (numbers gs) (none_of (number_of most_steps n) is)
     go false is rest h = more_bad n (numbers gs) (rest h)
 
 -- a text that is no number spoils all
@@ -118,7 +118,7 @@ any_mid : {X : Type 0} (p : X → Bool) (xs : List X) (y : X) (ys : List X) → 
 any_mid p [] y ys is = ap (λ b. b || list_any p ys) is
 any_mid p (x ∷ xs) y ys is = or_right (p x) (any_mid p xs y ys is)
 
-pub told_bad : (s : Told) (n : Text) (more : Option (List Given)) → number_of n ≡ None → chosen_with s (beside (Some (steps_are n)) more) ≡ None
+pub told_bad : (s : Told) (n : Text) (more : Option (List Given)) → number_of most_steps n ≡ None → chosen_with s (beside (Some (steps_are n)) more) ≡ None
 told_bad s n None bad = refl
 told_bad s n (Some gs) bad = bad_chosen (all_of s ++ steps_are n ∷ gs) (any_mid no_number (all_of s) (steps_are n) gs (ap (λ o. not (is_some o)) bad))
 
@@ -136,7 +136,7 @@ beside_bad None gs bad = refl
 beside_bad (Some g) None bad = refl
 beside_bad (Some g) (Some gs) bad = or_right (no_number g) bad
 
-steps_bad : (n : Text) (gs : Option (List Given)) → number_of n ≡ None → is_bad (beside (Some (steps_are n)) gs) ≡ true
+steps_bad : (n : Text) (gs : Option (List Given)) → number_of most_steps n ≡ None → is_bad (beside (Some (steps_are n)) gs) ≡ true
 steps_bad n None bad = refl
 steps_bad n (Some gs) bad = ap (λ (o : Option ℕ). not (is_some o) || list_any no_number gs) bad
 
@@ -158,7 +158,7 @@ dashes_given (w ∷ n ∷ ws) has = go (is_dashes w) refl (λ h. dashes_given ws
   where
     spaced : (b : Bool) → is_dashes n ≡ b → (list_any is_dashes ws ≡ true → is_bad (given ws) ≡ true) → (b || list_any is_dashes ws) ≡ true
         → is_bad (beside (Some (steps_are n)) (given ws)) ≡ true
-    spaced true is rest h = steps_bad n (given ws) (subst (λ v. number_of v ≡ None) (sym (are_dashes n is)) refl)
+    spaced true is rest h = steps_bad n (given ws) (subst (λ v. number_of most_steps v ≡ None) (sym (are_dashes n is)) refl)
     spaced false is rest h = beside_bad (Some (steps_are n)) (given ws) (rest h)
 
     first : (b : Bool) → (list_any is_dashes ws ≡ true → is_bad (given ws) ≡ true)

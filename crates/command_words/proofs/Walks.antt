@@ -15,7 +15,7 @@ use Rattle.clap.specs.declared.builder.action.ArgAction.TheVariants.{SetTrue}
 use Rattle.clap.specs.declared.builder.value_parser.Reading.TheVariants.{AsWritten}
 use Rattle.clap.specs.declared.parser.matches.ValueSource.TheVariants.{CommandLine}
 use Rattle.clap.proofs.OnLiterals.{clap_on_literals}
-use Rattle.command_words.specs.Words.{number_of, options}
+use Rattle.command_words.specs.Words.{most_steps, number_of, options}
 use Rattle.command_words.specs.Matched.{is_dashes, is_fault, steps_in}
 use Rattle.command_words.specs.declared.Options.{Options}
 use Rattle.command_words.proofs.Told.{Text, Told, nothing, of_steps, of_touch, steps_touch, touch_steps, with_steps, with_touch}
@@ -283,7 +283,7 @@ none_fails s p w ws no_dashes no_touch no_equals no_space =
 
 -- the word behind `--steps` is met: it is the number's text, or it is no number and ends it
 abbrev pub Met : Told → Text → List Text → Type 0
-Met s n ws = ((number_of n ≡ None) × (read (walk_waiting s) (n ∷ ws) ≡ (None, true))) ⊎ (read (walk_waiting s) (n ∷ ws) ≡ read (walk_pending s n) ws)
+Met s n ws = ((number_of most_steps n ≡ None) × (read (walk_waiting s) (n ∷ ws) ≡ (None, true))) ⊎ (read (walk_waiting s) (n ∷ ws) ≡ read (walk_pending s n) ws)
 
 -- a word without fault leads on
 turn_passes : (w : Walk) (word : Text) (ws : List Text) (next : Walk) → turn_fault top [] w word ≡ [] → walked top.rules [] w word ≡ next

@@ -3,13 +3,13 @@ use Rattle.std.specs.Prelude.{◌≡◌, ◌||◌, Bool, true, false, List, [], 
 use Rattle.std.specs.List.{list_any}
 use Rattle.std.specs.Str.{bytes_eq}
 use Rattle.clap.specs.Words.{App, Kinds, Text, fault_of, found_of, matches_of, rows_of}
-use Rattle.command_words.specs.Words.{default_steps, number_of}
+use Rattle.command_words.specs.Words.{default_steps, most_steps, number_of}
 use Rattle.clap.specs.declared.parser.matches.ArgMatches.{ArgMatches}
 
 -- the steps that a text says, and those where there is none
 abbrev pub steps_in : Option Text → Option ℕ
 steps_in None = Some default_steps
-steps_in (Some w) = number_of w
+steps_in (Some w) = number_of most_steps w
 
 -- `--`, behind which `clap` takes no option
 abbrev pub is_dashes : Text → Bool

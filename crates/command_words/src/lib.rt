@@ -1,15 +1,19 @@
 //! The words of the command line: which command they are, and with which options.
 #![tactic(auto)]
 
-ghost use Rattle.std.specs.Prelude.{◌≡◌, map, string_bytes, IfOk};
-ghost use Rattle.command_words.specs.Words.{alone, command_of, longest_input, options_of};
+ghost use Rattle.std.specs.Prelude.{◌≡◌, ◌<◌, ◌≤◌, ℕ, List, Some, length, map, string_bytes, IfOk};
+ghost use Rattle.command_words.specs.declared.Command.TheVariants.{Gen};
+ghost use Rattle.command_words.specs.declared.Options.{Options as TheOptions};
+ghost use Rattle.command_words.specs.Words.{alone, command_of, gen_at, gen_of, generated, longest_input, options_of};
 
+mod number_words;
 mod numbers;
 mod reading;
 
 use caja_units::Memory;
 use clap::{Arg, ArgAction};
-use numbers::options_in;
+use number_words::number_at;
+use numbers::{events_in, options_in};
 use reading::matched;
 use std::alloc::Global;
 
@@ -35,6 +39,8 @@ pub enum Command {
     Run(Options),
     /// Cajoles and runs a page.
     Page(Options),
+    /// Makes a page with so many events, from 1 to 2,000, and cajoles and runs it.
+    Gen(u32, Options),
 }
 
 impl Command {
@@ -44,7 +50,11 @@ impl Command {
     {
         match self {
             Command::Run(_) => 67_108_864,
-            Command::Solo(_) | Command::Cajole | Command::Format | Command::Page(_) => 4_194_304,
+            Command::Solo(_)
+            | Command::Cajole
+            | Command::Format
+            | Command::Page(_)
+            | Command::Gen(_, _) => 4_194_304,
         }
     }
 }
@@ -65,9 +75,44 @@ pub fn command_of(alloc: Global, words: &[String]) -> Result<Option<Command>, Me
             "format" => alone(alloc, Command::Format, rest),
             "run" => Ok(options_of(alloc, rest)?.map(Command::Run)),
             "page" => Ok(options_of(alloc, rest)?.map(Command::Page)),
+            "gen" => gen_of(alloc, rest),
             _ => Ok(None),
         },
     }
+}
+
+/// A page is made with one event at least, and 2,000 at most.
+pub fn a_page_is_made_with_few_events()
+    ensures some { (words : List (List ℕ)) (n : ℕ) (o : TheOptions) → command_of words ≡ Some (Gen n o) → 1 ≤ n }
+    ensures few { (words : List (List ℕ)) (n : ℕ) (o : TheOptions) → command_of words ≡ Some (Gen n o) → n ≤ 2000 }
+{}
+
+/// The command that the words behind `gen` are: a number of events among them, and the other words are options; none where they are none.
+fn gen_of(alloc: Global, words: &[String]) -> Result<Option<Command>, Memory>
+    ensures { IfOk result (λ r. r ≡ gen_of (map string_bytes words.now)) }
+{
+    match number_at(words) {
+        Some(index) => gen_at(alloc, index, words),
+        None => Ok(None),
+    }
+}
+
+/// The command whose number of events is the word at the index, and whose options are the other words.
+fn gen_at(alloc: Global, index: usize, words: &[String]) -> Result<Option<Command>, Memory>
+    requires { index < length words.now }
+    ensures { IfOk result (λ r. r ≡ gen_at index (map string_bytes words.now)) }
+{
+    let mut others = words.to_vec(alloc)?;
+    let number = others.remove(index);
+    let options = options_of(alloc, &others)?;
+    Ok(generated(events_in(&number), options))
+}
+
+/// The command that makes a page with so many events, where there is a number and there are options.
+fn generated(events: Option<u32>, options: Option<Options>) -> Option<Command>
+    ensures { result ≡ generated events options }
+{
+    Some(Command::Gen(events?, options?))
 }
 
 /// The options that the words behind a command are; none where they are none.

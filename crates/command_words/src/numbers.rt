@@ -5,7 +5,7 @@ ghost use Rattle.std.specs.Char.{is_ascii_digit};
 ghost use Rattle.std.specs.List.{list_all};
 ghost use Rattle.clap.specs.Words.{first_value, found_of, one_text};
 ghost use Rattle.clap.specs.Values.{bool_text};
-ghost use Rattle.command_words.specs.Words.{number_of, options, within};
+ghost use Rattle.command_words.specs.Words.{most_events, number_of, options, within};
 ghost use Rattle.command_words.specs.Matched.{steps_in};
 
 use crate::Options;
@@ -17,6 +17,9 @@ const DEFAULT_STEPS: u32 = 1_000_000;
 /// The most steps that the words may give.
 const MOST_STEPS: u32 = 10_000_000;
 
+/// The most events that the words may give.
+const MOST_EVENTS: u32 = 2_000;
+
 /// The most digits of a number.
 const MOST_DIGITS: usize = 8;
 
@@ -26,18 +29,25 @@ pub fn options_in(matches: &ArgMatches) -> Option<Options>
         → result ≡ option_map (λ n. options n touch) (steps_in (first_value (found_of matches.now) (codes "steps"))) }
 {
     let steps = match matches.get_str("steps") {
-        Some(text) => number_of(text)?,
+        Some(text) => number_of(MOST_STEPS, text)?,
         None => DEFAULT_STEPS,
     };
     let touch = matches.get_flag("touch");
     Some(Options { steps, touch })
 }
 
-/// A number of steps, where it is from 1 to the most.
-fn within(number: u32) -> Option<u32>
-    ensures { result ≡ within number }
+/// The number of events that a text says.
+pub fn events_in(text: &str) -> Option<u32>
+    ensures { result ≡ number_of most_events text.now }
 {
-    if 1 <= number && number <= MOST_STEPS {
+    number_of(MOST_EVENTS, text)
+}
+
+/// A number, where it is from 1 to the most.
+fn within(most: u32, number: u32) -> Option<u32>
+    ensures { result ≡ within most number }
+{
+    if 1 <= number && number <= most {
         Some(number)
     } else {
         None
@@ -56,9 +66,9 @@ fn are_digits(text: &str) -> bool
     true
 }
 
-/// The number of steps that a text says, in one to eight decimal digits.
-fn number_of(text: &str) -> Option<u32>
-    ensures { result ≡ number_of text.now }
+/// The number from 1 to the most that a text says, in one to eight decimal digits.
+fn number_of(most: u32, text: &str) -> Option<u32>
+    ensures { result ≡ number_of most text.now }
 {
     if text.len() > MOST_DIGITS {
         return None;
@@ -67,7 +77,7 @@ fn number_of(text: &str) -> Option<u32>
         return None;
     }
     match text.parse::<u32>() {
-        Ok(number) => within(number),
+        Ok(number) => within(most, number),
         Err(_error) => None,
     }
 }

@@ -149,6 +149,13 @@ impl Document {
         self.nodes.len()
     }
 
+    /// How many granted roots there are: those of the numbers below this.
+    pub fn root_count(&self) -> usize
+        ensures { result ≡ length self.now.roots }
+    {
+        self.roots.len()
+    }
+
     /// Whether a node is of this document.
     pub fn has(&self, n: NodeId) -> bool
         ensures { result ≡ has self.now n }

@@ -1,6 +1,6 @@
 //! Services, and what they answer.
 
-ghost use Rattle.std.specs.Prelude.{◌≡◌, ◌≤◌, ℕ, List, All, IsTrue, map, option_map};
+ghost use Rattle.std.specs.Prelude.{◌≡◌, ◌≤◌, ℕ, List, [], All, IsTrue, map, option_map};
 ghost use Rattle.std.specs.List.{IsDistinct};
 ghost use Rattle.std.proofs.Props.{props};
 ghost use Rattle.caja_units.specs.Units.{same_units};
@@ -14,6 +14,7 @@ ghost use Rattle.host_services.specs.View.{rows_of};
 use crate::picks::Picks;
 use caja_units::Units;
 use host_rules::Plain;
+use std::alloc::Global;
 
 /// A row of a service: arguments, and what is answered for them.
 #[derive(Debug, Drop)]
@@ -76,6 +77,13 @@ impl<P: Picks> Services<P> {
         ensures { result.list ≡ list }
     {
         Services { list }
+    }
+
+    /// No services.
+    pub fn none(alloc: Global) -> Services<P>
+        ensures { result.list.items ≡ [] }
+    {
+        Services::new(Vec::new(alloc))
     }
 
     /// What the service of this name answers for these arguments, and None exactly where there is no such service.

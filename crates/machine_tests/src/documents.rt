@@ -47,5 +47,5 @@ pub fn natives(alloc: Global, heap: &mut Heap) -> Result<PageNatives, Fail> {
 
 /// A page of one module, without cells and without nodes, where it begins.
 pub fn opened(alloc: Global) -> Result<Opened, Fail> {
-    Ok(open_page(alloc, 1, 0, no_nodes(alloc)?, 0)?)
+    Ok(open_page(alloc, 1, 0, no_nodes(alloc)?)?)
 }

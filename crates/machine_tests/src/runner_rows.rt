@@ -95,11 +95,9 @@ fn node_deeds(alloc: Global, source: &str) -> Result<Vec<Deed>, Fail>
 fn page(alloc: Global, html: &str, ids: Vec<Units>, deeds: Vec<Deed>) -> Result<Page, Fail>
     ensures modules { IfOk result (λ p. p.modules ≡ 1) }
     ensures cells { IfOk result (λ p. p.cells ≡ 0) }
-    ensures roots { IfOk result (λ p. p.roots ≡ length p.document.roots) }
     ensures deeds { IfOk result (λ p. p.deeds ≡ deeds) }
 {
     let document = document(alloc, html, &ids)?;
-    let roots = u32::try_from(ids.len())?;
     let modules = Vec::from_array(alloc, [Units::from_ascii(alloc, b"main")?])?;
     Ok(Page {
         names: Names {
@@ -109,7 +107,6 @@ fn page(alloc: Global, html: &str, ids: Vec<Units>, deeds: Vec<Deed>) -> Result<
         },
         modules: 1,
         cells: 0,
-        roots,
         document,
         urls: no_urls(alloc)?,
         base: None,

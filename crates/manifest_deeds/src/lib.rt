@@ -22,12 +22,13 @@ use doc_tree::Document;
 use es3_tree::Program;
 use event_script::Event;
 use page_binding::node_of;
-use page_documents::{PageDocument, page_rule};
+use page_documents::PageDocument;
 use page_log::Names;
 use page_manifest::{Grant as Granted, ModuleSpec, Page as Manifest};
 use page_roots::Roots;
 use page_runner::{Deed, Grant, Page};
 use std::alloc::Global;
+use url_rule::UriRule;
 
 fn grant(roots: &Roots, granted: Granted) -> Grant
     ensures { grant_of result ≡ given (number_in roots.now) (grant_told granted) }
@@ -154,17 +155,23 @@ pub fn page_of(
     ensures modules { IfOk result (λ p. p.modules ≡ length (page_told manifest).modules) }
     ensures cells { IfOk result (λ p. p.cells ≡ length (page_told manifest).cells) }
     ensures document { IfOk result (λ p. p.document ≡ found.document) }
-    ensures all_roots { IfOk result (λ p. p.roots ≡ length found.document.roots) }
     ensures urls { IfOk result (λ p. rule_of p ≡ page_urls (page_told manifest)) }
     ensures fit { IfOk result (λ p. All (DeedFits p.modules) p.deeds.items) }
 {
     let Manifest {
+        rule,
+        base,
         html: _,
+        styles: _,
         cells,
         modules,
         events,
     } = manifest;
-    let PageDocument { roots, document } = found;
+    let PageDocument {
+        roots,
+        document,
+        styles: _,
+    } = found;
     let names = Names {
         modules: module_names(alloc, &modules)?,
         cells,
@@ -178,10 +185,9 @@ pub fn page_of(
         names,
         modules: count,
         cells: cell_count,
-        roots: roots.count(),
         document,
-        urls: page_rule(alloc)?,
-        base: None,
+        urls: UriRule::of_table(alloc, rule)?,
+        base,
         deeds: list,
     })
 }

@@ -1,7 +1,7 @@
-//! Manifests that tell of a document: its HTML, roots, clicks and inputs, each with the number and the place of its first fault; zeros where it has none.
+//! Manifests that tell of a document: its HTML, base, sheets, roots, clicks and inputs, each with the number and the place of its first fault; zeros where it has none.
 
-/// The HTML of a document.
-pub static DOCUMENTS: [(&str, &str, u8, u32); 13] = [
+/// The HTML of a document, its base and its sheets.
+pub static DOCUMENTS: [(&str, &str, u8, u32); 36] = [
     (
         "a document",
         r#"{"version":1,"html":"<p id=\"r\">t</p>","modules":[{"name":"a","language":"cajita","source":""}]}"#,
@@ -65,12 +65,150 @@ pub static DOCUMENTS: [(&str, &str, u8, u32); 13] = [
     (
         "a base",
         r#"{"version":1,"base":"http://a.example/","modules":[{"name":"a","language":"cajita","source":""}]}"#,
+        0,
+        0,
+    ),
+    (
+        "a base by https, in capitals and with a tab",
+        r#"{"version":1,"base":" HTTPS://a.\texample/x?y#z","modules":[{"name":"a","language":"cajita","source":""}]}"#,
+        0,
+        0,
+    ),
+    (
+        "a base without a host",
+        r#"{"version":1,"base":"https://","modules":[{"name":"a","language":"cajita","source":""}]}"#,
+        5,
+        0,
+    ),
+    (
+        "a base of another scheme",
+        r#"{"version":1,"base":"ftp://a.example/","modules":[{"name":"a","language":"cajita","source":""}]}"#,
+        5,
+        0,
+    ),
+    (
+        "a base that runs code",
+        r#"{"version":1,"base":"javascript:x","modules":[{"name":"a","language":"cajita","source":""}]}"#,
+        5,
+        0,
+    ),
+    (
+        "a base without a scheme",
+        r#"{"version":1,"base":"a.example/","modules":[{"name":"a","language":"cajita","source":""}]}"#,
+        5,
+        0,
+    ),
+    (
+        "an empty base",
+        r#"{"version":1,"base":"","modules":[{"name":"a","language":"cajita","source":""}]}"#,
+        5,
+        0,
+    ),
+    (
+        "a base that is null",
+        r#"{"version":1,"base":null,"modules":[{"name":"a","language":"cajita","source":""}]}"#,
+        3,
+        0,
+    ),
+    (
+        "a base that is a list",
+        r#"{"version":1,"base":[],"modules":[{"name":"a","language":"cajita","source":""}]}"#,
+        3,
+        0,
+    ),
+    (
+        "a document before a base",
+        r#"{"version":1,"base":1,"html":2,"modules":[{"name":"a","language":"cajita","source":""}]}"#,
+        3,
+        0,
+    ),
+    (
+        "a base before sheets",
+        r#"{"version":1,"base":"x:","styles":[{"css":""}],"modules":[{"name":"a","language":"cajita","source":""}]}"#,
+        5,
+        0,
+    ),
+    (
+        "no sheets",
+        r#"{"version":1,"html":"","styles":[],"modules":[{"name":"a","language":"cajita","source":""}]}"#,
+        0,
+        0,
+    ),
+    (
+        "two sheets for one element",
+        r#"{"version":1,"styles":[{"root":"r","css":""},{"root":"r","css":"p{"}],"modules":[{"name":"a","language":"cajita","source":""}]}"#,
+        0,
+        0,
+    ),
+    (
+        "sheets that are null",
+        r#"{"version":1,"styles":null,"modules":[{"name":"a","language":"cajita","source":""}]}"#,
+        3,
+        0,
+    ),
+    (
+        "sheets that are an object",
+        r#"{"version":1,"styles":{"root":"r","css":""},"modules":[{"name":"a","language":"cajita","source":""}]}"#,
+        3,
+        0,
+    ),
+    (
+        "a sheet that is a text",
+        r#"{"version":1,"styles":[{"root":"r","css":""},"p{}"],"modules":[{"name":"a","language":"cajita","source":""}]}"#,
+        3,
+        1,
+    ),
+    (
+        "a sheet without an element",
+        r#"{"version":1,"styles":[{"css":""}],"modules":[{"name":"a","language":"cajita","source":""}]}"#,
+        2,
+        0,
+    ),
+    (
+        "a sheet without a text",
+        r#"{"version":1,"styles":[{"root":"r","css":""},{"root":"r"}],"modules":[{"name":"a","language":"cajita","source":""}]}"#,
+        2,
+        1,
+    ),
+    (
+        "a sheet for a number",
+        r#"{"version":1,"styles":[{"root":1,"css":""}],"modules":[{"name":"a","language":"cajita","source":""}]}"#,
+        3,
+        0,
+    ),
+    (
+        "a sheet that is a number",
+        r#"{"version":1,"styles":[{"root":"r","css":1}],"modules":[{"name":"a","language":"cajita","source":""}]}"#,
+        3,
+        0,
+    ),
+    (
+        "an element before the text of a sheet",
+        r#"{"version":1,"styles":[{"root":1}],"modules":[{"name":"a","language":"cajita","source":""}]}"#,
+        3,
+        0,
+    ),
+    (
+        "a sheet with a field too many",
+        r#"{"version":1,"styles":[{"root":"r","css":"","media":"print"}],"modules":[{"name":"a","language":"cajita","source":""}]}"#,
         4,
         0,
     ),
     (
-        "styles",
-        r#"{"version":1,"html":"","styles":[],"modules":[{"name":"a","language":"cajita","source":""}]}"#,
+        "a field too many before a field that is wanting",
+        r#"{"version":1,"styles":[{"root":"r","CSS":""}],"modules":[{"name":"a","language":"cajita","source":""}]}"#,
+        4,
+        0,
+    ),
+    (
+        "sheets before the names of cells",
+        r#"{"version":1,"styles":[{"root":"r"}],"cells":["A"],"modules":[{"name":"a","language":"cajita","source":""}]}"#,
+        2,
+        0,
+    ),
+    (
+        "a base in capitals",
+        r#"{"version":1,"Base":"http://a.example/","modules":[{"name":"a","language":"cajita","source":""}]}"#,
         4,
         0,
     ),

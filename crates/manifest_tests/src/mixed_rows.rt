@@ -64,13 +64,13 @@ pub static KEYS_TWICE: [(&str, &str, u8, u32); 29] = [
     ),
     (
         "a language twice, the last is right",
-        r#"{"version":1,"modules":[{"name":"a","language":"cajita","source":""},{"name":"b","language":"valija","language":"cajita","source":""}]}"#,
+        r#"{"version":1,"modules":[{"name":"a","language":"cajita","source":""},{"name":"b","language":"caja","language":"cajita","source":""}]}"#,
         0,
         0,
     ),
     (
         "a language twice, the last is wrong",
-        r#"{"version":1,"modules":[{"name":"a","language":"cajita","source":""},{"name":"b","language":"cajita","language":"valija","source":""}]}"#,
+        r#"{"version":1,"modules":[{"name":"a","language":"cajita","source":""},{"name":"b","language":"cajita","language":"caja","source":""}]}"#,
         3,
         1,
     ),

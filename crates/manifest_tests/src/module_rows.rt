@@ -1,7 +1,7 @@
 //! Manifests with their modules, each with the number and the place of its first fault; zeros where it has none.
 
 /// Modules.
-pub static MODULES: [(&str, &str, u8, u32); 31] = [
+pub static MODULES: [(&str, &str, u8, u32); 33] = [
     (
         "two modules",
         r#"{"version":1,"modules":[{"name":"a","language":"cajita","source":""},{"name":"b","language":"cajita","source":""}]}"#,
@@ -65,9 +65,21 @@ pub static MODULES: [(&str, &str, u8, u32); 31] = [
     ),
     (
         "another language",
-        r#"{"version":1,"modules":[{"name":"a","language":"cajita","source":""},{"name":"b","language":"valija","source":""}]}"#,
+        r#"{"version":1,"modules":[{"name":"a","language":"cajita","source":""},{"name":"b","language":"caja","source":""}]}"#,
         3,
         1,
+    ),
+    (
+        "both dialects",
+        r#"{"version":1,"modules":[{"name":"a","language":"cajita","source":""},{"name":"b","language":"valija","source":""}]}"#,
+        0,
+        0,
+    ),
+    (
+        "Valija in capitals",
+        r#"{"version":1,"modules":[{"name":"a","language":"Valija","source":""}]}"#,
+        3,
+        0,
     ),
     (
         "ECMAScript 3",

@@ -179,11 +179,16 @@ pub static PAGES: [(&str, &str, u8, u32); 46] = [
         0,
         0,
     ),
-    ("styles", r#"{"version":1,"styles":[],"modules":[]}"#, 4, 0),
+    (
+        "no sheets",
+        r#"{"version":1,"styles":[],"modules":[]}"#,
+        0,
+        0,
+    ),
     (
         "a base",
         r#"{"version":1,"base":"http://a/","modules":[]}"#,
-        4,
+        0,
         0,
     ),
     ("an unknown field, and nothing else", r#"{"x":1}"#, 4, 0),

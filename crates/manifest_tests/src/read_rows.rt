@@ -14,7 +14,7 @@ use std::test::Fail;
 
 /// The number and the place of the first fault; zeros where there is none.
 fn fault(alloc: Global, text: &[u8], es3: bool) -> Result<(u8, u32), Fail> {
-    match read_page(alloc, text, es3) {
+    match read_page(alloc, Vec::new(alloc), text, es3) {
         Ok(_page) => Ok((0, 0)),
         Err(PageError::Fault(number, place)) => Ok((number, place)),
         Err(PageError::Memory) => Err("memory".into()),
@@ -145,7 +145,8 @@ static WHOLE: &str =
 
 #[test]
 fn a_page_is_what_its_manifest_says(rt: HostRuntime) -> Result<(), Fail> {
-    let Ok(page) = read_page(rt.alloc(), WHOLE.as_bytes(), false) else {
+    let no_rule = Vec::new(rt.alloc());
+    let Ok(page) = read_page(rt.alloc(), no_rule, WHOLE.as_bytes(), false) else {
         return Err("refused".into());
     };
     if page.cells.len() != 2 || page.modules.len() != 2 {

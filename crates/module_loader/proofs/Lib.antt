@@ -1,4 +1,3 @@
 pub mod BuiltIns
 pub mod Imported
 pub mod KeyCalls
-pub mod Long

@@ -166,9 +166,16 @@ fn open_modules(alloc: Global, modules: u32, cells: u32) -> Result<Begun, Memory
     Ok(page)
 }
 
-/// The store that a page begins in, with so many modules, so many cells and a document of so many roots: the functions of each
-/// module, of each cell its functions and its record, and behind them the objects of the nodes of each root. No module has yet what
-/// it may import.
+/// How many granted roots a document has; there is no memory for 2^32.
+fn count_roots(document: &Document) -> Result<u32, Memory>
+    ensures { IfOk result (λ n. n ≡ length document.now.roots) }
+{
+    u32::try_from(document.root_count()).map_err(|_| Memory)
+}
+
+/// The store that a page begins in, with so many modules, so many cells and a document: the functions of each module, of each cell
+/// its functions and its record, and behind them the objects of the nodes of each granted root. No module has yet what it may
+/// import.
 ///
 /// # Errors
 ///
@@ -178,11 +185,9 @@ pub fn open_page(
     modules: u32,
     cells: u32,
     document: Document,
-    roots: u32,
 ) -> Result<Opened, Memory>
     requires few_modules { modules ≤ 64 }
     requires few_cells { cells ≤ 64 }
-    requires all_roots { roots ≡ length document.roots }
     ensures heap { IfOk result (λ o. o.heap ≡ page_objects modules cells document) }
     ensures dom { IfOk result (λ o. o.dom ≡ page_lent modules cells document) }
     ensures runtime { IfOk result (λ o. o.runtime ≡ runtime_id) }
@@ -193,6 +198,7 @@ pub fn open_page(
         runtime,
         globals,
     } = open_modules(alloc, modules, cells)?;
+    let roots = count_roots(&document)?;
     let dom = Dom::begin(alloc, &mut heap, document, roots)?;
     Ok(Opened {
         heap,

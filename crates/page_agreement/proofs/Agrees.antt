@@ -222,6 +222,8 @@ module _ (p : Page) (ts : Tree many) (q : Page) (us : Tree many) (g : List ℕ) 
 
 pub agrees_back : (p : Page) (ts : Tree many) (q : Page) (us : Tree many) (g : List ℕ) → AgreeOn p ts q us g → AgreeOn q us p ts g
 agrees_back p ts q us g a = record {
+  rule = sym a.rule;
+  base = sym a.base;
   events = sym a.events;
   names = sym a.names;
   here = a.there;

@@ -2,21 +2,31 @@
 use Rattle.std.proofs.Common.{◌≡◌, ◌≤◌, ℕ, zero, suc, Bool, List, [], ◌∷◌, Option, Some, None, Ok, Result, Contains, refl, sym, ap, ap₂, ◌∙◌, subst}
 use Rattle.std.specs.Prelude.{map, option_map, slice_get}
 use Rattle.std.proofs.lemmas.Option.{slice_get-map}
+use Rattle.plans.specs.Plans.{kept_of}
 use Rattle.html_grammar.specs.Trees.{many, Tree}
+use Rattle.html_urls.specs.Answers.{for_documents}
+use Rattle.url.specs.Parts.{Parts}
+use Rattle.url_rule.specs.Table.{Row}
+use Rattle.rows.specs.Nodes.{Rules}
+use Rattle.heap_rows.specs.Doing.{heard}
+use Rattle.row_simulation.specs.RowLaw.{shown}
+use Rattle.cajita_page.specs.DirectPage.{Run}
 use Rattle.doc_laws.specs.Reached.{Reached}
 use Rattle.doc_views.specs.Clear.{IsClear}
 use Rattle.root_texts.specs.Texts.{text_at}
 use Rattle.root_texts.proofs.Printed.{roots_are_printed}
-use Rattle.scope_rules.specs.Resolve.{module_of}
 use Rattle.cajita_simulation.specs.Alike.{most_page_steps}
-use Rattle.page_manifest.specs.Page.{Grants, Module, Page}
+use Rattle.page_manifest.specs.Page.{Grants, Language, cajita, valija, es3, Module, Page}
 use Rattle.page_roots.specs.Roots.{roots_of, number_in}
-use Rattle.page_documents.specs.Documents.{IsDocument}
+use Rattle.page_documents.specs.Documents.{IsDocument, page_doc}
+use Rattle.page_cajole.specs.declared.dialects.Dialect.{Dialect}
+use Rattle.page_cajole.specs.declared.dialects.Dialect.TheVariants.{Cajita, Valija}
+use Rattle.page_cajole.specs.Dialects.{module_in}
 use Rattle.page_cajole.specs.Cajoled.{statements}
 use Rattle.page_cajole.specs.Pages.{Runnable, Refusal, granted_names, module_outcome, page_outcome}
 use Rattle.page_cajole.proofs.Outcomes as pages
-use Rattle.page_meaning.specs.PageRuns.{page_rules, programs_doc, sources_run}
-use Rattle.page_meaning.specs.Sources.{SpellsModule}
+use Rattle.page_meaning.specs.PageRuns.{rules_by, page_rules, programs_doc, sources_run, direct_nodes as told_nodes}
+use Rattle.page_meaning.specs.Sources.{InDialect, SpellsModule}
 use Rattle.page_meaning.specs.Meant.{SpellModules, IsPage}
 use Rattle.page_meaning.proofs.Sources.{is_source}
 use Rattle.page_meaning.proofs.Meant.{is_meant}
@@ -25,24 +35,33 @@ use Rattle.page_agreement.specs.Lines.{group_log}
 use Rattle.page_agreement.specs.Isolated.{programs_in, written_nodes, direct_nodes, written_text, TextsDone, SourcesDone, SameByMeaning, SameWritten, SameMeant, SameFor, IsIsolated}
 use Rattle.page_agreement.proofs.Groups.{member_below}
 use Rattle.page_agreement.proofs.Agrees.{Program, InStep, there_is}
-use Rattle.page_agreement.proofs.Direct.{IsOpen, same_lines, same_nodes}
+use Rattle.page_agreement.proofs.Direct.{IsOpen, run_of, same_lines, same_nodes}
+use Rattle.page_agreement.proofs.Own.{IsOver}
 use Rattle.page_agreement.proofs.Told.{sources_over, tells_the_same}
 
 -- a source spells one module at most
-one_module : (granted : List (List ℕ)) (source : List ℕ) (s r : Program) → SpellsModule granted source s → SpellsModule granted source r → s ≡ r
-one_module granted source s r a b =
-    let tree = (is_source granted source).one a.tree b.tree a.spelled b.spelled in
-    let same : Some s ≡ Some r = sym a.resolved ∙ ap (λ k. module_of granted (statements k)) tree ∙ b.resolved in
+one_in_dialect : (dialect : Dialect) (granted : List (List ℕ)) (source : List ℕ) (s r : Program) → SpellsModule dialect granted source s → SpellsModule dialect granted source r → s ≡ r
+one_in_dialect dialect granted source s r a b =
+    let tree = (is_source dialect granted source).one a.tree b.tree a.spelled b.spelled in
+    let same : Some s ≡ Some r = sym a.resolved ∙ ap (λ k. module_in dialect granted (statements k)) tree ∙ b.resolved in
     cc
 
-spelled_at : (ms : List Module) (ss : List Program) → SpellModules ms ss → (i : ℕ) (m : Module) (s : Program) → slice_get ms i ≡ Some m → slice_get ss i ≡ Some s → SpellsModule (granted_names m) m.source s
+abbrev SpellsIn : Language → List (List ℕ) → List ℕ → Program → Type 0
+SpellsIn l granted source s = InDialect l (λ d. SpellsModule d granted source s)
+
+one_module : (l : Language) (granted : List (List ℕ)) (source : List ℕ) (s r : Program) → SpellsIn l granted source s → SpellsIn l granted source r → s ≡ r
+one_module cajita granted source s r a b = one_in_dialect Cajita granted source s r a b
+one_module valija granted source s r a b = one_in_dialect Valija granted source s r a b
+one_module es3 granted source s r a b = absurd a
+
+spelled_at : (ms : List Module) (ss : List Program) → SpellModules ms ss → (i : ℕ) (m : Module) (s : Program) → slice_get ms i ≡ Some m → slice_get ss i ≡ Some s → SpellsIn m.language (granted_names m) m.source s
 spelled_at [] [] h i m s at is = absurd cc
 spelled_at [] (r ∷ ss) h i m s at is = absurd h
 spelled_at (n ∷ ms) [] h i m s at is = absurd h
 spelled_at (n ∷ ms) (r ∷ ss) h zero m s at is =
     let module_same : n ≡ m = cc in
     let program_same : r ≡ s = cc in
-    subst (λ (k : Module). SpellsModule (granted_names k) k.source s) module_same (subst (SpellsModule (granted_names n) n.source) program_same h.0)
+    subst (λ (k : Module). SpellsIn k.language (granted_names k) k.source s) module_same (subst (SpellsIn n.language (granted_names n) n.source) program_same h.0)
 spelled_at (n ∷ ms) (r ∷ ss) h (suc i) m s at is = spelled_at ms ss h.1 i m s at is
 
 -- as many modules as names, and as programs
@@ -78,6 +97,10 @@ runs_at p rs e i m at =
 is_open : (p : Page) (ts : Tree many) → IsPage p → IsDocument p ts → IsOpen p ts
 is_open p ts is doc = record { valid = is.valid; events = ((is_meant p is).named ts doc).events }
 
+-- two pages with one table and one base have the same rules
+rules_same : (p q : Page) → p.rule ≡ q.rule → p.base ≡ q.base → page_rules p ≡ page_rules q
+rules_same p q rule base = ap (λ (rs : List Row). rules_by (for_documents rs p.base)) rule ∙ ap (λ (b : Option Parts). rules_by (for_documents q.rule b)) base
+
 -- what is written of a root hangs on its nodes
 its_text : (p : Page) (ts : Tree many) (rs : List Runnable) (touching : Bool) (s : ℕ) (id : List ℕ) → Reached (programs_doc p ts (programs_in rs) touching s) × IsClear (programs_doc p ts (programs_in rs) touching s)
     → written_text p ts rs touching s id ≡ text_at (written_nodes p ts rs touching s id) 0
@@ -104,8 +127,9 @@ module _ (p : Page) (ts : Tree many) (q : Page) (us : Tree many) (g : List ℕ) 
   same_sources ls ms h k i s r member at at' =
       let b = in_both i member in
       let a = agree.modules i b.left b.right member b.here b.there in
-      one_module (granted_names b.right) b.right.source s r
-      (subst (λ x. SpellsModule x b.right.source s) (granted_same i member b) (subst (λ x. SpellsModule (granted_names b.left) x s) a.source (spelled_at p.modules ls h i b.left s b.here at)))
+      one_module b.right.language (granted_names b.right) b.right.source s r
+      (subst (λ l. SpellsIn l (granted_names b.right) b.right.source s) a.language
+      (subst (λ x. SpellsIn b.left.language x b.right.source s) (granted_same i member b) (subst (λ x. SpellsIn b.left.language (granted_names b.left) x s) a.source (spelled_at p.modules ls h i b.left s b.here at))))
       (spelled_at q.modules ms k i b.right r b.there at')
 
   direct_same : (ls ms : List Program) → SpellModules p.modules ls → SpellModules q.modules ms → (touching : Bool) (n k : ℕ) → SourcesDone p ts ls n → SourcesDone q us ms k → SameMeant g p ts q us ls ms touching n k
@@ -114,9 +138,15 @@ module _ (p : Page) (ts : Tree many) (q : Page) (us : Tree many) (g : List ℕ) 
       let both = in_step p.modules q.modules ls ms agree.names h h' in
       let o = sources_over (sources_run p ts ls n) done in
       let o' = sources_over (sources_run q us ms k) done' in
+      let run : sources_run q us ms k ≡ run_of (page_rules p) q (page_doc q us) ms k = ap (λ (r : Rules). run_of r q (page_doc q us) ms k) (sym (rules_same p q agree.rule agree.base)) in
+      let ended : IsOver (run_of (page_rules p) q (page_doc q us) ms k) = subst IsOver run o' in
       record {
-        lines = same_lines p ts q us (is_open p ts is doc) (is_open q us is' doc') g agree (page_rules p) ls ms (same_sources ls ms h h') left both n k o o' touching;
-        nodes = same_nodes p ts q us (is_open p ts is doc) (is_open q us is' doc') g agree (page_rules p) ls ms (same_sources ls ms h h') left both n k o o';
+        lines =
+            same_lines p ts q us (is_open p ts is doc) (is_open q us is' doc') g agree (page_rules p) ls ms (same_sources ls ms h h') left both n k o ended touching
+            ∙ ap (λ (r : Run). group_log q g (heard touching (shown (kept_of r)))) (sym run);
+        nodes = λ id root.
+            same_nodes p ts q us (is_open p ts is doc) (is_open q us is' doc') g agree (page_rules p) ls ms (same_sources ls ms h h') left both n k o ended id root
+            ∙ ap (λ (r : Run). told_nodes r (number_in (roots_of q) id)) (sym run);
       }
 
   module _ (rs ss : List Runnable) (e : page_outcome p ≡ Ok rs) (e' : page_outcome q ≡ Ok ss) where

@@ -35,6 +35,8 @@ the_module e = cc
 
 pub agrees_with_itself : (p : Page) (ts : Tree many) → IsValid p → (g : List ℕ) → Contains (page_groups p) g → AgreeOn p ts p ts g
 agrees_with_itself p ts valid g is = record {
+  rule = refl;
+  base = refl;
   events = refl;
   names = refl;
   here = is;
@@ -74,6 +76,8 @@ others_differ ts us source other another es =
     let p = two_modules one_board (first_module source 0) (second_module cajita other []) es in
     let q = two_modules desk_and_board (first_module source 1) (second_module es3 another (only_the_cell 0)) es in
     record {
+      rule = refl;
+      base = refl;
       events = refl;
       names = refl;
       here = (0, omega arith, refl);
@@ -111,6 +115,8 @@ another_root source another other es =
     let q = two_roots another other es in
     let b = second_module cajita other (only_the_root (codes "list")) in
     record {
+      rule = refl;
+      base = refl;
       events = refl;
       names = refl;
       here = (1, omega arith, refl);

@@ -52,9 +52,11 @@ pub record IsRootOf (p : Page) (g : List ℕ) (id : List ℕ) : Type 0 where
 abbrev pub root_nodes : Page → Doc → List ℕ → List Node
 root_nodes p d id = nodes_seen d (number_in (roots_of p) id)
 
--- two pages agree on a group: the events are the same, and so are the names of the modules; it is a group of the one page and of the other; each of its modules agrees with itself in the other page;
+-- two pages agree on a group: their embedders' rules have the same table, and URLs are joined to the same base; the events are the same, and so are the names of the modules; it is a group of the one page and of the other; each of its modules agrees with itself in the other page;
 -- and each of its roots has the same nodes at the beginning, whatever number it has, and whatever else stands in the document
 pub record AgreeOn (p : Page) (ts : Tree many) (q : Page) (us : Tree many) (g : List ℕ) : Type 0 where
+  pub rule : p.rule ≡ q.rule
+  pub base : p.base ≡ q.base
   pub events : p.events ≡ q.events
   pub names : module_names p ≡ module_names q
   pub here : Contains (page_groups p) g

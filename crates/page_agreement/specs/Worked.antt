@@ -1,5 +1,5 @@
 -- Pages to be looked at: the module `a`, which is granted a cell as `k`, and the module `b`; and pages whose module `b` is granted a root.
-use Rattle.std.specs.Prelude.{ℕ, List, [], ◌∷◌, codes}
+use Rattle.std.specs.Prelude.{ℕ, List, [], ◌∷◌, None, codes}
 use Rattle.html_grammar.specs.Trees.{one, many, Tree, element, none, more}
 use Rattle.event_script.specs.Events.{Asked}
 use Rattle.page_manifest.specs.Page.{Language, cajita, the_cell, the_result, the_root, Grants, Module, Page}
@@ -17,7 +17,7 @@ second_module language source grants = record { name = codes "b"; language = lan
 
 -- the trees of its HTML are told beside it
 abbrev pub two_modules : List (List ℕ) → Module → Module → List Asked → Page
-two_modules cells m n events = record { html = []; cells = cells; modules = m ∷ n ∷ []; events = events }
+two_modules cells m n events = record { rule = []; base = None; html = []; styles = []; cells = cells; modules = m ∷ n ∷ []; events = events }
 
 -- the one cell `board`; and behind another one
 abbrev pub one_board : List (List ℕ)

@@ -30,7 +30,7 @@ module _ (roots : Roots) where
   there_in None = refl
   there_in (Some s) = refl
 
-  pub held_is : (id : List ℕ) (ss : List Spot) → is_held roots (all_told roots ss) id ≡ is_there ss id
+  pub held_is : (id : List ℕ) (ss : List Spot) → is_held (all_told roots ss) id ≡ is_there ss id
   held_is id ss = ap is_some (found id ss) ∙ there_in (spot_of ss id)
 
   least_in : (o : Option Spot) → least_of roots (option_map (held roots) o) ≡ least roots (around_it o)

@@ -7,7 +7,7 @@ use Rattle.es3_tokens.specs.Tokens.{is_one_of}
 use Rattle.event_script.specs.Events.{Asked, a_call, a_click, an_input, a_tick}
 use Rattle.page_manifest.specs.Faults.{Found, chain, twice, unknown_grant, overlap, unknown_target}
 use Rattle.page_manifest.specs.Bound.{unless, once_each}
-use Rattle.page_manifest.specs.Page.{Page}
+use Rattle.page_manifest.specs.Page.{Style, Page}
 use Rattle.page_roots.specs.Roots.{Roots, roots_of, granted_roots}
 use Rattle.page_binding.specs.Spots.{Spot, spots_in, ids_of, spot_of, around}
 
@@ -15,6 +15,11 @@ use Rattle.page_binding.specs.Spots.{Spot, spots_in, ids_of, spot_of, around}
 abbrev pub first_missing : (List ℕ → Bool) → Roots → Option ℕ
 first_missing is_there [] = None
 first_missing is_there (r ∷ rest) = if is_there r.0 then first_missing is_there rest else Some r.1
+
+-- the first sheet whose element isn't there, of those from sheet i on
+abbrev pub first_bare : (List ℕ → Bool) → ℕ → List Style → Option ℕ
+first_bare is_there i [] = None
+first_bare is_there i (s ∷ ss) = if is_there s.root then first_bare is_there (i + 1) ss else Some i
 
 -- of the first root that stands inside one of those before it, or around one
 abbrev pub first_overlap : (List ℕ → List ℕ → Bool) → List (List ℕ) → Roots → Option ℕ
@@ -57,12 +62,13 @@ can_click ss roots id = is_there ss id && is_under ss roots id
 abbrev pub can_input : List Spot → List (List ℕ) → List ℕ → Bool
 can_input ss roots id = can_click ss roots id && is_input (spot_of ss id)
 
--- each id stands once, each granted root is there and overlaps none before it, and each event is met
+-- each id stands once, each granted root is there, each sheet's element is, each root overlaps none before it, and each event is met
 abbrev pub bind : Page → Tree many → Found (List (List ℕ))
 bind p ts =
     let ss = spots_in ts in
     let roots = granted_roots p in
     chain (unless (once_each (ids_of ss)) (λ _. (twice, 0)) ss) (λ _.
     chain (unless (first_missing (is_there ss) (roots_of p)) (λ m. (unknown_grant, m)) ss) (λ _.
+    chain (unless (first_bare (is_there ss) 0 p.styles) (λ i. (unknown_grant, i)) ss) (λ _.
     chain (unless (first_overlap (is_inside ss) [] (roots_of p)) (λ m. (overlap, m)) ss) (λ _.
-    unless (first_lost (can_click ss roots) (can_input ss roots) 0 p.events) (λ k. (unknown_target, k)) roots)))
+    unless (first_lost (can_click ss roots) (can_input ss roots) 0 p.events) (λ k. (unknown_target, k)) roots))))

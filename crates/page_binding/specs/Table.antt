@@ -9,8 +9,9 @@ use Rattle.doc_tree.specs.Cleaned.{attrs_from}
 use Rattle.event_script.specs.Events.{Asked}
 use Rattle.page_manifest.specs.Faults.{Found, chain, twice, unknown_grant, overlap, unknown_target}
 use Rattle.page_manifest.specs.Bound.{unless}
+use Rattle.page_manifest.specs.Page.{Style}
 use Rattle.page_roots.specs.Roots.{Roots, place_of}
-use Rattle.page_binding.specs.Bound.{first_missing, first_lost}
+use Rattle.page_binding.specs.Bound.{first_missing, first_bare, first_lost}
 use Rattle.page_binding.specs.declared.table.Held.{Held}
 
 abbrev pub Table : Type 0
@@ -51,6 +52,10 @@ abbrev pub takes_text : Option Held → Bool
 takes_text None = false
 takes_text (Some h) = h.is_input
 
+-- there is an element with this id
+abbrev pub is_held : Table → List ℕ → Bool
+is_held t id = is_some (lookup (same_units id) t)
+
 module _ (roots : Roots) (t : Table) where
   abbrev pub least_at : List ℕ → ℕ
   least_at id = least_of roots (lookup (same_units id) t)
@@ -60,18 +65,21 @@ module _ (roots : Roots) (t : Table) where
   overlap_from nearest k [] = None
   overlap_from nearest k (r ∷ rest) = if nat_le (min nearest (least_at r.0)) k then Some r.1 else overlap_from (min nearest (least_at r.0)) (suc k) rest
 
-  abbrev pub is_held : List ℕ → Bool
-  is_held id = is_some (lookup (same_units id) t)
-
   abbrev pub takes_click : List ℕ → Bool
   takes_click id = is_owned roots id (lookup (same_units id) t)
 
   abbrev pub takes_input : List ℕ → Bool
   takes_input id = takes_click id && takes_text (lookup (same_units id) t)
 
--- the tests behind the walk
-abbrev pub tested : Roots → Table → List Asked → Found (List (List ℕ))
-tested roots t es =
-    chain (unless (first_missing (is_held roots t) roots) (λ m. (unknown_grant, m)) t) (λ _.
+-- the last tests
+abbrev pub last_tested : Roots → Table → List Asked → Found (List (List ℕ))
+last_tested roots t es =
     chain (unless (overlap_from roots t (length roots) 0 roots) (λ m. (overlap, m)) t) (λ _.
-    unless (first_lost (takes_click roots t) (takes_input roots t) 0 es) (λ k. (unknown_target, k)) (keys_of roots)))
+    unless (first_lost (takes_click roots t) (takes_input roots t) 0 es) (λ k. (unknown_target, k)) (keys_of roots))
+
+-- the tests behind the walk
+abbrev pub tested : Roots → Table → List Style → List Asked → Found (List (List ℕ))
+tested roots t styles es =
+    chain (unless (first_missing (is_held t) roots) (λ m. (unknown_grant, m)) t) (λ _.
+    chain (unless (first_bare (is_held t) 0 styles) (λ i. (unknown_grant, i)) t) (λ _.
+    last_tested roots t es))

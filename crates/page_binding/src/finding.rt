@@ -4,23 +4,38 @@ ghost use Rattle.std.specs.Prelude.{◌≡◌, ◌<◌, ◌^◌, length, map};
 ghost use Rattle.std.specs.Map.{lookup};
 ghost use Rattle.caja_units.specs.Units.{same_units};
 ghost use Rattle.event_script.specs.Events.{asked};
-ghost use Rattle.page_binding.specs.Bound.{first_missing, first_lost, is_met};
+ghost use Rattle.page_binding.specs.Bound.{first_missing, first_bare, first_lost, is_met};
+ghost use Rattle.page_manifest.specs.View.{style as style_of};
 ghost use Rattle.page_binding.specs.Table.{is_held, least_at, overlap_from, takes_click, takes_input};
 
 use crate::table::Held;
 use caja_units::Units;
 use event_script::Event;
+use page_manifest::Style;
 use page_roots::Roots;
 use property_tables::TableProps;
 
 /// The module that is first granted a root which isn't there, of the first such root.
 pub fn first_missing_root(roots: &Roots, table: &TableProps<Held>) -> Option<u32>
-    ensures { result ≡ first_missing (is_held roots.now table.now) roots.now }
+    ensures { result ≡ first_missing (is_held table.now) roots.now }
 {
     let list = roots.list();
     for (id, owner) in list {
         if table.get(id).is_none() {
             return Some(*owner);
+        }
+    }
+    None
+}
+
+/// The first sheet whose element isn't there.
+pub fn first_bare_style(table: &TableProps<Held>, styles: &[Style]) -> Option<u32>
+    requires few { length styles.now < 2 ^ 32 }
+    ensures { result ≡ first_bare (is_held table.now) 0 (map style_of styles.now) }
+{
+    for (i, style) in styles.iter().enumerate() {
+        if table.get(&style.root).is_none() {
+            return Some(i as u32);
         }
     }
     None

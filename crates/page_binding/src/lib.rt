@@ -12,13 +12,13 @@ ghost use Rattle.page_manifest.specs.View.{page as page_of};
 ghost use Rattle.page_roots.specs.Roots.{roots_of};
 ghost use Rattle.page_binding.specs.Bound.{bind};
 ghost use Rattle.page_binding.specs.Binding.{BoundIsGrantable};
-ghost use Rattle.page_binding.specs.Table.{tested};
+ghost use Rattle.page_binding.specs.Table.{tested, last_tested};
 
 mod finding;
 mod nodes;
 mod table;
 
-use finding::{first_lost_event, first_missing_root, first_overlapping_root};
+use finding::{first_bare_style, first_lost_event, first_missing_root, first_overlapping_root};
 use html_cajoler::Clean;
 pub use nodes::node_of;
 use page_manifest::{Page, PageError};
@@ -33,21 +33,35 @@ const OVERLAP: u8 = 9;
 
 const UNKNOWN_TARGET: u8 = 10;
 
-/// The roots, where each of them is there, none stands inside another, and each event is met.
-#[tactic(auto, using(crate::proofs::Tested::tested_missing, crate::proofs::Tested::tested_overlap, crate::proofs::Tested::tested_lost, crate::proofs::Tested::tested_all))]
-fn checked(page: &Page, roots: Roots, table: &TableProps<Held>) -> Result<Roots, PageError>
+/// The roots, where none of them stands inside another, and each event is met.
+#[tactic(auto, using(crate::proofs::Tested::tested_overlap, crate::proofs::Tested::tested_lost, crate::proofs::Tested::tested_last))]
+fn last_checked(page: &Page, roots: Roots, table: &TableProps<Held>) -> Result<Roots, PageError>
     requires events { length (page_of page.now).events < 2 ^ 32 }
-    ensures answer { Answers keys_of result (tested roots table.now (page_of page.now).events) }
+    ensures answer { Answers keys_of result (last_tested roots table.now (page_of page.now).events) }
+    ensures same { IfOk result (λ r. r ≡ roots) }
+{
+    match first_overlapping_root(&roots, table) {
+        Some(owner) => Err(PageError::Fault(OVERLAP, owner)),
+        None => match first_lost_event(&roots, table, &page.events) {
+            Some(event) => Err(PageError::Fault(UNKNOWN_TARGET, event)),
+            None => Ok(roots),
+        },
+    }
+}
+
+/// The roots, where each of them is there, each sheet's element is, none of the roots stands inside another, and each event is met.
+#[tactic(auto, using(crate::proofs::Tested::tested_missing, crate::proofs::Tested::tested_bare, crate::proofs::Tested::tested_there))]
+fn checked(page: &Page, roots: Roots, table: &TableProps<Held>) -> Result<Roots, PageError>
+    requires styles { length (page_of page.now).styles < 2 ^ 32 }
+    requires events { length (page_of page.now).events < 2 ^ 32 }
+    ensures answer { Answers keys_of result (tested roots table.now (page_of page.now).styles (page_of page.now).events) }
     ensures same { IfOk result (λ r. r ≡ roots) }
 {
     match first_missing_root(&roots, table) {
         Some(owner) => Err(PageError::Fault(UNKNOWN_GRANT, owner)),
-        None => match first_overlapping_root(&roots, table) {
-            Some(owner) => Err(PageError::Fault(OVERLAP, owner)),
-            None => match first_lost_event(&roots, table, &page.events) {
-                Some(event) => Err(PageError::Fault(UNKNOWN_TARGET, event)),
-                None => Ok(roots),
-            },
+        None => match first_bare_style(table, &page.styles) {
+            Some(style) => Err(PageError::Fault(UNKNOWN_GRANT, style)),
+            None => last_checked(page, roots, table),
         },
     }
 }
@@ -56,9 +70,10 @@ fn checked(page: &Page, roots: Roots, table: &TableProps<Held>) -> Result<Roots,
 ///
 /// # Errors
 ///
-/// `Fault` with the first fault: an id that stands twice in the document, a granted root that isn't there, a root inside or around an earlier one, an event
-/// whose element isn't there, stands in no root or takes no text. `Memory` only where memory is wanting.
+/// `Fault` with the first fault: an id that stands twice in the document, a granted root or a sheet's element that isn't there, a root inside or around an earlier one, an
+/// event whose element isn't there, stands in no root or takes no text. `Memory` only where memory is wanting.
 pub fn bind_page(alloc: Global, page: &Page, html: &Clean) -> Result<Roots, PageError>
+    requires styles { length (page_of page.now).styles < 2 ^ 32 }
     requires modules { length (page_of page.now).modules < 2 ^ 32 }
     requires events { length (page_of page.now).events < 2 ^ 32 }
     ensures answer { Answers keys_of result (bind (page_of page.now) (trees html.now)) }

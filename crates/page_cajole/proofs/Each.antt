@@ -1,7 +1,6 @@
 -- Modules of a page, one after another.
-use Rattle.std.proofs.Common.{◌≡◌, ℕ, ◌+◌, ◌<◌, List, [], ◌∷◌, ◌++◌, length, map, drop, get_or, Result, Ok, Err, refl, sym, ap, ◌∙◌, append_assoc}
-use Rattle.std.proofs.lemmas.List.{map-append, at_drop_more}
-use Rattle.page_manifest.specs.Page.{Module}
+use Rattle.std.proofs.Common.{◌≡◌, ℕ, ◌+◌, List, [], ◌∷◌, ◌++◌, map, Result, Ok, Err, refl, sym, ap, ◌∙◌, append_assoc}
+use Rattle.std.proofs.lemmas.List.{map-append}
 use Rattle.page_manifest.specs.View.{module_spec}
 use Rattle.page_manifest.specs.declared.ModuleSpec.{ModuleSpec}
 use Rattle.page_cajole.specs.Pages.{Refusal, Runnable, module_outcome, chain, numbered, each}

@@ -9,14 +9,14 @@ use Rattle.es3_tree.specs.Placed.{Placed}
 use Rattle.es3_grammar.specs.Plain.{plain}
 use Rattle.es3_labels.specs.Around.{in_program}
 use Rattle.es3_labels.specs.Misplaced.{Misplaced, misplaced, earlier, first, first_of}
-use Rattle.cajita_rules.specs.Faults as rules
-use Rattle.cajita_rules.specs.Faults.{faults}
 use Rattle.cajita_rewrite.specs.Rewrite.{program_of}
-use Rattle.scope_rules.specs.Resolve.{module_of}
 use Rattle.cajoled_jumps.specs.Targets.{targeted}
 use Rattle.cajoled_jumps.proofs.Places.{none_where_targeted}
 use Rattle.cajoled_jumps.proofs.Source.{cajoled_jumps}
-use Rattle.page_manifest.specs.Page.{Language, cajita, es3, Module}
+use Rattle.page_manifest.specs.Page.{Language, cajita, valija, es3, Module}
+use Rattle.page_cajole.specs.declared.dialects.Dialect.{Dialect}
+use Rattle.page_cajole.specs.declared.dialects.Dialect.TheVariants.{Cajita, Valija}
+use Rattle.page_cajole.specs.Dialects.{fault_in, in_cajita, module_in}
 use Rattle.page_cajole.specs.Source as s
 use Rattle.page_cajole.specs.Source.{Source, source_of, source_limits, text_limits}
 use Rattle.page_cajole.specs.Cajoled as c
@@ -24,6 +24,8 @@ use Rattle.page_cajole.specs.Cajoled.{Outcome, outcome_of, outcome}
 use Rattle.page_cajole.specs.Text as x
 use Rattle.page_cajole.specs.Text.{Text, by_labels, text_of, text_outcome}
 use Rattle.page_cajole.specs.Pages.{Runnable, by_outcome, by_text, source_outcome, module_outcome, JumpsHaveTargets}
+use Rattle.page_cajole.proofs.Spelled.{spelled_where_read}
+use Rattle.page_cajole.proofs.Lowered.{unbroken_in}
 use Rattle.page_cajole.proofs.Back.{stands_for}
 
 -- ---- by the tree
@@ -47,17 +49,18 @@ none_first (m ∷ ms) e = absurd (never m (first ms) e)
 by_one : (q : Placed t.program) → first_of q ≡ None → JumpsHaveTargets (plain t.program q)
 by_one q e = where_targeted (plain t.program q) ((none_where_targeted in_program t.program q).0 (none_first (misplaced in_program t.program q) e))
 
--- ---- sources of Cajita
+-- ---- sources of a dialect
 
-cajoled_read : (granted : List (List ℕ)) (read : Source) (p : t.Tree t.program) → outcome_of granted read ≡ c.cajoled p → JumpsHaveTargets p
-cajoled_read granted (s.uncut number at) p e = absurd cc
-cajoled_read granted (s.unread number at) p e = absurd cc
-cajoled_read granted (s.spelled (placed.script body)) p e =
-    let j = stands_for (rules.first (faults granted body)) (module_of granted body) p e in
-    subst JumpsHaveTargets (sym j.program) (where_targeted (program_of j.its_module) (cajoled_jumps granted body j.its_module j.unbroken j.found))
+cajoled_read : (dialect : Dialect) (granted : List (List ℕ)) (source : List ℕ) (read : Source) (p : t.Tree t.program) → source_of source_limits source ≡ read → outcome_of dialect granted read ≡ c.cajoled p → JumpsHaveTargets p
+cajoled_read dialect granted source (s.uncut number at) p is e = absurd cc
+cajoled_read dialect granted source (s.unread number at) p is e = absurd cc
+cajoled_read dialect granted source (s.spelled (placed.script body)) p is e =
+    let j = stands_for (fault_in dialect granted body) (module_in dialect granted body) p e in
+    let unbroken = unbroken_in granted source body (spelled_where_read source_limits source (placed.script body) is) dialect j.unbroken in
+    subst JumpsHaveTargets (sym j.program) (where_targeted (program_of j.its_module) (cajoled_jumps granted (in_cajita dialect granted body) j.its_module unbroken j.found))
 
-pub cajoled_has_targets : (granted : List (List ℕ)) (source : List ℕ) (p : t.Tree t.program) → outcome granted source ≡ c.cajoled p → JumpsHaveTargets p
-cajoled_has_targets granted source p e = cajoled_read granted (source_of source_limits source) p e
+pub cajoled_has_targets : (dialect : Dialect) (granted : List (List ℕ)) (source : List ℕ) (p : t.Tree t.program) → outcome dialect granted source ≡ c.cajoled p → JumpsHaveTargets p
+cajoled_has_targets dialect granted source p e = cajoled_read dialect granted source (source_of source_limits source) p refl e
 
 -- ---- texts that run as they stand
 
@@ -72,11 +75,11 @@ text_read (s.spelled q) p e = labelled q (first_of q) p refl e
 
 -- ---- pages
 
-by_outcome_targets : (o : Outcome) (r : Runnable) → by_outcome o ≡ Ok r → ((p : t.Tree t.program) → o ≡ c.cajoled p → JumpsHaveTargets p) → JumpsHaveTargets r.program
-by_outcome_targets (c.uncut number at) r e h = absurd cc
-by_outcome_targets (c.unread number at) r e h = absurd cc
-by_outcome_targets (c.broken number at) r e h = absurd cc
-by_outcome_targets (c.cajoled p) r e h = h r.program (cc)
+by_outcome_targets : (dialect : Dialect) (o : Outcome) (r : Runnable) → by_outcome dialect o ≡ Ok r → ((p : t.Tree t.program) → o ≡ c.cajoled p → JumpsHaveTargets p) → JumpsHaveTargets r.program
+by_outcome_targets dialect (c.uncut number at) r e h = absurd cc
+by_outcome_targets dialect (c.unread number at) r e h = absurd cc
+by_outcome_targets dialect (c.broken number at) r e h = absurd cc
+by_outcome_targets dialect (c.cajoled p) r e h = h r.program (cc)
 
 by_text_targets : (source : List ℕ) (o : Text) (r : Runnable) → by_text source o ≡ Ok r → ((p : t.Tree t.program) → o ≡ x.runs p → JumpsHaveTargets p) → JumpsHaveTargets r.program
 by_text_targets source (x.uncut number at) r e h = absurd cc
@@ -85,7 +88,8 @@ by_text_targets source (x.misplaced at) r e h = absurd cc
 by_text_targets source (x.runs p) r e h = h r.program (cc)
 
 source_has_targets : (l : Language) (granted : List (List ℕ)) (source : List ℕ) (r : Runnable) → source_outcome l granted source ≡ Ok r → JumpsHaveTargets r.program
-source_has_targets cajita granted source r e = by_outcome_targets (outcome granted source) r e (cajoled_has_targets granted source)
+source_has_targets cajita granted source r e = by_outcome_targets Cajita (outcome Cajita granted source) r e (cajoled_has_targets Cajita granted source)
+source_has_targets valija granted source r e = by_outcome_targets Valija (outcome Valija granted source) r e (cajoled_has_targets Valija granted source)
 source_has_targets es3 granted source r e = by_text_targets source (text_outcome source) r e (text_read (source_of text_limits source))
 
 each_has_targets : (ms : List Module) (rs : List Runnable) → map module_outcome ms ≡ map Ok rs → AllByRecursion (λ r. JumpsHaveTargets r.program) rs

@@ -3,6 +3,7 @@ pub mod Refusals
 pub mod Formats
 pub mod Each
 pub mod Outcomes
+pub mod Lowered
 pub mod Back
 pub mod Jumps
 pub mod Runs

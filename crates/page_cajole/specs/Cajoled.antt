@@ -1,12 +1,13 @@
--- What becomes of a source.
+-- What becomes of a source of a dialect.
 use Rattle.std.specs.Prelude.{ℕ, List, Option, Some, None}
 use Rattle.es3_tree.specs.Tree as t
 use Rattle.es3_tree.specs.Placed as p
 use Rattle.es3_tree.specs.Placed.{Placed}
 use Rattle.cajita_tree.specs.Tree as c
-use Rattle.cajita_rules.specs.Faults.{Fault, faults, first}
-use Rattle.scope_rules.specs.Resolve.{module_of}
+use Rattle.cajita_rules.specs.Faults.{Fault}
 use Rattle.cajita_rewrite.specs.Rewrite.{program_of}
+use Rattle.page_cajole.specs.declared.dialects.Dialect.{Dialect}
+use Rattle.page_cajole.specs.Dialects.{fault_in, module_in}
 use Rattle.page_cajole.specs.Source.{Source, source_of, source_limits}
 use Rattle.page_cajole.specs.Source as s
 
@@ -29,13 +30,13 @@ abbrev pub statements : Placed t.program → Placed t.stmts
 statements (p.script body) = body
 
 -- where these names are granted
-abbrev pub outcome_of_body : List (List ℕ) → Placed t.stmts → Outcome
-outcome_of_body granted body = judged (first (faults granted body)) (module_of granted body)
+abbrev pub outcome_of_body : Dialect → List (List ℕ) → Placed t.stmts → Outcome
+outcome_of_body dialect granted body = judged (fault_in dialect granted body) (module_in dialect granted body)
 
-abbrev pub outcome_of : List (List ℕ) → Source → Outcome
-outcome_of granted (s.uncut number at) = uncut number at
-outcome_of granted (s.unread number at) = unread number at
-outcome_of granted (s.spelled program) = outcome_of_body granted (statements program)
+abbrev pub outcome_of : Dialect → List (List ℕ) → Source → Outcome
+outcome_of dialect granted (s.uncut number at) = uncut number at
+outcome_of dialect granted (s.unread number at) = unread number at
+outcome_of dialect granted (s.spelled program) = outcome_of_body dialect granted (statements program)
 
-abbrev pub outcome : List (List ℕ) → List ℕ → Outcome
-outcome granted source = outcome_of granted (source_of source_limits source)
+abbrev pub outcome : Dialect → List (List ℕ) → List ℕ → Outcome
+outcome dialect granted source = outcome_of dialect granted (source_of source_limits source)

@@ -1,5 +1,6 @@
 pub mod Source
 pub mod Refused
+pub mod Dialects
 pub mod Cajoled
 pub mod Answers
 pub mod Formatted

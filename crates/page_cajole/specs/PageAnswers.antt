@@ -1,10 +1,10 @@
 -- What an answer says of the modules of a page.
-use Rattle.std.specs.Prelude.{◌≡◌, ℕ, List, map, Result, Ok, Err, codes}
+use Rattle.std.specs.Prelude.{◌≡◌, ℕ, Result, Ok, Err, codes}
 use Rattle.es3_tree.specs.View as view
 use Rattle.page_cajole.specs.Pages.{Refusal, at_stage, Runnable}
 use Rattle.page_cajole.specs.declared.CajoledModule.{CajoledModule}
 use Rattle.page_cajole.specs.declared.pages.Stage.{Stage}
-use Rattle.page_cajole.specs.declared.pages.Stage.TheVariants.{Lex, Read, Label, Rule}
+use Rattle.page_cajole.specs.declared.pages.Stage.TheVariants.{Lex, Read, Label, Rule, Valija}
 use Rattle.page_cajole.specs.declared.pages.CajoleError.{CajoleError}
 use Rattle.page_cajole.specs.declared.pages.CajoleError.TheVariants.{Module, Memory}
 
@@ -13,6 +13,7 @@ refusal_of (Lex number at) = at_stage (codes "lex") number at
 refusal_of (Read number at) = at_stage (codes "read") number at
 refusal_of (Label at) = at_stage (codes "label") 1 at
 refusal_of (Rule number at) = at_stage (codes "rule") number at
+refusal_of (Valija number at) = at_stage (codes "valija") number at
 
 abbrev pub runnable : CajoledModule → Runnable
 runnable m = record { text = m.text.items; program = view.program m.program }

@@ -6,7 +6,10 @@ use Rattle.es3_tree.specs.Placed.{Placed}
 use Rattle.es3_grammar.specs.Plain.{plain}
 use Rattle.es3_labels.specs.Misplaced.{first_of}
 use Rattle.es3_printed.specs.Tokens.{printed}
-use Rattle.page_manifest.specs.Page.{Language, cajita, es3, Module, Page}
+use Rattle.page_manifest.specs.Page.{Language, cajita, valija, es3, Module, Page}
+use Rattle.page_cajole.specs.declared.dialects.Dialect.{Dialect}
+use Rattle.page_cajole.specs.declared.dialects.Dialect.TheVariants.{Cajita, Valija}
+use Rattle.page_cajole.specs.Dialects.{rule_stage}
 use Rattle.page_cajole.specs.Cajoled as c
 use Rattle.page_cajole.specs.Cajoled.{Outcome, outcome}
 use Rattle.page_cajole.specs.Text as x
@@ -26,12 +29,15 @@ pub record Runnable : Type 0 where
   pub text : List ℕ
   pub program : t.Tree t.program
 
--- a source of Cajita
-abbrev pub by_outcome : Outcome → Result Runnable Refusal
-by_outcome (c.uncut number at) = Err (at_stage (codes "lex") number at)
-by_outcome (c.unread number at) = Err (at_stage (codes "read") number at)
-by_outcome (c.broken number at) = Err (at_stage (codes "rule") number at)
-by_outcome (c.cajoled p) = Ok (record { text = printed p; program = p })
+-- a source of a dialect
+abbrev pub by_outcome : Dialect → Outcome → Result Runnable Refusal
+by_outcome dialect (c.uncut number at) = Err (at_stage (codes "lex") number at)
+by_outcome dialect (c.unread number at) = Err (at_stage (codes "read") number at)
+by_outcome dialect (c.broken number at) = Err (at_stage (rule_stage dialect) number at)
+by_outcome dialect (c.cajoled p) = Ok (record { text = printed p; program = p })
+
+abbrev pub cajoled_outcome : Dialect → List (List ℕ) → List ℕ → Result Runnable Refusal
+cajoled_outcome dialect granted source = by_outcome dialect (outcome dialect granted source)
 
 -- a text that runs as it stands
 abbrev pub by_text : List ℕ → Text → Result Runnable Refusal
@@ -42,7 +48,8 @@ by_text source (x.runs p) = Ok (record { text = source; program = p })
 
 -- with the names that are granted
 abbrev pub source_outcome : Language → List (List ℕ) → List ℕ → Result Runnable Refusal
-source_outcome cajita granted source = by_outcome (outcome granted source)
+source_outcome cajita granted source = cajoled_outcome Cajita granted source
+source_outcome valija granted source = cajoled_outcome Valija granted source
 source_outcome es3 granted source = by_text source (text_outcome source)
 
 abbrev pub granted_names : Module → List (List ℕ)

@@ -3,14 +3,16 @@
 ghost use Rattle.std.specs.Prelude.{◌<◌, ◌≡◌, ◌^◌, All, List, None, Ok, IfOk, length, map};
 ghost use Rattle.es3_tree.specs.PlacedView.{program as placed_program};
 ghost use Rattle.es3_labels.specs.Misplaced.{first_of};
-ghost use Rattle.page_manifest.specs.Page.{cajita, es3, Page as Manifested};
+ghost use Rattle.page_manifest.specs.Page.{es3, Page as Manifested};
 ghost use Rattle.page_manifest.specs.View.{grants as grants_told, page as page_of, module_spec as module_of};
-ghost use Rattle.page_cajole.specs.Pages.{granted_names, module_outcome, numbered, page_outcome, source_outcome, IsCajoledPage};
-ghost use Rattle.page_cajole.specs.PageAnswers.{Tells, runnable};
+ghost use Rattle.page_cajole.specs.Pages.{granted_names, cajoled_outcome, module_outcome, numbered, page_outcome, source_outcome, IsCajoledPage};
+ghost use Rattle.page_cajole.specs.Pages.{at_stage};
+ghost use Rattle.page_cajole.specs.Dialects.{rule_stage};
+ghost use Rattle.page_cajole.specs.PageAnswers.{Tells, refusal_of, runnable};
 ghost use Rattle.page_cajole.specs.declared.CajoledModule.{CajoledModule};
 
 use crate::text::{TextAnswer, read_text};
-use crate::{Answer, CajoledModule, cajole};
+use crate::{Answer, CajoledModule, Dialect, cajole};
 use caja_units::{Memory, Units};
 use page_manifest::{Grant, Lang, ModuleSpec, Page};
 use std::alloc::{AllocError, AllocFailed, Global};
@@ -25,8 +27,10 @@ pub enum Stage {
     Read(u8, u32),
     /// A jump of its program has no target, or a label is misplaced. There is one such refusal.
     Label(u32),
-    /// It breaks a rule.
+    /// It breaks a rule of Cajita.
     Rule(u8, u32),
+    /// It breaks a rule of Valija.
+    Valija(u8, u32),
 }
 
 /// Why a page isn't cajoled.
@@ -84,16 +88,33 @@ fn granted(alloc: Global, grants: &[(Units, Grant)]) -> Result<Vec<Units>, Memor
     Ok(names)
 }
 
-/// What runs for the module at this place, whose source is Cajita.
-fn cajoled(alloc: Global, owner: &ModuleSpec, at: u32) -> Result<CajoledModule, CajoleError>
-    ensures { Tells runnable result (numbered at (source_outcome cajita (granted_names (module_of owner.now)) (module_of owner.now).source)) }
+/// What refuses a source of this dialect that breaks a rule.
+fn broken(dialect: Dialect, number: u8, place: u32) -> Stage
+    ensures { refusal_of result ≡ at_stage (rule_stage dialect) number place }
+{
+    match dialect {
+        Dialect::Cajita => Stage::Rule(number, place),
+        Dialect::Valija => Stage::Valija(number, place),
+    }
+}
+
+/// What runs for the module at this place, whose source is of this dialect.
+fn cajoled(
+    alloc: Global,
+    dialect: Dialect,
+    owner: &ModuleSpec,
+    at: u32,
+) -> Result<CajoledModule, CajoleError>
+    ensures { Tells runnable result (numbered at (cajoled_outcome dialect (granted_names (module_of owner.now)) (module_of owner.now).source)) }
 {
     let names = granted(alloc, &owner.grants)?;
-    match cajole(alloc, &owner.source, &names)? {
+    match cajole(alloc, dialect, &owner.source, &names)? {
         Answer::Module(cajoled) => Ok(cajoled),
         Answer::Uncut(number, place) => Err(CajoleError::Module(at, Stage::Lex(number, place))),
         Answer::Unread(number, place) => Err(CajoleError::Module(at, Stage::Read(number, place))),
-        Answer::Broken(number, place) => Err(CajoleError::Module(at, Stage::Rule(number, place))),
+        Answer::Broken(number, place) => {
+            Err(CajoleError::Module(at, broken(dialect, number, place)))
+        }
     }
 }
 
@@ -119,13 +140,14 @@ fn runs(alloc: Global, owner: &ModuleSpec, at: u32) -> Result<CajoledModule, Caj
     ensures { Tells runnable result (numbered at (module_outcome (module_of owner.now))) }
 {
     match owner.lang {
-        Lang::Cajita => cajoled(alloc, owner, at),
+        Lang::Cajita => cajoled(alloc, Dialect::Cajita, owner, at),
+        Lang::Valija => cajoled(alloc, Dialect::Valija, owner, at),
         Lang::Es3 => as_it_stands(alloc, owner, at),
     }
 }
 
-/// What runs for each module of a page, in the order in which they are loaded: the program that stands for a source of Cajita, with its printed text; or the program
-/// of a text that runs as it stands, with that text.
+/// What runs for each module of a page, in the order in which they are loaded: the program that stands for a source of Cajita or Valija, with its printed text; or the
+/// program of a text that runs as it stands, with that text.
 ///
 /// # Errors
 ///

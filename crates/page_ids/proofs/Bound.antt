@@ -14,7 +14,7 @@ use Rattle.page_manifest.specs.Bound.{unless, once_each}
 use Rattle.page_manifest.specs.Page.{Page}
 use Rattle.page_roots.specs.Roots.{Roots, roots_of, granted_roots}
 use Rattle.page_binding.specs.Spots.{spots_in, ids_of}
-use Rattle.page_binding.specs.Bound.{first_missing, first_overlap, is_met, first_lost, is_there, is_inside, can_click, can_input, bind}
+use Rattle.page_binding.specs.Bound.{first_missing, first_bare, first_overlap, is_met, first_lost, is_there, is_inside, can_click, can_input, bind}
 use Rattle.page_binding.proofs.Names.{either_way}
 
 -- a test that found nothing, and what follows it
@@ -59,9 +59,11 @@ is_found p ts ids e =
     let input = can_input ss roots in
     let lost = unless (first_lost click input 0 p.events) (λ k. (unknown_target, k)) roots in
     let apart = chain (unless (first_overlap (is_inside ss) [] (roots_of p)) (λ m. (overlap, m)) ss) (λ _. lost) in
-    let there = chain (unless (first_missing (is_there ss) (roots_of p)) (λ m. (unknown_grant, m)) ss) (λ _. apart) in
+    let clothed = chain (unless (first_bare (is_there ss) 0 p.styles) (λ i. (unknown_grant, i)) ss) (λ _. apart) in
+    let there = chain (unless (first_missing (is_there ss) (roots_of p)) (λ m. (unknown_grant, m)) ss) (λ _. clothed) in
     let first = passes (once_each (ids_of ss)) (λ _. (twice, 0)) ss (λ _. there) ids e in
-    let second = passes (first_missing (is_there ss) (roots_of p)) (λ m. (unknown_grant, m)) ss (λ _. apart) ids first.1 in
-    let third = passes (first_overlap (is_inside ss) [] (roots_of p)) (λ m. (overlap, m)) ss (λ _. lost) ids second.1 in
+    let second = passes (first_missing (is_there ss) (roots_of p)) (λ m. (unknown_grant, m)) ss (λ _. clothed) ids first.1 in
+    let sheets = passes (first_bare (is_there ss) 0 p.styles) (λ i. (unknown_grant, i)) ss (λ _. apart) ids second.1 in
+    let third = passes (first_overlap (is_inside ss) [] (roots_of p)) (λ m. (overlap, m)) ss (λ _. lost) ids sheets.1 in
     let fourth = last_passes (first_lost click input 0 p.events) (λ k. (unknown_target, k)) roots ids third.1 in
     record { once = first.0; there = all_there (is_there ss) (roots_of p) second.0; met = all_met click input 0 p.events fourth }

@@ -11,6 +11,7 @@ use Rattle.event_script.specs.Events.{Asked}
 use Rattle.es3_tokens.specs.Tokens.{place_in}
 use Rattle.page_manifest.specs.Faults.{not_json}
 use Rattle.page_manifest.specs.Walk.{traverse, need, may, object, entries, items_or, at_most, each, any_number, list_of}
+use Rattle.url_rule.specs.Table.{Row}
 use Rattle.page_manifest.specs.Page.{Page}
 use Rattle.page_manifest.specs.Named.{Plan, for_call, for_click, for_input, for_tick, Manifest}
 use Rattle.page_manifest.specs.Manifest as read
@@ -109,7 +110,9 @@ module _ (n : ℕ) where
       let s = steps (object read.page_forms 0 d) _ m e in
       let v = steps (need read.version (codes "version") 0 d) _ m s.after in
       let w = steps (may [] read.text (codes "html") 0 d) _ m v.after in
-      let c = steps (may [] (each 64 read.name) (codes "cells") 0 d) _ m w.after in
+      let u = steps (may None read.base (codes "base") 0 d) _ m w.after in
+      let y = steps (may [] (each 64 read.style) (codes "styles") 0 d) _ m u.after in
+      let c = steps (may [] (each 64 read.name) (codes "cells") 0 d) _ m y.after in
       let t = steps (need (each 64 (read.told runs)) (codes "modules") 0 d) _ m c.after in
       let a = steps (may [] (each 10000 read.event) (codes "events") 0 d) _ m t.after in
       subst (λ m. All Few m.events) (ok_is _ m a.after) (may_is (All Few) [] (each 10000 read.event 0) (get (codes "events") d) a.first (All-nil Few)
@@ -132,17 +135,17 @@ few_of n le modules i ws es few (none _) = tt
 few_of n le modules i ws es few (one _ w rest a more e r) =
     few_more n le modules i w a more (All-head (Few n) w rest few) e (few_of n le modules (i + 1) rest more (All-tail (Few n) w rest few) r)
 
-bound_is : (n : ℕ) → n ≤ 4294967295 → (m : Manifest) (p : Page) → All (Few n) m.events → spec.bound m ≡ Ok p → FewArguments p.events
-bound_is n le m p few e =
+bound_is : (n : ℕ) → n ≤ 4294967295 → (rule : List Row) (m : Manifest) (p : Page) → All (Few n) m.events → spec.bound rule m ≡ Ok p → FewArguments p.events
+bound_is n le rule m p few e =
     let names = spec.names_of m.modules in
     let o = steps (spec.all_once m) _ p e in
     let b = steps (traverse (spec.bound_module m.cells names) 0 m.modules) _ p o.after in
     let v = steps (traverse (spec.bound_event names) 0 m.events) _ p b.after in
     subst (λ p. FewArguments p.events) (ok_is _ p v.after) (few_of n le names 0 m.events v.first few (reads (spec.bound_event names) 0 m.events v.first v.found))
 
-pub few_arguments : (runs : Bool) (bytes : List ℕ) (p : Page) → length bytes < 4294967295 → page_of runs bytes ≡ Ok p → FewArguments p.events
-few_arguments runs bytes p h e =
+pub few_arguments : (rule : List Row) (runs : Bool) (bytes : List ℕ) (p : Page) → length bytes < 4294967295 → page_of rule runs bytes ≡ Ok p → FewArguments p.events
+few_arguments rule runs bytes p h e =
     let d = steps (json bytes) _ p e in
-    let m = steps (read.manifest runs d.first) spec.bound p d.after in
+    let m = steps (read.manifest runs d.first) (spec.bound rule) p d.after in
     let n = length bytes + 1 in
-    bound_is n (omega arith) m.first p (manifest_is n runs d.first m.first (size-read bytes d.first (read_is bytes d.first d.found)) m.found) m.after
+    bound_is n (omega arith) rule m.first p (manifest_is n runs d.first m.first (size-read bytes d.first (read_is bytes d.first d.found)) m.found) m.after

@@ -15,7 +15,8 @@ use Rattle.event_script.specs.Events.{Asked}
 use Rattle.page_manifest.specs.Faults.{Found, Fault, chain}
 use Rattle.page_manifest.specs.Walk.{traverse, need, there, may, read_or, object, entries, at_most, each, all}
 use Rattle.manifest_names.specs.Names.{is_name, is_grant_name}
-use Rattle.page_manifest.specs.Page.{Granted, the_result, the_plain, the_root, Module, Page}
+use Rattle.url_rule.specs.Table.{Row}
+use Rattle.page_manifest.specs.Page.{Style, Granted, the_result, the_plain, the_root, Module, Page}
 use Rattle.page_manifest.specs.Named.{Wish, for_root, for_cell, for_module, for_plain, Told, Plan, for_call, for_click, for_input, for_tick, Manifest}
 use Rattle.page_manifest.specs.Manifest as read
 use Rattle.page_manifest.specs.Bound as spec
@@ -141,6 +142,7 @@ record IsTold (t : Told) : Type 0 where
   pub wishes : Listed IsWish 64 t.wishes
 
 record IsManifest (m : Manifest) : Type 0 where
+  pub styles : length m.styles ≤ 64
   pub cells : Listed IsNamed 64 m.cells
   pub modules : Listed IsTold 64 m.modules
   pub events : Listed (λ _. Unit {0}) 10000 m.events
@@ -171,11 +173,14 @@ manifest_is runs d m e =
     let s = steps (object read.page_forms 0 d) _ m e in
     let v = steps (need read.version (codes "version") 0 d) _ m s.after in
     let h = steps (may [] read.text (codes "html") 0 d) _ m v.after in
-    let c = steps (may [] (each 64 read.name) (codes "cells") 0 d) _ m h.after in
+    let u = steps (may None read.base (codes "base") 0 d) _ m h.after in
+    let y = steps (may [] (each 64 read.style) (codes "styles") 0 d) _ m u.after in
+    let c = steps (may [] (each 64 read.name) (codes "cells") 0 d) _ m y.after in
     let t = steps (need (each 64 (read.told runs)) (codes "modules") 0 d) _ m c.after in
     let a = steps (may [] (each 10000 read.event) (codes "events") 0 d) _ m t.after in
     let mods = need_is (each 64 (read.told runs)) (codes "modules") 0 d t.first t.found in
     subst IsManifest (ok_is _ m a.after) (record {
+      styles = may_is (λ ss. length ss ≤ 64) [] (each 64 read.style 0) (get (codes "styles") d) y.first (omega arith) (λ x _ e. (listed (λ (_ : Style). Unit {0}) 64 0 read.style (λ _ _ _ _. tt) x y.first e).few) y.found;
       cells = may_is (Listed IsNamed 64) [] (each 64 read.name 0) (get (codes "cells") d) c.first (nothing IsNamed 64) (λ x _. listed IsNamed 64 0 read.name (spelled is_name) x c.first) c.found;
       modules = listed IsTold 64 0 (read.told runs) (told_is runs) mods.first t.first mods.after;
       events = may_is (Listed (λ _. Unit {0}) 10000) [] (each 10000 read.event 0) (get (codes "events") d) a.first (nothing (λ _. Unit {0}) 10000) (λ x _. listed (λ _. Unit {0}) 10000 0 read.event (λ _ _ _ _. tt) x a.first) a.found;
@@ -257,8 +262,8 @@ module_name_is cells modules i t m e =
     let s = steps (traverse (λ _. spec.bound_wish cells modules i) 0 t.wishes) _ m e in
     sym (ap (λ m. m.name) (ok_is _ m s.after))
 
-bound_is : (m : Manifest) (p : Page) → IsManifest m → spec.bound m ≡ Ok p → IsValid p
-bound_is m p is e =
+bound_is : (rule : List Row) (m : Manifest) (p : Page) → IsManifest m → spec.bound rule m ≡ Ok p → IsValid p
+bound_is rule m p is e =
     let names = spec.names_of m.modules in
     let o = steps (spec.all_once m) _ p e in
     let b = steps (traverse (spec.bound_module m.cells names) 0 m.modules) _ p o.after in
@@ -271,6 +276,7 @@ bound_is m p is e =
     let named : map (λ m. m.name) b.first ≡ names = same (spec.bound_module m.cells names) (λ t. t.name) (λ m. m.name) (module_name_is m.cells names) 0 m.modules b.first mods in
     let once = inputs spec.wishes_once (λ t. AreOnce (spec.wish_names t)) wishes_are_once 0 m.modules o.first (reads spec.wishes_once 0 m.modules o.first n.after) in
     subst IsValid (ok_is _ p v.after) (record {
+      few_styles = is.styles;
       few_cells = is.cells.few;
       few_modules = subst (λ n. n ≤ 64) (sym many) is.modules.few;
       few_events = subst (λ n. n ≤ 10000) (sym (count (spec.bound_event names) 0 m.events v.first evs)) is.events.few;
@@ -282,12 +288,12 @@ bound_is m p is e =
     })
 
 -- the page of a manifest is valid
-pub valid : (runs : Bool) (bytes : List ℕ) (p : Page) → page_of runs bytes ≡ Ok p → IsValid p
-valid runs bytes p e =
+pub valid : (rule : List Row) (runs : Bool) (bytes : List ℕ) (p : Page) → page_of rule runs bytes ≡ Ok p → IsValid p
+valid rule runs bytes p e =
     let d = steps (json bytes) _ p e in
-    let m = steps (read.manifest runs d.first) spec.bound p d.after in
-    bound_is m.first p (manifest_is runs d.first m.first m.found) m.after
+    let m = steps (read.manifest runs d.first) (spec.bound rule) p d.after in
+    bound_is rule m.first p (manifest_is runs d.first m.first m.found) m.after
 
-pub valid_answer : (runs : Bool) (bytes : List ℕ) (r : Result Made PageError) → Answers page r (page_of runs bytes) → IfOk r (λ p. IsValid (page p))
-valid_answer runs bytes (Ok p) h = valid runs bytes (page p) h
-valid_answer runs bytes (Err e) h = tt
+pub valid_answer : (rule : List Row) (runs : Bool) (bytes : List ℕ) (r : Result Made PageError) → Answers page r (page_of rule runs bytes) → IfOk r (λ p. IsValid (page p))
+valid_answer rule runs bytes (Ok p) h = valid rule runs bytes (page p) h
+valid_answer rule runs bytes (Err e) h = tt

@@ -1,5 +1,6 @@
 -- The page that a manifest tells of: each name that it speaks of is found among those of its cells or modules. Ids are looked for in the document, once it is read.
 use Rattle.std.specs.Prelude.{ℕ, ◌+◌, List, [], ◌∷◌, ◌++◌, map, Option, None, Some, Ok, Err, nat_lt, if◌then◌else◌}
+use Rattle.url_rule.specs.Table.{Row}
 use Rattle.es3_tokens.specs.Tokens.{is_one_of, place_in}
 use Rattle.event_script.specs.Events.{Asked, a_call, a_click, an_input, a_tick}
 use Rattle.page_manifest.specs.Faults.{Found, chain, twice, unknown_grant, later_module, unknown_target}
@@ -68,9 +69,10 @@ all_once p =
     chain (names_once (names_of p.modules)) (λ _.
     traverse wishes_once 0 p.modules))
 
-abbrev pub bound : Manifest → Found Page
-bound p =
+-- the page of an embedder whose rule has this table
+abbrev pub bound : List Row → Manifest → Found Page
+bound rule p =
     chain (all_once p) (λ _.
     chain (traverse (bound_module p.cells (names_of p.modules)) 0 p.modules) (λ ms.
     chain (traverse (bound_event (names_of p.modules)) 0 p.events) (λ es.
-    Ok (record { html = p.html; cells = p.cells; modules = ms; events = es }))))
+    Ok (record { rule = rule; base = p.base; html = p.html; styles = p.styles; cells = p.cells; modules = ms; events = es }))))

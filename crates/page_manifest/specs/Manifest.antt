@@ -1,10 +1,14 @@
 -- The fields of each object of a manifest, in the order in which they are read.
-use Rattle.std.specs.Prelude.{ℕ, ℤ, pos, List, [], ◌∷◌, Bool, true, false, Option, None, Some, option_and_then, Ok, Err, codes, if◌then◌else◌, is_some}
+use Rattle.std.specs.Prelude.{ℕ, ℤ, pos, List, [], ◌∷◌, Bool, true, false, Option, None, Some, option_and_then, Result, Ok, Err, codes, if◌then◌else◌, is_some}
 use Rattle.std.specs.Ordering.{int_eq}
 use Rattle.std.specs.Str.{chars}
 use Rattle.serde_json.specs.Data as json
 use Rattle.serde_json.specs.Data.{Data}
 use Rattle.serde_json.specs.Find.{get, as_number, as_str, as_i64}
+use Rattle.url.specs.declared.error.ParseError.{ParseError}
+use Rattle.url.specs.Parts.{Parts}
+use Rattle.url.specs.Parser.{parse_url}
+use Rattle.url_rule.specs.Reading.{is_web}
 use Rattle.caja_num.specs.Numbers.{whole}
 use Rattle.caja_units.specs.Units.{same_units}
 use Rattle.caja_units.specs.Utf8.{units_of_chars}
@@ -14,7 +18,7 @@ use Rattle.page_manifest.specs.Faults as faults
 use Rattle.page_manifest.specs.Faults.{Found, chain, wrong_kind, bad_name}
 use Rattle.page_manifest.specs.Walk.{Fields, object, need, may, each, all, any_number}
 use Rattle.manifest_names.specs.Names.{is_name, is_grant_name}
-use Rattle.page_manifest.specs.Page.{Language, cajita, es3}
+use Rattle.page_manifest.specs.Page.{Language, cajita, valija, es3, Style}
 use Rattle.page_manifest.specs.Named.{Wish, for_root, for_cell, for_module, for_plain, Told, Plan, for_call, for_click, for_input, for_tick, Manifest}
 
 -- what is wanted there, or something of another kind
@@ -47,13 +51,13 @@ number i d = of_kind i (option_and_then whole (option_and_then as_i64 (as_number
 abbrev pub version : ℕ → Data → Found ℤ
 version i d = chain (number i d) (λ n. if int_eq n (pos 1) then Ok n else Err (faults.version, i))
 
--- the language that is wanted: that of texts which run as they stand, or Cajita
-abbrev pub wanted : Bool → List ℕ × Language
-wanted true = (codes "es3", es3)
-wanted false = (codes "cajita", cajita)
+-- the language of this name: that of texts which run as they stand, or one of those that are cajoled
+abbrev pub language_named : Bool → List ℕ → Option Language
+language_named true s = if same_units s (codes "es3") then Some es3 else None
+language_named false s = if same_units s (codes "cajita") then Some cajita else if same_units s (codes "valija") then Some valija else None
 
 abbrev pub language : Bool → ℕ → Data → Found Language
-language runs i d = chain (text i d) (λ s. if same_units s (wanted runs).0 then Ok (wanted runs).1 else Err (wrong_kind, i))
+language runs i d = chain (text i d) (λ s. of_kind i (language_named runs s))
 
 abbrev pub plain : ℕ → Data → Found Plain
 plain i json.null = Ok deeds.null
@@ -138,16 +142,40 @@ asked i d =
 abbrev pub event : ℕ → Data → Found Plan
 event i d = chain (object event_forms i d) (λ _. asked i d)
 
--- a page: `version`, maybe `html`, maybe `cells`, `modules`, and maybe `events`
+-- a URL by `http` or `https` (URL Standard, 4.4)
+abbrev pub of_web : ℕ → Result Parts ParseError → Found Parts
+of_web i (Ok u) = if is_web u.scheme then Ok u else Err (bad_name, i)
+of_web i (Err e) = Err (bad_name, i)
+
+abbrev pub web : ℕ → Data → Found Parts
+web i d = chain (text i d) (λ s. of_web i (parse_url None s))
+
+abbrev pub base : ℕ → Data → Found (Option Parts)
+base i d = chain (web i d) (λ u. Ok (Some u))
+
+-- a sheet: `root` and `css`
+abbrev pub style_forms : List Fields
+style_forms = (codes "root" ∷ codes "css" ∷ []) ∷ []
+
+abbrev pub style : ℕ → Data → Found Style
+style i d =
+    chain (object style_forms i d) (λ _.
+    chain (need units (codes "root") i d) (λ id.
+    chain (need text (codes "css") i d) (λ s.
+    Ok (record { root = id; css = s }))))
+
+-- a page: `version`, maybe `html`, maybe `base`, maybe `styles`, maybe `cells`, `modules`, and maybe `events`
 abbrev pub page_forms : List Fields
-page_forms = (codes "version" ∷ codes "html" ∷ codes "cells" ∷ codes "modules" ∷ codes "events" ∷ []) ∷ []
+page_forms = (codes "version" ∷ codes "html" ∷ codes "base" ∷ codes "styles" ∷ codes "cells" ∷ codes "modules" ∷ codes "events" ∷ []) ∷ []
 
 abbrev pub manifest : Bool → Data → Found Manifest
 manifest runs d =
     chain (object page_forms 0 d) (λ _.
     chain (need version (codes "version") 0 d) (λ _.
     chain (may [] text (codes "html") 0 d) (λ h.
+    chain (may None base (codes "base") 0 d) (λ b.
+    chain (may [] (each 64 style) (codes "styles") 0 d) (λ ss.
     chain (may [] (each 64 name) (codes "cells") 0 d) (λ cs.
     chain (need (each 64 (told runs)) (codes "modules") 0 d) (λ ms.
     chain (may [] (each 10000 event) (codes "events") 0 d) (λ es.
-    Ok (record { html = h; cells = cs; modules = ms; events = es })))))))
+    Ok (record { html = h; base = b; styles = ss; cells = cs; modules = ms; events = es })))))))))

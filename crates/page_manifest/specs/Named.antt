@@ -1,7 +1,8 @@
 -- A page as its manifest tells of it: cells and modules are known by their names, and elements of its document by their ids.
-use Rattle.std.specs.Prelude.{ℕ, List}
+use Rattle.std.specs.Prelude.{ℕ, List, Option}
+use Rattle.url.specs.Parts.{Parts}
 use Rattle.page_deeds.specs.Deeds.{Plain}
-use Rattle.page_manifest.specs.Page.{Language}
+use Rattle.page_manifest.specs.Page.{Language, Style}
 
 pub data Wish : Type 0 where
   -- an element of the document, a cell, the result of a module, a plain value
@@ -32,6 +33,9 @@ pub data Plan : Type 0 where
 pub record Manifest : Type 0 where
   -- the bytes of its document
   pub html : List ℕ
+  -- what URLs are joined to
+  pub base : Option Parts
+  pub styles : List Style
   pub cells : List (List ℕ)
   pub modules : List Told
   pub events : List Plan

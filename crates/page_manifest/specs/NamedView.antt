@@ -2,7 +2,7 @@
 use Rattle.std.specs.Prelude.{ℕ, List, map}
 use Rattle.host_rules.specs.Plain.{plain}
 use Rattle.page_manifest.specs.Named as n
-use Rattle.page_manifest.specs.View.{language}
+use Rattle.page_manifest.specs.View.{language, style}
 use Rattle.page_manifest.specs.declared.named.Wish.{Wish}
 use Rattle.page_manifest.specs.declared.named.Wish.TheVariants.{Root, Cell, Module, Value}
 use Rattle.page_manifest.specs.declared.named.Told.{Told}
@@ -29,4 +29,4 @@ plan (Input id us) = n.for_input id us
 plan (Tick m) = n.for_tick m
 
 abbrev pub manifest : Manifest → n.Manifest
-manifest p = record { html = p.html.items; cells = p.cells.items; modules = map told p.modules.items; events = map plan p.events.items }
+manifest p = record { html = p.html.items; base = p.base; styles = map style p.styles.items; cells = p.cells.items; modules = map told p.modules.items; events = map plan p.events.items }

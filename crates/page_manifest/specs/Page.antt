@@ -1,11 +1,21 @@
 -- A page. Cells, modules and events are known by their numbers, from 0, and elements of its document by their ids.
-use Rattle.std.specs.Prelude.{ℕ, List}
+use Rattle.std.specs.Prelude.{ℕ, Bool, true, false, List, Option}
+use Rattle.url.specs.Parts.{Parts}
+use Rattle.url_rule.specs.Table.{Row}
 use Rattle.page_deeds.specs.Deeds.{Plain}
 use Rattle.event_script.specs.Events.{Asked}
 
+-- in what a module is written: Cajita; Valija, which is lowered to Cajita; or ECMAScript 3
 pub data Language : Type 0 where
   cajita : Language
+  valija : Language
   es3 : Language
+
+-- its text runs as it stands, and is not cajoled
+abbrev pub as_it_stands : Language → Bool
+as_it_stands cajita = false
+as_it_stands valija = false
+as_it_stands es3 = true
 
 -- what a module is granted
 pub data Granted : Type 0 where
@@ -27,9 +37,19 @@ pub record Module : Type 0 where
   pub source : List ℕ
   pub grants : Grants
 
+-- a sheet for what stands in an element, which has this id, and its bytes
+pub record Style : Type 0 where
+  pub root : List ℕ
+  pub css : List ℕ
+
 pub record Page : Type 0 where
+  -- the table of its embedder's rule: which URLs may be named
+  pub rule : List Row
+  -- what URLs are joined to
+  pub base : Option Parts
   -- the bytes of its document
   pub html : List ℕ
+  pub styles : List Style
   -- their names
   pub cells : List (List ℕ)
   -- in the order in which they are loaded

@@ -40,6 +40,7 @@ FewArguments (an_input id us ∷ es) = FewArguments es
 FewArguments (a_tick m ∷ es) = FewArguments es
 
 pub record IsValid (p : Page) : Type 0 where
+  pub few_styles : length p.styles ≤ 64
   pub few_cells : length p.cells ≤ 64
   pub few_modules : length p.modules ≤ 64
   pub few_events : length p.events ≤ 10000

@@ -1,6 +1,7 @@
 //! The page that a manifest tells of: each name that it speaks of is found among those of its cells or modules. Ids are looked for in the document, once it is read.
 
 ghost use Rattle.std.specs.Prelude.{◌≡◌, ◌<◌, ◌≤◌, length, map, vec_len, IfOk, IfSome};
+ghost use Rattle.url_rule.specs.Table.{rows_of};
 ghost use Rattle.es3_tokens.specs.Tokens.{is_one_of as is_one_of_them, place_in};
 ghost use Rattle.event_script.specs.Events.{asked};
 ghost use Rattle.page_manifest.specs.Answers.{Answers};
@@ -14,6 +15,7 @@ use crate::{Grant, ModuleSpec, Page, PageError};
 use caja_units::{Memory, Units};
 use event_script::Event;
 use std::alloc::Global;
+use url_rule::UriRow;
 
 const TWICE: u8 = 6;
 
@@ -232,9 +234,10 @@ fn bound_events(alloc: Global, plans: Vec<Plan>, modules: &[Units]) -> Result<Ve
     Ok(events)
 }
 
-/// The page that the manifest tells of.
-pub fn bound_page(alloc: Global, manifest: Manifest) -> Result<Page, PageError>
-    ensures { Answers shown.page result (spec.bound (wanted.manifest manifest)) }
+/// The page that the manifest tells of, for an embedder whose rule has these rows.
+pub fn bound_page(alloc: Global, rule: Vec<UriRow>, manifest: Manifest) -> Result<Page, PageError>
+    ensures answer { Answers shown.page result (spec.bound (rows_of rule.items) (wanted.manifest manifest)) }
+    ensures rule { IfOk result (λ p. p.rule ≡ rule) }
 {
     let names = module_names(alloc, &manifest.modules)?;
     names_once(&manifest.cells)?;
@@ -242,6 +245,8 @@ pub fn bound_page(alloc: Global, manifest: Manifest) -> Result<Page, PageError>
     all_wishes_once(alloc, &manifest.modules)?;
     let Manifest {
         html,
+        base,
+        styles,
         cells,
         modules,
         events,
@@ -249,7 +254,10 @@ pub fn bound_page(alloc: Global, manifest: Manifest) -> Result<Page, PageError>
     let modules = bound_modules(alloc, modules, &cells, &names)?;
     let events = bound_events(alloc, events, &names)?;
     Ok(Page {
+        rule,
+        base,
         html,
+        styles,
         cells,
         modules,
         events,

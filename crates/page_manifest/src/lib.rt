@@ -5,12 +5,13 @@
 
 ghost use Rattle.std.specs.Prelude.{◌≡◌, ◌<◌, ℕ, Bool, List, length, All, IfOk};
 ghost use Rattle.page_manifest.specs.Answers.{Answers};
-ghost use Rattle.page_manifest.specs.Manifest.{wanted};
+ghost use Rattle.page_manifest.specs.Page.{as_it_stands};
 ghost use Rattle.page_manifest.specs.Page as spec;
 ghost use Rattle.page_manifest.specs.Valid.{IsValid, FewArguments};
 ghost use Rattle.page_manifest.specs.Read.{json, page_of};
 ghost use Rattle.page_manifest.specs.View.{page};
 ghost use Rattle.serde_json.specs.View.{view};
+ghost use Rattle.url_rule.specs.Table.{Row, rows_of};
 
 mod bound;
 mod events;
@@ -28,11 +29,14 @@ use pages::manifest_of;
 use serde_json::Value;
 use std::alloc::{AllocError, AllocFailed, Global};
 use thiserror::Error;
+use url::Url;
+use url_rule::UriRow;
 
-/// The language of a module: Cajita, or ECMAScript 3 that runs as it stands.
+/// The language of a module: Cajita, Valija, which is lowered to Cajita, or ECMAScript 3 that runs as it stands.
 #[derive(Clone, Copy, Debug, PartialEq, Eq)]
 pub enum Lang {
     Cajita,
+    Valija,
     Es3,
 }
 
@@ -56,10 +60,21 @@ pub struct ModuleSpec {
     pub grants: Vec<(Units, Grant)>,
 }
 
-/// A page: the HTML of its document in UTF-8, the names of its cells, its modules in the order in which they are loaded, and then its events.
+/// A sheet for what stands in an element: the id of that, and the CSS in UTF-8.
+#[derive(Debug, Drop)]
+pub struct Style {
+    pub root: Units,
+    pub css: Vec<u8>,
+}
+
+/// A page: the table of its embedder's rule, which says which URLs may be named, what URLs are joined to, the HTML of its document in UTF-8, its sheets, the names of its cells, its modules in
+/// the order in which they are loaded, and then its events.
 #[derive(Debug, Drop)]
 pub struct Page {
+    pub rule: Vec<UriRow>,
+    pub base: Option<Url>,
     pub html: Vec<u8>,
+    pub styles: Vec<Style>,
     pub cells: Vec<Units>,
     pub modules: Vec<ModuleSpec>,
     pub events: Vec<Event>,
@@ -68,7 +83,7 @@ pub struct Page {
 /// Why a manifest is refused.
 #[derive(Debug, Drop, Error)]
 pub enum PageError {
-    /// The number of the fault, and its place: the index of the module, the cell or the event where it stands, else 0.
+    /// The number of the fault, and its place: the index of the sheet, the cell, the module or the event where it stands, else 0.
     #[error("fault {0} of the manifest at {1}")]
     Fault(u8, u32),
     /// Memory is wanting.
@@ -125,28 +140,34 @@ fn value_of(alloc: Global, text: &[u8]) -> Result<Value, PageError>
     }
 }
 
-/// The page that bytes are the manifest of: modules in Cajita, or, where `es3` is true, in ECMAScript 3 that runs as it stands.
+/// The page that bytes are the manifest of, for an embedder whose rule has these rows: modules in Cajita, or, where `es3` is true, in ECMAScript 3 that runs as it stands.
 ///
 /// # Errors
 ///
 /// `Fault` with the first fault of the manifest, and `Memory` only where memory is wanting.
-pub fn read_page(alloc: Global, text: &[u8], es3: bool) -> Result<Page, PageError>
-    ensures answer { Answers page result (page_of es3 text.now) }
+pub fn read_page(
+    alloc: Global,
+    rule: Vec<UriRow>,
+    text: &[u8],
+    es3: bool,
+) -> Result<Page, PageError>
+    ensures answer { Answers page result (page_of (rows_of rule.items) es3 text.now) }
+    ensures rule { IfOk result (λ p. p.rule ≡ rule) }
     ensures valid { IfOk result (λ p. IsValid (page p)) }
 {
     let value = value_of(alloc, text)?;
     let manifest = manifest_of(alloc, &value, es3)?;
-    bound_page(alloc, manifest)
+    bound_page(alloc, rule, manifest)
 }
 
-/// Each module of a page is in Cajita, or, where texts run as they stand, in ECMAScript 3.
+/// Each module of a page is in Cajita or Valija, or, where texts run as they stand, in ECMAScript 3.
 #[tactic(auto, using(crate::proofs::Languages::modules_in_language))]
 pub fn a_page_has_modules_of_its_language_alone()
-    ensures { (runs : Bool) (bytes : List ℕ) (p : spec.Page) → page_of runs bytes ≡ Ok p → All (λ m. m.language ≡ (wanted runs).1) p.modules }
+    ensures { (rule : List Row) (runs : Bool) (bytes : List ℕ) (p : spec.Page) → page_of rule runs bytes ≡ Ok p → All (λ m. as_it_stands m.language ≡ runs) p.modules }
 {}
 
 /// Where a manifest has fewer than 4,294,967,295 bytes, each call of a key passes fewer arguments than that.
 #[tactic(auto, using(crate::proofs::Arguments::few_arguments))]
 pub fn arguments_can_be_counted()
-    ensures { (runs : Bool) (bytes : List ℕ) (p : spec.Page) → length bytes < 4294967295 → page_of runs bytes ≡ Ok p → FewArguments p.events }
+    ensures { (rule : List Row) (runs : Bool) (bytes : List ℕ) (p : spec.Page) → length bytes < 4294967295 → page_of rule runs bytes ≡ Ok p → FewArguments p.events }
 {}

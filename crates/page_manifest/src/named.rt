@@ -2,9 +2,10 @@
 
 ghost use Rattle.std.specs.Prelude.{◌≤◌, vec_len};
 
-use crate::Lang;
+use crate::{Lang, Style};
 use caja_units::Units;
 use host_rules::Plain;
+use url::Url;
 
 /// What a module wants to be granted.
 #[derive(Drop)]
@@ -39,9 +40,12 @@ pub enum Plan {
 #[derive(Drop)]
 pub struct Manifest {
     pub html: Vec<u8>,
+    pub base: Option<Url>,
+    pub styles: Vec<Style>,
     pub cells: Vec<Units>,
     pub modules: Vec<Told>,
     pub events: Vec<Plan>,
+    ghost few_styles: { vec_len styles ≤ 64 },
     ghost few_cells: { vec_len cells ≤ 64 },
     ghost few_modules: { vec_len modules ≤ 64 },
     ghost few_events: { vec_len events ≤ 10000 },

@@ -17,6 +17,7 @@ use host_rules::Plain;
 use manifest_names::{is_grant_name, is_name};
 use serde_json::Value;
 use std::alloc::Global;
+use url::{ParseError, Url};
 
 const BAD_NAME: u8 = 5;
 
@@ -101,7 +102,7 @@ pub fn version(v: &Value, at: u32) -> Result<Whole, PageError>
     Ok(number)
 }
 
-/// The language that is wanted.
+/// The language of this name: that of texts which run as they stand where these are wanted, else one of those that are cajoled.
 pub fn language(v: &Value, es3: bool, at: u32) -> Result<Lang, PageError>
     ensures { Answers shown.language result (spec.language es3 at (view v.now)) }
 {
@@ -110,8 +111,27 @@ pub fn language(v: &Value, es3: bool, at: u32) -> Result<Lang, PageError>
         Ok(Lang::Es3)
     } else if !es3 && word == "cajita" {
         Ok(Lang::Cajita)
+    } else if !es3 && word == "valija" {
+        Ok(Lang::Valija)
     } else {
         Err(PageError::Fault(WRONG_KIND, at))
+    }
+}
+
+/// A URL by `http` or `https`. One past 4 GB is want of memory.
+pub fn web(alloc: Global, v: &Value, at: u32) -> Result<Url, PageError>
+    ensures { Answers (λ found. found) result (spec.web at (view v.now)) }
+{
+    match Url::parse(alloc, text(v, at)?) {
+        Ok(url) => {
+            if url.scheme() == "http" || url.scheme() == "https" {
+                Ok(url)
+            } else {
+                Err(PageError::Fault(BAD_NAME, at))
+            }
+        }
+        Err(ParseError::Overflow | ParseError::OutOfMemory) => Err(PageError::Memory),
+        Err(_) => Err(PageError::Fault(BAD_NAME, at)),
     }
 }
 

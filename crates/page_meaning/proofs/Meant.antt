@@ -15,7 +15,7 @@ use Rattle.caja_units.specs.Units.{is_hidden}
 use Rattle.caja_units.proofs.Texts.{same_units-from_equal}
 use Rattle.event_script.specs.Events.{Asked, a_call, a_click, an_input, a_tick, deed_of}
 use Rattle.manifest_names.specs.Names.{is_grant_name}
-use Rattle.page_manifest.specs.Page.{Granted, the_cell, the_result, the_plain, the_root, Grants, Module, Page, cajita}
+use Rattle.page_manifest.specs.Page.{Granted, the_cell, the_result, the_plain, the_root, Grants, Language, cajita, valija, es3, as_it_stands, Module, Page}
 use Rattle.page_manifest.specs.Valid.{IsGranted, IsModule, IsAsked, FewArguments}
 use Rattle.page_manifest.specs.Deeds.{given, all_given, loads, events}
 use Rattle.page_roots.specs.Roots.{Roots, roots_of, granted_roots, number_in}
@@ -24,6 +24,8 @@ use Rattle.page_documents.specs.Documents.{page_urls, page_doc}
 use Rattle.page_documents.specs.Ready.{HasNode, IsReady}
 use Rattle.page_documents.proofs.Ready.{documents_are_ready}
 use Rattle.page_ids.proofs.Ids.{ids_are_nodes}
+use Rattle.page_cajole.specs.declared.dialects.Dialect.{Dialect}
+use Rattle.page_cajole.specs.declared.dialects.Dialect.TheVariants.{Cajita, Valija}
 use Rattle.page_cajole.specs.Cajoled as cajole
 use Rattle.page_cajole.specs.Cajoled.{Outcome, outcome}
 use Rattle.page_cajole.specs.Pages.{Runnable, granted_names, source_outcome, by_outcome, module_outcome, page_outcome}
@@ -36,7 +38,7 @@ use Rattle.page_simulation.specs.Correct.{PageCorrect}
 use Rattle.page_simulation.proofs.Theorem.{correct}
 use Rattle.page_meaning.specs.PageRuns.{page_rules, deeds_in}
 use Rattle.page_meaning.specs.Means.{SourcesMean}
-use Rattle.page_meaning.specs.Sources.{IsSource}
+use Rattle.page_meaning.specs.Sources.{InDialect, SpellsModule, IsSource}
 use Rattle.page_meaning.specs.Meant.{runnable_of, SpellModules, PageMeant, IsPage, IsMeant}
 use Rattle.page_meaning.proofs.Sources.{accepted_source, is_source}
 use Rattle.page_meaning.proofs.Theorem.{sources_mean, told_cut}
@@ -89,14 +91,31 @@ record OfOutcome (o : Outcome) (r : Runnable) : Type 0 where
   outcome : o ≡ cajole.cajoled program
   runs : r ≡ record { text = printed program; program = program }
 
-of_outcome : (o : Outcome) (r : Runnable) → by_outcome o ≡ Ok r → OfOutcome o r
-of_outcome (cajole.uncut number at) r e = absurd cc
-of_outcome (cajole.unread number at) r e = absurd cc
-of_outcome (cajole.broken number at) r e = absurd cc
-of_outcome (cajole.cajoled p) r e = record { program = p; outcome = refl; runs = cc }
+of_outcome : (dialect : Dialect) (o : Outcome) (r : Runnable) → by_outcome dialect o ≡ Ok r → OfOutcome o r
+of_outcome dialect (cajole.uncut number at) r e = absurd cc
+of_outcome dialect (cajole.unread number at) r e = absurd cc
+of_outcome dialect (cajole.broken number at) r e = absurd cc
+of_outcome dialect (cajole.cajoled p) r e = record { program = p; outcome = refl; runs = cc }
 
-of_module : (m : Module) (r : Runnable) → m.language ≡ cajita → module_outcome m ≡ Ok r → OfOutcome (outcome (granted_names m) m.source) r
-of_module m r is e = of_outcome (outcome (granted_names m) m.source) r (ap (λ l. source_outcome l (granted_names m) m.source) (sym is) ∙ e)
+-- the module of a source of a dialect for which this runs: it is spelled there, is read back, and is a guest
+record ModuleAccepted (l : Language) (granted : List (List ℕ)) (source : List ℕ) (r : Runnable) : Type 0 where
+  its_module : c.Tree c.program
+  spelled : InDialect l (λ d. SpellsModule d granted source its_module)
+  runs : r ≡ runnable_of its_module
+  back : IsReadBack (program_of its_module)
+  guest : GuestModule its_module
+
+in_dialect : (dialect : Dialect) (granted : List (List ℕ)) (source : List ℕ) (r : Runnable) → AreGrantNames granted → by_outcome dialect (outcome dialect granted source) ≡ Ok r
+    → (m : c.Tree c.program) × SpellsModule dialect granted source m × (r ≡ runnable_of m) × IsReadBack (program_of m) × GuestModule m
+in_dialect dialect granted source r names e =
+    let o = of_outcome dialect (outcome dialect granted source) r e in
+    let a = accepted_source dialect granted names source o.program o.outcome in
+    (a.its_module, a.spelled, o.runs ∙ ap (λ (q : t.Tree t.program). let x : Runnable = record { text = printed q; program = q } in x) a.program, a.back, a.guest)
+
+of_source : (l : Language) (granted : List (List ℕ)) (source : List ℕ) (r : Runnable) → AreGrantNames granted → as_it_stands l ≡ false → source_outcome l granted source ≡ Ok r → ModuleAccepted l granted source r
+of_source cajita granted source r names is e = let a = in_dialect Cajita granted source r names e in record { its_module = a.0; spelled = a.1; runs = a.2; back = a.3; guest = a.4 }
+of_source valija granted source r names is e = let a = in_dialect Valija granted source r names e in record { its_module = a.0; spelled = a.1; runs = a.2; back = a.3; guest = a.4 }
+of_source es3 granted source r names is e = absurd cc
 
 module _ (roots : Roots) (d : Doc) where
   -- each module is a guest, and what it is granted fits
@@ -112,22 +131,20 @@ module _ (roots : Roots) (d : Doc) where
     back : All (λ m. IsReadBack (program_of m)) sources
     guests : Guests cells ms sources
 
-  all_accepted : (cells : ℕ) (ms : List Module) (rs : List Runnable) → EachFits roots d cells ms → All (λ m. m.language ≡ cajita) ms → map module_outcome ms ≡ map Ok rs → AllAccepted cells ms rs
+  all_accepted : (cells : ℕ) (ms : List Module) (rs : List Runnable) → EachFits roots d cells ms → All (λ m. as_it_stands m.language ≡ false) ms → map module_outcome ms ≡ map Ok rs → AllAccepted cells ms rs
   all_accepted cells [] [] each lang e = record { sources = []; spelled = tt; runs = refl; back = All-nil (λ m. IsReadBack (program_of m)); guests = tt }
   all_accepted cells [] (r ∷ rs) each lang e = absurd cc
   all_accepted cells (m ∷ ms) [] each lang e = absurd cc
   all_accepted cells (m ∷ ms) (r ∷ rs) each lang e =
       let first : module_outcome m ≡ Ok r = cc in
       let rest : map module_outcome ms ≡ map Ok rs = cc in
-      let o = of_module m r (All-head (λ m. m.language ≡ cajita) m ms lang) first in
       let its = each 0 m refl in
-      let a = accepted_source (granted_names m) its.names m.source o.program o.outcome in
-      let others = all_accepted cells ms rs (λ j n is. each (suc j) n is) (All-tail (λ m. m.language ≡ cajita) m ms lang) rest in
-      let same : r ≡ runnable_of a.its_module = o.runs ∙ ap (λ (q : t.Tree t.program). let x : Runnable = record { text = printed q; program = q } in x) a.program in
+      let a = of_source m.language (granted_names m) m.source r its.names (All-head (λ m. as_it_stands m.language ≡ false) m ms lang) first in
+      let others = all_accepted cells ms rs (λ j n is. each (suc j) n is) (All-tail (λ m. as_it_stands m.language ≡ false) m ms lang) rest in
       record {
         sources = a.its_module ∷ others.sources;
         spelled = (a.spelled, others.spelled);
-        runs = ap (λ x. x ∷ rs) same ∙ ap (λ l. runnable_of a.its_module ∷ l) others.runs;
+        runs = ap (λ x. x ∷ rs) a.runs ∙ ap (λ l. runnable_of a.its_module ∷ l) others.runs;
         back = All-cons (λ m. IsReadBack (program_of m)) a.its_module others.sources a.back others.back;
         guests = (a.guest, its.fit, others.guests);
       }
@@ -195,7 +212,7 @@ module _ (p : Page) (is : IsPage p) (ts : Tree many) (ready : IsReady p ts) wher
 
   page_meant : (rs : List Runnable) → page_outcome p ≡ Ok rs → PageMeant p ts rs
   page_meant rs e =
-      let a = all_accepted (roots_of p) (page_doc p ts) (length p.cells) p.modules rs each_fits is.cajita (((pages.is_cajoled_page p).where_accepted rs).0 e) in
+      let a = all_accepted (roots_of p) (page_doc p ts) (length p.cells) p.modules rs each_fits is.cajoled (((pages.is_cajoled_page p).where_accepted rs).0 e) in
       let means : (touching : Bool) → SourcesMean p ts a.sources touching = λ touching. sources_mean p ts a.sources touching (does a.sources a.guests touching) in
       record {
         sources = a.sources;
@@ -207,13 +224,22 @@ module _ (p : Page) (is : IsPage p) (ts : Tree many) (ready : IsReady p ts) wher
         reaches = reaches p ts a.sources (told_cut p ts a.sources true (does a.sources a.guests true));
       }
 
-all_sources : (ms : List Module) → All (λ m. IsSource (granted_names m) m.source) ms
-all_sources [] = All-nil (λ m. IsSource (granted_names m) m.source)
-all_sources (m ∷ ms) = All-cons (λ m. IsSource (granted_names m) m.source) m ms (is_source (granted_names m) m.source) (all_sources ms)
+source_in : (l : Language) (granted : List (List ℕ)) (source : List ℕ) → as_it_stands l ≡ false → InDialect l (λ d. IsSource d granted source)
+source_in cajita granted source is = is_source Cajita granted source
+source_in valija granted source is = is_source Valija granted source
+source_in es3 granted source is = absurd cc
+
+abbrev IsItsSource : Module → Type 0
+IsItsSource m = InDialect m.language (λ d. IsSource d (granted_names m) m.source)
+
+all_sources : (ms : List Module) → All (λ m. as_it_stands m.language ≡ false) ms → All IsItsSource ms
+all_sources [] lang = All-nil IsItsSource
+all_sources (m ∷ ms) lang =
+    All-cons IsItsSource m ms (source_in m.language (granted_names m) m.source (All-head (λ m. as_it_stands m.language ≡ false) m ms lang)) (all_sources ms (All-tail (λ m. as_it_stands m.language ≡ false) m ms lang))
 
 pub is_meant : (p : Page) → IsPage p → IsMeant p
 is_meant p is = record {
-  sources = all_sources p.modules;
+  sources = all_sources p.modules is.cajoled;
   cajoled = pages.is_cajoled_page p;
   named = λ ts doc. ids_are_nodes p ts (granted_roots p) doc.bound;
   where_accepted = λ ts doc rs e. page_meant p is ts (documents_are_ready p ts doc) rs e;

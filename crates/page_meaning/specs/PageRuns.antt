@@ -6,7 +6,7 @@ use Rattle.es3_tree.specs.Tree as t
 use Rattle.html_grammar.specs.Tables as tables
 use Rattle.html_grammar.specs.Tables.{void}
 use Rattle.html_grammar.specs.Trees.{many, Tree}
-use Rattle.html_kept.specs.Table.{attr_value, listed}
+use Rattle.html_kept.specs.Table.{Answers, attr_value, listed}
 use Rattle.doc_nodes.specs.Rows.{Doc}
 use Rattle.doc_views.specs.Seen.{nodes_seen}
 use Rattle.rows.specs.Document.{Node}
@@ -35,9 +35,13 @@ use Rattle.page_binding.specs.Nodes.{node_of}
 use Rattle.page_documents.specs.Documents.{page_urls, page_doc}
 use Rattle.manifest_deeds.specs.Names.{page_names}
 
--- the rules by which modules change the document: the tables of cleaned HTML, with what is answered for the page's URLs. There are no services
+-- the rules by which modules change the document: the tables of cleaned HTML, with what is answered for URLs. There are no services
+abbrev pub rules_by : Answers → Rules
+rules_by a = record { cleaned = attr_value a; listed = tables.is_in listed; no_content = tables.is_in void; services = λ k xs. undefined }
+
+-- with what is answered for the page's URLs
 abbrev pub page_rules : Page → Rules
-page_rules p = record { cleaned = attr_value (page_urls p); listed = tables.is_in listed; no_content = tables.is_in void; services = λ k xs. undefined }
+page_rules p = rules_by (page_urls p)
 
 -- what a page is to do, where its ids name nodes of this document
 abbrev pub deeds_in : {P : Type 0} → Doc → Page → List P → List (Deed P)

@@ -7,6 +7,7 @@
 
 ghost use Rattle.std.specs.Prelude.{ℕ, List};
 ghost use Rattle.page_manifest.specs.Page.{Page};
+ghost use Rattle.page_cajole.specs.declared.dialects.Dialect.{Dialect};
 ghost use Rattle.page_meaning.specs.Sources.{IsSource};
 ghost use Rattle.page_meaning.specs.Texts.{IsText};
 ghost use Rattle.page_meaning.specs.Meant.{IsPage, IsMeant};
@@ -21,7 +22,7 @@ pub fn an_accepted_page_is_meant()
 /// What becomes of a source that is granted names.
 #[tactic(auto, using(crate::proofs::Sources::is_source))]
 pub fn a_source_is_cajoled_or_refused()
-    ensures { (granted : List (List ℕ)) (source : List ℕ) → IsSource granted source }
+    ensures { (dialect : Dialect) (granted : List (List ℕ)) (source : List ℕ) → IsSource dialect granted source }
 {}
 
 /// What becomes of a text that runs as it stands.

@@ -29,14 +29,13 @@ use std::alloc::Global;
 use url::Url;
 use url_rule::{UriRow, UriRule};
 
-/// A page: the names of its modules, of its cells and of its roots, how many of each there are, its document, which URLs are given
+/// A page: the names of its modules, of its cells and of its roots, how many modules and cells there are, its document, which URLs are given
 /// to the document, joined to the base where there is one, and what is done in it.
 #[derive(Drop)]
 pub struct Page {
     pub names: Names,
     pub modules: u32,
     pub cells: u32,
-    pub roots: u32,
     pub document: Document,
     pub urls: UriRule<Vec<UriRow>>,
     pub base: Option<Url>,
@@ -164,7 +163,6 @@ fn run_opened(
 pub fn run_page(alloc: Global, page: Page, steps: u64, touching: bool) -> Result<Outcome, Memory>
     requires few_modules { page.modules ≤ 64 }
     requires few_cells { page.cells ≤ 64 }
-    requires all_roots { page.roots ≡ length page.document.roots }
     requires fit { All (DeedFits page.modules) page.deeds.items }
     ensures { IfOk result (λ o. Shows (names_of page.names) (run_from page (page_store page.modules page.cells page.document) touching steps) o) }
 {
@@ -172,35 +170,27 @@ pub fn run_page(alloc: Global, page: Page, steps: u64, touching: bool) -> Result
         names,
         modules,
         cells,
-        roots,
         document,
         urls,
         base,
         deeds,
     } = page;
-    let opened = open_page(alloc, modules, cells, document, roots)?;
+    let opened = open_page(alloc, modules, cells, document)?;
     run_opened(
         alloc, opened, names, urls, base, modules, deeds, steps, touching,
     )
 }
 
 /// The store that a page of texts begins in, with the global object of a text (ES3 15.1).
-fn open_texts(
-    alloc: Global,
-    modules: u32,
-    cells: u32,
-    document: Document,
-    roots: u32,
-) -> Result<Opened, Memory>
+fn open_texts(alloc: Global, modules: u32, cells: u32, document: Document) -> Result<Opened, Memory>
     requires few_modules { modules ≤ 64 }
     requires few_cells { cells ≤ 64 }
-    requires all_roots { roots ≡ length document.roots }
     ensures heap { IfOk result (λ o. o.heap ≡ with_global_names (page_objects modules cells document)) }
     ensures dom { IfOk result (λ o. o.dom ≡ page_lent modules cells document) }
     ensures runtime { IfOk result (λ o. o.runtime ≡ runtime_id) }
     ensures globals { IfOk result (λ o. o.globals ≡ text_globals (page_objects modules cells document)) }
 {
-    let mut opened = open_page(alloc, modules, cells, document, roots)?;
+    let mut opened = open_page(alloc, modules, cells, document)?;
     opened.globals = add_global_names(alloc, &mut opened.heap)?;
     Ok(opened)
 }
@@ -213,7 +203,6 @@ fn open_texts(
 pub fn run_texts(alloc: Global, page: Page, steps: u64, touching: bool) -> Result<Outcome, Memory>
     requires few_modules { page.modules ≤ 64 }
     requires few_cells { page.cells ≤ 64 }
-    requires all_roots { page.roots ≡ length page.document.roots }
     requires fit { All (DeedFits page.modules) page.deeds.items }
     ensures { IfOk result (λ o. Shows (names_of page.names) (run_from page (texts_store page.modules page.cells page.document) touching steps) o) }
 {
@@ -221,13 +210,12 @@ pub fn run_texts(alloc: Global, page: Page, steps: u64, touching: bool) -> Resul
         names,
         modules,
         cells,
-        roots,
         document,
         urls,
         base,
         deeds,
     } = page;
-    let opened = open_texts(alloc, modules, cells, document, roots)?;
+    let opened = open_texts(alloc, modules, cells, document)?;
     run_opened(
         alloc, opened, names, urls, base, modules, deeds, steps, touching,
     )

@@ -60,9 +60,9 @@ page
 {"version":1.0,"modules":[]}
 ⇒
 refused - page 3 0
-# 4: styles
+# 4: a sheet with a field too many
 page
-{"version":1,"styles":[],"modules":[]}
+{"version":1,"styles":[{"root":"r","css":"","media":"print"}],"modules":[]}
 ⇒
 refused - page 4 0
 # 4: an event with a field too many

@@ -6,6 +6,8 @@ ghost use Rattle.es3_tree.specs.Tree as tree;
 ghost use Rattle.es3_tree.specs.Placed.{Placed};
 ghost use Rattle.es3_tree.specs.PlacedView.{of_stmts};
 ghost use Rattle.cajita_tree.specs.Tree as resolved_tree;
+ghost use Rattle.cajita_tree.specs.View.{module_view};
+ghost use Rattle.cajita_forms.specs.Gives.{Gives};
 ghost use Rattle.scope_rules.specs.Check.{Checks};
 ghost use Rattle.cajita_rules.specs.Faults.{faults as faults_of};
 ghost use Rattle.scope_rules.specs.Resolve.{module_of};
@@ -47,6 +49,27 @@ pub fn a_program_without_faults_has_a_module()
     ensures { (grants : List (List ℕ)) (body : Placed tree.stmts) → faults_of grants body ≡ []
         → (m : resolved_tree.Tree resolved_tree.program) × (module_of grants body ≡ Some m) }
 {}
+
+/// The module of a program (ES3 14), where these names are granted and each of its forms has a resolved one, whatever rules it breaks: for programs whose rules were
+/// tested elsewhere.
+///
+/// # Errors
+///
+/// `Memory` where memory is wanting.
+pub fn resolve_program(
+    alloc: Global,
+    program: &Program,
+    grants: &[Units],
+) -> Result<Option<Module>, Memory>
+    ensures { Gives result module_view (module_of grants.now (of_stmts program.now.body.items)) }
+{
+    let declarations = module_declarations(alloc, &program.body)?;
+    let imports = imports::imports(alloc, grants, &declarations, &program.body)?;
+    match resolve::resolve_body(alloc, &program.body)? {
+        Some(body) => Ok(Some(Module { imports, body })),
+        None => Ok(None),
+    }
+}
 
 /// The module that the program is (ES3 14), where these names are granted, exactly where it breaks no rule.
 ///

@@ -8,7 +8,7 @@ use Rattle.es3_tree.specs.Placed.{Placed}
 use Rattle.es3_tokens.specs.Tokens as tokens
 use Rattle.es3_tokens.specs.Cut.{cut}
 use Rattle.es3_grammar.specs.Spots.{Spot, spots}
-use Rattle.es3_grammar.specs.Grammar.{free, spells}
+use Rattle.es3_grammar.specs.Grammar.{free, Spells, spells}
 use Rattle.cajita_tree.specs.Tree as c
 use Rattle.cajita_names.specs.Once.{vars_of}
 use Rattle.cajita_forms.specs.Options.{one, both}
@@ -37,6 +37,11 @@ of_module grants ss m e =
 of_program : (q : Placed t.program) (ts : List tokens.Placed) → spells q ts → writes t.stmts (statements q) + inner_writes t.stmts (statements q) ≤ length ts
 unfolding writes inner_writes
 of_program (p.script ss) ts h = omega (arith, all_writes_have_tokens t.program free 0 (p.script ss) (spots ts) h, length-map {B = Spot} ts (λ r. (r.token, r.start)))
+
+-- three at most for each of the tokens
+pub three_a_token : (u : List Spot) (q : Placed t.program) (grants : List (List ℕ)) (m : c.Tree c.program) → Spells t.program free 0 q u → module_of grants (statements q) ≡ Some m → temps_everywhere m ≤ 3 * length u
+unfolding writes inner_writes
+three_a_token u (p.script ss) grants m h i = omega (arith, all_writes_have_tokens t.program free 0 (p.script ss) u h, of_module grants ss m i)
 
 pub three_a_byte_everywhere : (n : ℕ) (source : List ℕ) (q : Placed t.program) (ts : List tokens.Placed) (grants : List (List ℕ)) (m : c.Tree c.program) →
     cut n source ≡ Ok ts → spells q ts → module_of grants (statements q) ≡ Some m → temps_everywhere m ≤ 3 * length source

@@ -12,7 +12,7 @@ ghost use Rattle.es3_tree.specs.Placed.{Placed};
 ghost use Rattle.es3_tokens.specs.Tokens as tokens;
 ghost use Rattle.es3_tokens.specs.Cut.{cut};
 ghost use Rattle.es3_grammar.specs.Spots.{Spot};
-ghost use Rattle.es3_grammar.specs.Grammar.{Bars, Spells, spells};
+ghost use Rattle.es3_grammar.specs.Grammar.{Bars, free, Spells, spells};
 ghost use Rattle.cajita_tree.specs.Tree as c;
 ghost use Rattle.cajita_rewrite.specs.Rewrite.{temps};
 ghost use Rattle.scope_rules.specs.Resolve.{of_sort, resolved, module_of};
@@ -43,10 +43,12 @@ pub fn each_write_takes_three_temporaries_at_most()
     ensures { (s : t.Sort) (x : Placed s) (y : c.Tree (of_sort s)) → resolved s x ≡ Some y → temps (of_sort s) y ≤ 3 * writes s x }
 {}
 
-/// A source that spells a module spells one with at most three temporaries for each of its bytes; with fewer than 2 to the 32 where it keeps the limit of
+/// Tokens that spell a module spell one with at most three temporaries for each of them, and a source for each of its bytes; with fewer than 2 to the 32 where it keeps the limit of
 /// 512 KiB for what is cajoled. So it is where those of all functions of the module are counted together with its own.
-#[tactic(auto, using(crate::proofs::Sizes::three_a_byte, crate::proofs::Sizes::below_the_limit, crate::proofs::Sizes::three_a_byte_everywhere, crate::proofs::Sizes::below_the_limit_everywhere))]
+#[tactic(auto, using(crate::proofs::Sizes::three_a_token, crate::proofs::Sizes::three_a_byte, crate::proofs::Sizes::below_the_limit, crate::proofs::Sizes::three_a_byte_everywhere, crate::proofs::Sizes::below_the_limit_everywhere))]
 pub fn a_source_takes_few_temporaries()
+    ensures by_tokens { (u : List Spot) (p : Placed t.program) (grants : List (List ℕ)) (m : c.Tree c.program) →
+        Spells t.program free 0 p u → module_of grants (statements p) ≡ Some m → temps_everywhere m ≤ 3 * length u }
     ensures by_length { (n : ℕ) (source : List ℕ) (p : Placed t.program) (ts : List tokens.Placed) (grants : List (List ℕ)) (m : c.Tree c.program) →
         cut n source ≡ Ok ts → spells p ts → module_of grants (statements p) ≡ Some m → temps_of m ≤ 3 * length source }
     ensures bounded { (source : List ℕ) (p : Placed t.program) (ts : List tokens.Placed) (grants : List (List ℕ)) (m : c.Tree c.program) →

@@ -49,6 +49,13 @@ impl<F: Asks> UriRule<F> {
         self.by.ask(a)
     }
 
+    /// The rows of the table once more.
+    pub fn rows(&self, alloc: Global) -> Result<Vec<UriRow>, Memory>
+        ensures { IfOk result (λ rows. rows_of rows.items ≡ rows_of self.now.table.items) }
+    {
+        copy_rows(alloc, &self.table)
+    }
+
     /// Whether a URL may be named.
     fn allows(&self, kind: UriKind, url: &Url) -> bool
         ensures { result ≡ may_be_named (rows_of self.now.table.items) kind url.now }

@@ -30,6 +30,10 @@ fn told(alloc: Global, command: Option<Command>) -> Result<String, AllocError> {
         Some(Command::Solo(options)) => with_options(alloc, "solo", options),
         Some(Command::Run(options)) => with_options(alloc, "run", options),
         Some(Command::Page(options)) => with_options(alloc, "page", options),
+        Some(Command::Gen(events, options)) => {
+            let name = format!(in alloc; "gen {events}")?;
+            with_options(alloc, &name, options)
+        }
         Some(Command::Cajole) => String::from_str(alloc, "cajole"),
         Some(Command::Format) => String::from_str(alloc, "format"),
         None => String::from_str(alloc, "usage"),
@@ -37,7 +41,7 @@ fn told(alloc: Global, command: Option<Command>) -> Result<String, AllocError> {
 }
 
 /// Words, and what they are.
-static ROWS: [(&str, &str); 74] = [
+static ROWS: [(&str, &str); 121] = [
     // Each command by itself.
     ("solo", "solo 1000000"),
     ("run", "run 1000000"),
@@ -120,6 +124,56 @@ static ROWS: [(&str, &str); 74] = [
     ("format|--", "usage"),
     ("cajole|", "usage"),
     ("Solo", "usage"),
+    // `gen`: one number from 1 to 2,000, before, between or behind the options.
+    ("gen|5", "gen 5 1000000"),
+    ("gen|1", "gen 1 1000000"),
+    ("gen|2000", "gen 2000 1000000"),
+    ("gen|00000007", "gen 7 1000000"),
+    ("gen|5|--touch", "gen 5 1000000 touch"),
+    ("gen|5|--steps|7", "gen 5 7"),
+    ("gen|--steps|7|5", "gen 5 7"),
+    ("gen|--steps=7|5", "gen 5 7"),
+    ("gen|--touch|5|--steps|7", "gen 5 7 touch"),
+    ("gen|--steps|7|5|--touch", "gen 5 7 touch"),
+    ("gen|--steps|5|--touch|5", "gen 5 5 touch"),
+    // No number, another number, two numbers.
+    ("gen", "usage"),
+    ("gen|--touch", "usage"),
+    ("gen|--steps|5", "usage"),
+    ("gen|--steps=5", "usage"),
+    ("gen|0", "usage"),
+    ("gen|2001", "usage"),
+    ("gen|99999999", "usage"),
+    ("gen|000000005", "usage"),
+    ("gen|+5", "usage"),
+    ("gen|-5", "usage"),
+    ("gen|5x", "usage"),
+    ("gen|٣", "usage"),
+    ("gen|", "usage"),
+    ("gen|5|6", "usage"),
+    ("gen|5|5", "usage"),
+    ("gen|5|--touch|6", "usage"),
+    ("gen|5|--steps|7|6", "usage"),
+    ("gen|--steps|7|5|6", "usage"),
+    // The other words as behind the other commands.
+    ("gen||5", "usage"),
+    ("gen|5|", "usage"),
+    ("gen|--|5", "usage"),
+    ("gen|5|--", "usage"),
+    ("gen|5|--steps", "usage"),
+    ("gen|5|--steps|0", "usage"),
+    ("gen|5|--steps|--touch", "usage"),
+    ("gen|--steps|--steps|5", "usage"),
+    ("gen|5|--touch|--touch", "usage"),
+    ("gen|--steps|7|5|--steps|7", "usage"),
+    ("gen|--touch=5", "usage"),
+    ("gen|5|page", "usage"),
+    ("gen|page", "usage"),
+    ("gen|5|-t", "usage"),
+    ("gen|5|--help", "usage"),
+    ("Gen|5", "usage"),
+    ("5|gen", "usage"),
+    ("page|5", "usage"),
 ];
 
 #[test]

@@ -10,7 +10,6 @@ use Rattle.page_binding.specs.Nodes.{node_of}
 use Rattle.std.specs.Map.{keys_of}
 use Rattle.manifest_deeds.proofs.Fit.{all_fit}
 use Rattle.manifest_deeds.proofs.Named.{told_names}
-use Rattle.manifest_deeds.proofs.Rooted.{counted}
 use Rattle.manifest_deeds.proofs.page_of.Goals as goal
 
 pub returns-clause-names : goal.returns-clause-names
@@ -27,9 +26,6 @@ returns-clause-deeds c =
     let programs = map program c.args.programs.items in
     let done : deeds_of c.add_events.new.list.items ≡ deeds (number_in c.args.found.roots) (node_of c.args.found.document) told programs = c.in_ok-add_events.ensures ∙ ap (λ l. l ++ events (node_of c.args.found.document) 0 (map asked c.args.manifest.events.items)) c.in_ok-list.ensures in
     done ∙ ap (λ (rs : Roots). deeds (number_in rs) (node_of c.args.found.document) told programs) c.requires.found.roots
-
-pub returns-clause-all_roots : goal.returns-clause-all_roots
-returns-clause-all_roots c = c.count.ensures ∙ sym (counted (page c.args.manifest) c.args.found c.requires.found)
 
 pub returns-clause-fit : goal.returns-clause-fit
 returns-clause-fit c =

@@ -1,3 +1,4 @@
+use Rattle.url_rule.specs.Table.{rows_of}
 use Rattle.page_manifest.specs.Faults.{chain}
 use Rattle.page_manifest.specs.Manifest.{manifest}
 use Rattle.page_manifest.specs.Bound.{bound}
@@ -8,5 +9,6 @@ use Rattle.page_manifest.proofs.read_page.Goals as goal
 
 pub returns-clause-valid : goal.returns-clause-valid
 returns-clause-valid c =
-    valid_answer c.args.es3 c.args.text.now c.bound_page.result
-    (goes_on page c.bound_page.result (λ d. chain (manifest c.args.es3 d) bound) c.in_ok-value.ensures (goes_on page c.bound_page.result bound c.in_ok-manifest.ensures c.bound_page.ensures))
+    let rule = rows_of c.args.rule.items in
+    valid_answer rule c.args.es3 c.args.text.now c.bound_page.result
+    (goes_on page c.bound_page.result (λ d. chain (manifest c.args.es3 d) (bound rule)) c.in_ok-value.ensures (goes_on page c.bound_page.result (bound rule) c.in_ok-manifest.ensures c.bound_page.ensures.answer))

@@ -1,0 +1,13 @@
+pub mod Parts
+pub mod ExpressionForms
+pub mod StatementForms
+pub mod Asking
+pub mod Names
+pub mod Bodies
+pub mod Lowered
+pub mod Functions
+pub mod Expressions
+pub mod Assignments
+pub mod Statements
+pub mod Program
+pub mod Module

@@ -1,0 +1,12 @@
+pub mod Pieces
+pub mod Asks
+pub mod Lines
+pub mod Low
+pub mod Expressions
+pub mod Assignments
+pub mod Heads
+pub mod Functions
+pub mod Statements
+pub mod Program
+pub mod Prelude
+pub mod Spelled
