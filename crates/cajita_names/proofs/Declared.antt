@@ -1,5 +1,5 @@
 -- What a list declares, one part after the other, what a `switch` and a `try` declare, and the names of a module.
-use Rattle.std.proofs.Common.{◌≡◌, ℕ, ◌+◌, ◌<◌, List, [], ◌∷◌, ◌++◌, ◌||◌, map, Option, Some, None, length, get_or, drop, refl, sym, ap, ◌∙◌, append_assoc, append-nil}
+use Rattle.std.proofs.Common.{◌≡◌, ℕ, ◌+◌, ◌<◌, List, ◌∷◌, ◌++◌, ◌||◌, Option, Some, None, length, get_or, drop, sym, ap, ◌∙◌, append_assoc, append-nil}
 use Rattle.std.proofs.lemmas.List.{at_drop_more}
 use Rattle.std.proofs.lemmas.List.Folds.{list_any-append}
 use Rattle.caja_units.specs.Units.{same_units}
@@ -14,8 +14,6 @@ use Rattle.es3_tree.specs.PlacedView as source
 use Rattle.es3_tree.proofs.PlacedRows.{placed_switch, placed_try}
 use Rattle.cajita_names.specs.Rules.{is_among}
 use Rattle.cajita_names.specs.Declarations.{Declaration, declarations}
-use Rattle.cajita_names.specs.Views.{declaration_of}
-use Rattle.cajita_names.specs.declared.declarations.Declaration.{Declaration as DeclarationPart}
 
 -- a list gone over up to i, with the element there
 pub turn : {A : Type 0} (all : List A → List Declaration) (ds : List Declaration) (xs : List A) (i : ℕ) (x : A) (out more : List Declaration) → i < length xs → x ≡ get_or xs i x
@@ -25,13 +23,6 @@ turn all ds xs i x out more h is parts now =
     ap (λ m. m ++ all (drop (i + 1) xs)) now
     ∙ append_assoc out ds (all (drop (i + 1) xs))
     ∙ ap (λ l. out ++ l) (sym parts ∙ ap (λ z. all (z ∷ drop (i + 1) xs)) is ∙ sym (at_drop_more all xs i x h))
-
-pub pushed : (out more : List DeclarationPart) (d : DeclarationPart) → more ≡ out ++ d ∷ [] → map declaration_of more ≡ map declaration_of out ++ declaration_of d ∷ []
-pushed out more d e = ap (map declaration_of) e ∙ last out
-  where
-    last : (ds : List DeclarationPart) → map declaration_of (ds ++ d ∷ []) ≡ map declaration_of ds ++ declaration_of d ∷ []
-    last [] = refl
-    last (x ∷ xs) = ap (λ l. declaration_of x ∷ l) (last xs)
 
 pub declared_switch : {x : Stmt} (y : Expr) (z : Vec Case) → x ≡ s.Switch y z → declarations t.stmt (source.stmt x) ≡ declarations t.cases (source.of_cases z.items)
 unfolding declarations

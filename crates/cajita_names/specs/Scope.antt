@@ -30,6 +30,9 @@ declares ds x = list_any (λ e. same_units x e.word.text) ds
 abbrev pub declares_function : List Declaration → List ℕ → Bool
 declares_function ds x = list_any (λ e. is_function e.role && same_units x e.word.text) ds
 
+abbrev pub declares_parameter : List Declaration → List ℕ → Bool
+declares_parameter ds x = list_any (λ e. is_parameter e.role && same_units x e.word.text) ds
+
 -- what a name is: it may be written to; it is settled; it is an import; or nothing around declares it
 pub data Binding : Type 0 where
   changing settled imported unbound : Binding

@@ -5,8 +5,9 @@ ghost use Rattle.es3_tree.specs.Tree as tree;
 ghost use Rattle.es3_tree.specs.PlacedView as source;
 ghost use Rattle.cajita_names.specs.Declarations.{declarations, body_declarations, declared_as, parameter};
 ghost use Rattle.cajita_names.specs.Scope.{is_function, is_parameter};
-ghost use Rattle.cajita_names.specs.Views.{role_of, declaration_of};
+ghost use Rattle.cajita_names.specs.Views.{role_of};
 
+use crate::tabled::Declared;
 use caja_units::Memory;
 use es3_tree::{Case, First, Func, Loop, Name, Stmt, VarItem};
 use std::alloc::Global;
@@ -41,10 +42,10 @@ impl Role {
 }
 
 /// A name that a body declares itself.
-#[derive(Clone, Copy)]
-pub struct Declaration<'a> {
+#[derive(Drop)]
+pub struct Declaration {
     /// The name, where it is declared.
-    pub name: &'a Name,
+    pub name: Name,
     /// How it is declared.
     pub role: Role,
 }
@@ -52,9 +53,9 @@ pub struct Declaration<'a> {
 // The statements, each behind the ones before.
 #[cycle(declared)]
 #[tactic(auto, unfolding(crate::specs::Declarations::declarations))]
-fn add_stmts<'a>(out: &mut Vec<Declaration<'a>>, list: &'a [Stmt]) -> Result<(), Memory>
-    ensures { OnOk result (map declaration_of out.new.items
-        ≡ map declaration_of out.old.items ++ declarations tree.stmts (source.of_stmts list.now)) }
+fn add_stmts(out: &mut Declared, list: &[Stmt]) -> Result<(), Memory>
+    ensures { OnOk result (out.new
+        ≡ out.old ++ declarations tree.stmts (source.of_stmts list.now)) }
 {
     for statement in list {
         add_stmt(out, statement)?;
@@ -64,9 +65,9 @@ fn add_stmts<'a>(out: &mut Vec<Declaration<'a>>, list: &'a [Stmt]) -> Result<(),
 
 #[cycle(declared)]
 #[tactic(auto, unfolding(crate::specs::Declarations::declarations), using(es3_tree::proofs::PlacedRows::placed_views))]
-fn add_stmt<'a>(out: &mut Vec<Declaration<'a>>, statement: &'a Stmt) -> Result<(), Memory>
-    ensures { OnOk result (map declaration_of out.new.items
-        ≡ map declaration_of out.old.items ++ declarations tree.stmt (source.stmt statement.now)) }
+fn add_stmt(out: &mut Declared, statement: &Stmt) -> Result<(), Memory>
+    ensures { OnOk result (out.new
+        ≡ out.old ++ declarations tree.stmt (source.stmt statement.now)) }
 {
     match statement {
         Stmt::Block(list) => add_stmts(out, list),
@@ -108,12 +109,9 @@ fn add_stmt<'a>(out: &mut Vec<Declaration<'a>>, statement: &'a Stmt) -> Result<(
 
 #[cycle(declared)]
 #[tactic(auto, unfolding(crate::specs::Declarations::declarations))]
-fn add_maybe_stmt<'a>(
-    out: &mut Vec<Declaration<'a>>,
-    statement: &'a Option<Box<Stmt>>,
-) -> Result<(), Memory>
-    ensures { OnOk result (map declaration_of out.new.items
-        ≡ map declaration_of out.old.items ++ declarations tree.maybe_stmt (source.of_maybe_stmt statement.now)) }
+fn add_maybe_stmt(out: &mut Declared, statement: &Option<Box<Stmt>>) -> Result<(), Memory>
+    ensures { OnOk result (out.new
+        ≡ out.old ++ declarations tree.maybe_stmt (source.of_maybe_stmt statement.now)) }
 {
     match statement {
         Some(statement) => add_stmt(out, statement),
@@ -123,9 +121,9 @@ fn add_maybe_stmt<'a>(
 
 #[cycle(declared)]
 #[tactic(auto, unfolding(crate::specs::Declarations::declarations))]
-fn add_cases<'a>(out: &mut Vec<Declaration<'a>>, cases: &'a [Case]) -> Result<(), Memory>
-    ensures { OnOk result (map declaration_of out.new.items
-        ≡ map declaration_of out.old.items ++ declarations tree.cases (source.of_cases cases.now)) }
+fn add_cases(out: &mut Declared, cases: &[Case]) -> Result<(), Memory>
+    ensures { OnOk result (out.new
+        ≡ out.old ++ declarations tree.cases (source.of_cases cases.now)) }
 {
     for case in cases {
         add_stmts(out, &case.body)?;
@@ -134,23 +132,20 @@ fn add_cases<'a>(out: &mut Vec<Declaration<'a>>, cases: &'a [Case]) -> Result<()
 }
 
 #[tactic(auto, unfolding(crate::specs::Declarations::declarations))]
-fn add_items<'a>(out: &mut Vec<Declaration<'a>>, items: &'a [VarItem]) -> Result<(), Memory>
-    ensures { OnOk result (map declaration_of out.new.items
-        ≡ map declaration_of out.old.items ++ declarations tree.items (source.of_items items.now)) }
+fn add_items(out: &mut Declared, items: &[VarItem]) -> Result<(), Memory>
+    ensures { OnOk result (out.new
+        ≡ out.old ++ declarations tree.items (source.of_items items.now)) }
 {
     for item in items {
-        out.push(Declaration {
-            name: &item.name,
-            role: Role::Variable,
-        })?;
+        out.push(&item.name, Role::Variable)?;
     }
     Ok(())
 }
 
 #[tactic(auto, unfolding(crate::specs::Declarations::declarations), using(es3_tree::proofs::PlacedRows::placed_views))]
-fn add_first<'a>(out: &mut Vec<Declaration<'a>>, start: &'a First) -> Result<(), Memory>
-    ensures { OnOk result (map declaration_of out.new.items
-        ≡ map declaration_of out.old.items ++ declarations tree.first (source.first start.now)) }
+fn add_first(out: &mut Declared, start: &First) -> Result<(), Memory>
+    ensures { OnOk result (out.new
+        ≡ out.old ++ declarations tree.first (source.first start.now)) }
 {
     match start {
         First::Var(items) => add_items(out, items),
@@ -159,43 +154,34 @@ fn add_first<'a>(out: &mut Vec<Declaration<'a>>, start: &'a First) -> Result<(),
 }
 
 #[tactic(auto, unfolding(crate::specs::Declarations::declarations), using(es3_tree::proofs::PlacedRows::placed_views))]
-fn add_loop_target<'a>(out: &mut Vec<Declaration<'a>>, target: &'a Loop) -> Result<(), Memory>
-    ensures { OnOk result (map declaration_of out.new.items
-        ≡ map declaration_of out.old.items ++ declarations tree.loop_target (source.loop_target target.now)) }
+fn add_loop_target(out: &mut Declared, target: &Loop) -> Result<(), Memory>
+    ensures { OnOk result (out.new
+        ≡ out.old ++ declarations tree.loop_target (source.loop_target target.now)) }
 {
     if let Loop::Var(name) = target {
-        out.push(Declaration {
-            name,
-            role: Role::LoopVariable,
-        })?;
+        out.push(name, Role::LoopVariable)?;
     }
     Ok(())
 }
 
 // A declared function declares its name alone.
 #[tactic(auto, unfolding(crate::specs::Declarations::declarations))]
-fn add_function<'a>(out: &mut Vec<Declaration<'a>>, function: &'a Func) -> Result<(), Memory>
-    ensures { OnOk result (map declaration_of out.new.items
-        ≡ map declaration_of out.old.items ++ declarations tree.func (source.func function.now)) }
+fn add_function(out: &mut Declared, function: &Func) -> Result<(), Memory>
+    ensures { OnOk result (out.new
+        ≡ out.old ++ declarations tree.func (source.func function.now)) }
 {
     if let Some(name) = &function.name {
-        out.push(Declaration {
-            name,
-            role: Role::Function,
-        })?;
+        out.push(name, Role::Function)?;
     }
     Ok(())
 }
 
-fn add_parameters<'a>(out: &mut Vec<Declaration<'a>>, names: &'a [Name]) -> Result<(), Memory>
-    ensures { OnOk result (map declaration_of out.new.items
-        ≡ map declaration_of out.old.items ++ map (declared_as parameter) (source.words names.now)) }
+fn add_parameters(out: &mut Declared, names: &[Name]) -> Result<(), Memory>
+    ensures { OnOk result (out.new
+        ≡ out.old ++ map (declared_as parameter) (source.words names.now)) }
 {
     for name in names {
-        out.push(Declaration {
-            name,
-            role: Role::Parameter,
-        })?;
+        out.push(name, Role::Parameter)?;
     }
     Ok(())
 }
@@ -205,13 +191,10 @@ fn add_parameters<'a>(out: &mut Vec<Declaration<'a>>, names: &'a [Name]) -> Resu
 /// # Errors
 ///
 /// `Memory` where memory is wanting.
-pub fn module_declarations<'a>(
-    alloc: Global,
-    body: &'a [Stmt],
-) -> Result<Vec<Declaration<'a>>, Memory>
-    ensures { IfOk result (λ ds. map declaration_of ds.items ≡ declarations tree.stmts (source.of_stmts body.now)) }
+pub fn module_declarations(alloc: Global, body: &[Stmt]) -> Result<Declared, Memory>
+    ensures { IfOk result (λ ds. ds ≡ declarations tree.stmts (source.of_stmts body.now)) }
 {
-    let mut out = Vec::new(alloc);
+    let mut out = Declared::new(alloc)?;
     add_stmts(&mut out, body)?;
     Ok(out)
 }
@@ -221,14 +204,10 @@ pub fn module_declarations<'a>(
 /// # Errors
 ///
 /// `Memory` where memory is wanting.
-pub fn function_declarations<'a>(
-    alloc: Global,
-    function: &'a Func,
-) -> Result<Vec<Declaration<'a>>, Memory>
-    ensures { IfOk result (λ ds. map declaration_of ds.items
-        ≡ body_declarations (source.words function.now.params.items) (source.of_stmts function.now.body.items)) }
+pub fn function_declarations(alloc: Global, function: &Func) -> Result<Declared, Memory>
+    ensures { IfOk result (λ ds. ds ≡ body_declarations (source.words function.now.params.items) (source.of_stmts function.now.body.items)) }
 {
-    let mut out = Vec::new(alloc);
+    let mut out = Declared::new(alloc)?;
     add_parameters(&mut out, &function.params)?;
     add_stmts(&mut out, &function.body)?;
     Ok(out)

@@ -5,4 +5,5 @@
 pub mod declarations;
 pub mod once;
 pub mod scope;
+pub mod tabled;
 pub mod words;

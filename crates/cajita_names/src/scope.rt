@@ -1,11 +1,11 @@
 //! What is declared around a part of a program, and what a name is there (ES3 10.1.4).
 
-ghost use Rattle.std.specs.Prelude.{◌≡◌, ◌++◌, map, not};
+ghost use Rattle.std.specs.Prelude.{◌≡◌, ◌++◌, not};
 ghost use Rattle.cajita_names.specs.Rules.{fixed_names, is_among as is_among_them};
 ghost use Rattle.cajita_names.specs.Scope as wanted;
-ghost use Rattle.cajita_names.specs.Views.{declaration_of, binding_of, scope_of};
+ghost use Rattle.cajita_names.specs.Views.{binding_of, scope_of};
 
-use crate::declarations::Declaration;
+use crate::tabled::Declared;
 use crate::words::{is_among, is_arguments, is_fixed_name};
 use caja_units::Units;
 
@@ -26,42 +26,20 @@ pub(crate) enum Binding {
 #[derive(Clone, Copy)]
 pub enum Scope<'a> {
     /// The body of a module: its declarations, and the names that are granted to it. It has the fixed names besides.
-    Module(&'a [Declaration<'a>], &'a [Units]),
+    Module(&'a Declared, &'a [Units]),
     /// The body of a function: its declarations, the parameters before.
-    Function(&'a [Declaration<'a>], &'a Scope<'a>),
+    Function(&'a Declared, &'a Scope<'a>),
     /// The block of a `catch` with its name (ES3 12.14).
     Catch(&'a Units, &'a Scope<'a>),
     /// A function expression with its own name (ES3 13).
     Named(&'a Units, &'a Scope<'a>),
 }
 
-fn declares(declarations: &[Declaration<'_>], name: &Units) -> bool
-    ensures { result ≡ wanted.declares (map declaration_of declarations.now) name.now }
-{
-    for declaration in declarations {
-        if name.same(&declaration.name.text) {
-            return true;
-        }
-    }
-    false
-}
-
-fn declares_function(declarations: &[Declaration<'_>], name: &Units) -> bool
-    ensures { result ≡ wanted.declares_function (map declaration_of declarations.now) name.now }
-{
-    for declaration in declarations {
-        if declaration.role.is_function() && name.same(&declaration.name.text) {
-            return true;
-        }
-    }
-    false
-}
-
 // What a name is that a body declares: a function, if it is one of these too.
-fn own(declarations: &[Declaration<'_>], name: &Units) -> Binding
-    ensures { binding_of result ≡ wanted.own (map declaration_of declarations.now) name.now }
+fn own(declared: &Declared, name: &Units) -> Binding
+    ensures { binding_of result ≡ wanted.own declared.now name.now }
 {
-    if declares_function(declarations, name) {
+    if declared.has_function(name) {
         Binding::Settled
     } else {
         Binding::Changing
@@ -82,18 +60,18 @@ impl Scope<'_> {
         ensures { binding_of result ≡ wanted.bound (scope_of self.now) name.now }
     {
         match self {
-            Scope::Module(declarations, grants) => {
-                if declares(declarations, name) {
-                    own(declarations, name)
+            Scope::Module(declared, grants) => {
+                if declared.has(name) {
+                    own(declared, name)
                 } else if is_given(grants, name) {
                     Binding::Imported
                 } else {
                     Binding::Unbound
                 }
             }
-            Scope::Function(declarations, around) => {
-                if declares(declarations, name) {
-                    own(declarations, name)
+            Scope::Function(declared, around) => {
+                if declared.has(name) {
+                    own(declared, name)
                 } else {
                     around.bound(name)
                 }
@@ -138,9 +116,7 @@ impl Scope<'_> {
         ensures { result ≡ wanted.has_own (scope_of self.now) name.now }
     {
         match self {
-            Scope::Module(declarations, _) | Scope::Function(declarations, _) => {
-                declares(declarations, name)
-            }
+            Scope::Module(declared, _) | Scope::Function(declared, _) => declared.has(name),
             Scope::Catch(caught, around) => name.same(caught) || around.has_own(name),
             Scope::Named(_, around) => around.has_own(name),
         }

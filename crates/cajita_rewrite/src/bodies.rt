@@ -8,7 +8,8 @@ ghost use Rattle.cajita_tree.specs.Tree as tree;
 ghost use Rattle.cajita_tree.specs.View as source;
 ghost use Rattle.cajita_rewrite.specs.Rewrite.{joined, items_joined, name_items, others, declared, marks};
 
-use crate::declared::is_declared_in;
+use crate::declared::add_declared;
+use crate::declared_names::DeclaredNames;
 use caja_units::{Memory, Units};
 use cajita_tree::{CFunc, CStmt};
 use es3_tree::{Stmt, VarItem};
@@ -25,8 +26,13 @@ pub(crate) fn add_names(
     ensures { OnOk result (of_items items.new.items
         ≡ items_joined (of_items items.old.items) (name_items (others names.now (declared tree.stmts (source.of_stmts list.now))) target.no_items)) }
 {
+    if names.is_empty() {
+        return Ok(());
+    }
+    let mut found = DeclaredNames::new(alloc)?;
+    add_declared(&mut found, list)?;
     for name in names {
-        if !is_declared_in(list, name) {
+        if !found.has(name) {
             items.push(VarItem {
                 name: copied_name(alloc, name)?,
                 value: None,

@@ -1,102 +1,104 @@
-//! Whether statements declare a name by `var` outside the heads of `for (var x in ..)` (ES3 12.2, 12.6.3).
+//! The names that statements declare by `var` outside the heads of `for (var x in ..)` (ES3 12.2, 12.6.3).
+//! Each function fails with `Memory` where memory is wanting.
 
-ghost use Rattle.std.specs.Prelude.{◌≡◌};
-ghost use Rattle.std.specs.List.{list_any};
-ghost use Rattle.caja_units.specs.Units.{same_units};
+ghost use Rattle.std.specs.Prelude.{◌≡◌, OnOk};
 ghost use Rattle.cajita_tree.specs.Tree as tree;
 ghost use Rattle.cajita_tree.specs.View as source;
 ghost use Rattle.cajita_rewrite.specs.Rewrite.{declared};
+ghost use Rattle.cajita_rewrite.specs.Table.{with_all};
 
-use caja_units::Units;
+use crate::declared_names::DeclaredNames;
+use caja_units::Memory;
 use cajita_tree::{CCase, CFirst, CStmt, CVarItem};
 
-/// Whether one of the statements declares the name.
-#[cycle(declares)]
-pub(crate) fn is_declared_in(list: &[CStmt], name: &Units) -> bool
-    ensures { result ≡ list_any (same_units name.now) (declared tree.stmts (source.of_stmts list.now)) }
+/// Adds the names that the statements declare.
+#[cycle(declared)]
+#[tactic(auto, using(crate::proofs::Names::all_of_two))]
+pub(crate) fn add_declared(names: &mut DeclaredNames, list: &[CStmt]) -> Result<(), Memory>
+    ensures { OnOk result (names.new ≡ with_all names.old (declared tree.stmts (source.of_stmts list.now))) }
 {
     for statement in list {
-        if declares(statement, name) {
-            return true;
-        }
+        add_stmt(names, statement)?;
     }
-    false
+    Ok(())
 }
 
-#[cycle(declares)]
-#[tactic(auto, using(cajita_tree::proofs::Rows::views, crate::proofs::Names::any_of_two))]
-fn declares(statement: &CStmt, name: &Units) -> bool
-    ensures { result ≡ list_any (same_units name.now) (declared tree.stmt (source.stmt statement.now)) }
+#[cycle(declared)]
+#[tactic(auto, using(cajita_tree::proofs::Rows::views, crate::proofs::Names::all_of_two))]
+fn add_stmt(names: &mut DeclaredNames, statement: &CStmt) -> Result<(), Memory>
+    ensures { OnOk result (names.new ≡ with_all names.old (declared tree.stmt (source.stmt statement.now))) }
 {
     match statement {
-        CStmt::Block(list) => is_declared_in(list, name),
-        CStmt::Var(items) => is_among_items(items, name),
-        CStmt::If(_, then, otherwise) => { declares(then, name) || maybe_declares(otherwise, name) }
+        CStmt::Block(list) => add_declared(names, list),
+        CStmt::Var(items) => add_items(names, items),
+        CStmt::If(_, then, otherwise) => {
+            add_stmt(names, then)?;
+            add_maybe_stmt(names, otherwise)
+        }
         CStmt::While(_, body)
         | CStmt::Do(body, _)
         | CStmt::ForIn(_, _, body)
-        | CStmt::Label(_, body) => declares(body, name),
-        CStmt::For(start, _, _, body) => is_declared_first(start, name) || declares(body, name),
-        CStmt::Switch(_, cases) => is_declared_in_cases(cases, name),
+        | CStmt::Label(_, body) => add_stmt(names, body),
+        CStmt::For(start, _, _, body) => {
+            add_first(names, start)?;
+            add_stmt(names, body)
+        }
+        CStmt::Switch(_, cases) => add_cases(names, cases),
         CStmt::Try(body, handler, last) => {
-            let caught = match handler {
-                Some((_, caught)) => is_declared_in(caught, name),
-                None => false,
-            };
-            let last = match last {
-                Some(last) => is_declared_in(last, name),
-                None => false,
-            };
-            caught || last || is_declared_in(body, name)
+            add_declared(names, body)?;
+            if let Some((_, caught)) = handler {
+                add_declared(names, caught)?;
+            }
+            if let Some(last) = last {
+                add_declared(names, last)?;
+            }
+            Ok(())
         }
         CStmt::Empty
         | CStmt::Expr(_)
         | CStmt::Continue(_)
         | CStmt::Break(_)
         | CStmt::Return(_)
-        | CStmt::Throw(_) => false,
+        | CStmt::Throw(_) => Ok(()),
     }
 }
 
-#[cycle(declares)]
-fn maybe_declares(statement: &Option<Box<CStmt>>, name: &Units) -> bool
-    ensures { result ≡ list_any (same_units name.now) (declared tree.maybe_stmt (source.of_maybe_stmt statement.now)) }
+#[cycle(declared)]
+fn add_maybe_stmt(names: &mut DeclaredNames, statement: &Option<Box<CStmt>>) -> Result<(), Memory>
+    ensures { OnOk result (names.new ≡ with_all names.old (declared tree.maybe_stmt (source.of_maybe_stmt statement.now))) }
 {
     match statement {
-        Some(statement) => declares(statement, name),
-        None => false,
+        Some(statement) => add_stmt(names, statement),
+        None => Ok(()),
     }
 }
 
-#[cycle(declares)]
-fn is_declared_in_cases(cases: &[CCase], name: &Units) -> bool
-    ensures { result ≡ list_any (same_units name.now) (declared tree.cases (source.of_cases cases.now)) }
+#[cycle(declared)]
+#[tactic(auto, using(crate::proofs::Names::all_of_two))]
+fn add_cases(names: &mut DeclaredNames, cases: &[CCase]) -> Result<(), Memory>
+    ensures { OnOk result (names.new ≡ with_all names.old (declared tree.cases (source.of_cases cases.now))) }
 {
     for case in cases {
-        if is_declared_in(&case.body, name) {
-            return true;
-        }
+        add_declared(names, &case.body)?;
     }
-    false
+    Ok(())
 }
 
-fn is_among_items(items: &[CVarItem], name: &Units) -> bool
-    ensures { result ≡ list_any (same_units name.now) (declared tree.items (source.of_items items.now)) }
+fn add_items(names: &mut DeclaredNames, items: &[CVarItem]) -> Result<(), Memory>
+    ensures { OnOk result (names.new ≡ with_all names.old (declared tree.items (source.of_items items.now))) }
 {
     for item in items {
-        if name.same(&item.name) {
-            return true;
-        }
+        names.add(&item.name)?;
     }
-    false
+    Ok(())
 }
 
 #[tactic(auto, using(cajita_tree::proofs::Rows::views))]
-fn is_declared_first(start: &CFirst, name: &Units) -> bool
-    ensures { result ≡ list_any (same_units name.now) (declared tree.first (source.first start.now)) }
+fn add_first(names: &mut DeclaredNames, start: &CFirst) -> Result<(), Memory>
+    ensures { OnOk result (names.new ≡ with_all names.old (declared tree.first (source.first start.now))) }
 {
     match start {
-        CFirst::Var(items) => is_among_items(items, name),
-        CFirst::None | CFirst::Expr(_) => false,
+        CFirst::Var(items) => add_items(names, items),
+        CFirst::None | CFirst::Expr(_) => Ok(()),
     }
 }

@@ -9,6 +9,7 @@ ghost use Rattle.cajita_rewrite.specs.Rewrite.{program_of};
 
 mod bodies;
 mod declared;
+mod declared_names;
 mod expressions;
 mod functions;
 mod load;

@@ -1,20 +1,19 @@
 //! The first of the faults of a module.
 
-ghost use Rattle.std.specs.Prelude.{◌++◌, [], map};
+ghost use Rattle.std.specs.Prelude.{◌++◌, []};
 ghost use Rattle.es3_tree.specs.Tree as tree;
 ghost use Rattle.es3_tree.specs.PlacedView.{of_stmts};
 ghost use Rattle.cajita_names.specs.Rules.{fixed_names};
 ghost use Rattle.cajita_names.specs.Scope.{in_module};
 ghost use Rattle.cajita_rules.specs.Faults.{faults_in, redeclared as redeclared_words};
 ghost use Rattle.cajita_rules.specs.Found.{IsFirst};
-ghost use Rattle.cajita_names.specs.Views.{declaration_of};
 
 use crate::faults_of_declarations::redeclared;
 use crate::faults_of_statements::in_stmts;
 use crate::found::{Found, earlier};
 use caja_units::{Memory, Units};
-use cajita_names::declarations::Declaration;
 use cajita_names::scope::Scope;
+use cajita_names::tabled::Declared;
 use es3_tree::Stmt;
 use std::alloc::Global;
 
@@ -27,11 +26,11 @@ use std::alloc::Global;
 pub fn first_fault(
     alloc: Global,
     grants: &[Units],
-    declarations: &[Declaration<'_>],
+    declarations: &Declared,
     body: &[Stmt],
 ) -> Result<Option<Found>, Memory>
-    ensures { IsFirst result (redeclared_words [] (map declaration_of declarations.now)
-        ++ faults_in (in_module (map declaration_of declarations.now) (grants.now ++ fixed_names)) tree.stmts (of_stmts body.now)) }
+    ensures { IsFirst result (redeclared_words [] declarations.now
+        ++ faults_in (in_module declarations.now (grants.now ++ fixed_names)) tree.stmts (of_stmts body.now)) }
 {
     let scope = Scope::Module(declarations, grants);
     earlier(

@@ -226,7 +226,8 @@ fn bytes_that_are_no_manifest_are_refused(rt: HostRuntime) -> Result<(), Fail> {
 /// Words, an input, and the one line that is written.
 static USAGE: &str = "
 walk ⇒ 1; ⇒ usage
-gen 5 ⇒ 1; ⇒ usage
+gen ⇒ 1; ⇒ usage
+gen 0 ⇒ 1; ⇒ usage
 check ⇒ 1; ⇒ usage
 gadget ⇒ 1; ⇒ usage
 --touch page ⇒ {} ⇒ usage

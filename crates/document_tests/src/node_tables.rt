@@ -389,10 +389,21 @@ load m throw error m#1 TypeError "not allowed"
 html 132
 <div id="r" title="t"><p id="p" class="c">one<b>two</b></p><input id="i" value="v"><br></div><div id="s"><span id="q">q</span></div>
 end done
-# an address isn't set
+# an address by https is set
 page
 {"version":1,"html":"<div id=\"r\" title=\"t\"><p id=\"p\" class=\"c\">one<b>two</b></p><input id=\"i\" value=\"v\"><br></div><div id=\"s\"><span id=\"q\">q</span></div>","modules":[
-{"name":"m","language":"cajita","source":"var a = doc.createElement('a'); a.setAttribute('href', 'https://e.example/');","grants":[{"name":"doc","root":"r"}]}]}
+{"name":"m","language":"cajita","source":"var a = doc.createElement('a'); a.setAttribute('href', 'https://e.example/'); a.getAttribute('href');","grants":[{"name":"doc","root":"r"}]}]}
+⇒
+group m
+dom r set 7 "href" "https://e.example/"
+load m return "https://e.example/"
+html 132
+<div id="r" title="t"><p id="p" class="c">one<b>two</b></p><input id="i" value="v"><br></div><div id="s"><span id="q">q</span></div>
+end done
+# an address by http isn't set
+page
+{"version":1,"html":"<div id=\"r\" title=\"t\"><p id=\"p\" class=\"c\">one<b>two</b></p><input id=\"i\" value=\"v\"><br></div><div id=\"s\"><span id=\"q\">q</span></div>","modules":[
+{"name":"m","language":"cajita","source":"var a = doc.createElement('a'); a.setAttribute('href', 'http://e.example/');","grants":[{"name":"doc","root":"r"}]}]}
 ⇒
 group m
 load m throw error m#0 TypeError "not allowed"

@@ -1,6 +1,6 @@
 //! The names that a module imports, each once, in order of first use: `from_..` puts those of a part behind the names so far.
 
-ghost use Rattle.std.specs.Prelude.{◌≡◌, ◌++◌, [], map, IfOk};
+ghost use Rattle.std.specs.Prelude.{◌≡◌, ◌++◌, [], IfOk};
 ghost use Rattle.es3_tree.specs.Tree as tree;
 ghost use Rattle.es3_tree.specs.PlacedView as source;
 ghost use Rattle.cajita_names.specs.Rules.{fixed_names};
@@ -8,12 +8,13 @@ ghost use Rattle.cajita_names.specs.Scope.{in_module};
 ghost use Rattle.cajita_rules.specs.Faults.{within_its_name};
 ghost use Rattle.scope_rules.specs.Free.{free, import_at};
 ghost use Rattle.cajita_names.specs.Once.{once_after};
-ghost use Rattle.cajita_names.specs.Views.{declaration_of, scope_of};
+ghost use Rattle.cajita_names.specs.Views.{scope_of};
 
 use caja_units::{Memory, Units};
-use cajita_names::declarations::{Declaration, function_declarations};
+use cajita_names::declarations::function_declarations;
 use cajita_names::once::add_name;
 use cajita_names::scope::Scope;
+use cajita_names::tabled::Declared;
 use es3_tree::{Case, Expr, First, Func, Loop, Name, Stmt, VarItem};
 use std::alloc::Global;
 
@@ -344,11 +345,11 @@ fn from_loop_target(
 pub(crate) fn imports(
     alloc: Global,
     grants: &[Units],
-    declarations: &[Declaration<'_>],
+    declarations: &Declared,
     body: &[Stmt],
 ) -> Result<Vec<Units>, Memory>
     ensures { IfOk result (λ names. names.items ≡ once_after []
-        (free (in_module (map declaration_of declarations.now) (grants.now ++ fixed_names)) tree.stmts (source.of_stmts body.now))) }
+        (free (in_module declarations.now (grants.now ++ fixed_names)) tree.stmts (source.of_stmts body.now))) }
 {
     let scope = Scope::Module(declarations, grants);
     from_stmts(alloc, &scope, Vec::new(alloc), body)

@@ -2,10 +2,9 @@
 use Rattle.std.proofs.Common.{◌≡◌, ◌++◌, map, drop}
 use Rattle.es3_tree.specs.PlacedView as source
 use Rattle.cajita_names.specs.Declarations.{declared_as, parameter}
-use Rattle.cajita_names.specs.Views.{declaration_of}
 use Rattle.cajita_names.proofs.declarations.add_parameters.Given as goal
 
 abbrev pub invariant-loop-name : goal.invariant-loop-name
 invariant-loop-name l =
-    map declaration_of l.out.items ++ map (declared_as parameter) (source.words (drop l.name-index l.names))
-    ≡ map declaration_of l.initial.out.items ++ map (declared_as parameter) (source.words l.names)
+    l.out ++ map (declared_as parameter) (source.words (drop l.name-index l.names))
+    ≡ l.initial.out ++ map (declared_as parameter) (source.words l.names)

@@ -1,6 +1,5 @@
-use Rattle.std.proofs.Common.{◌≡◌, ◌++◌, [], map, ap, ◌∙◌}
+use Rattle.std.proofs.Common.{◌≡◌, ◌++◌, [], ap, ◌∙◌}
 use Rattle.es3_tree.specs.PlacedView as source
-use Rattle.cajita_names.specs.Views.{declaration_of}
 use Rattle.cajita_names.specs.Once.{once_after, names_of, is_loop_variable}
 use Rattle.valija_forms.specs.Forms.{declaring, temporaries_from, joined}
 use Rattle.valija_parts.specs.Lower.{loop_names}
@@ -16,9 +15,8 @@ returns c f x before after =
     let rest = told_at c.args.statements (λ v. (source.of_stmts v.items, c.args.taken) ≡ x) statements after.told there.1 in
     c.in_ok-body_from.ensures
     ∙ ap (λ l. declaring (temporaries_from 0 c.args.taken ++ l) (joined (source.of_stmts functions.items) (source.of_stmts statements.items)))
-    (c.deref-2.ensures.value
+    (c.deref.ensures.value
     ∙ c.in_ok-names.ensures
-    ∙ ap (λ l. once_after [] (names_of is_loop_variable (map declaration_of l))) c.deref.ensures.value
     ∙ ap (λ d. once_after [] (names_of is_loop_variable d)) c.in_ok-module_declarations.ensures)
     ∙ ap (λ z. declaring (temporaries_from 0 c.args.taken ++ loop_names (source.of_stmts c.args.body.now)) (joined z (source.of_stmts statements.items))) front
     ∙ ap (λ z. declaring (temporaries_from 0 z.1 ++ loop_names (source.of_stmts c.args.body.now)) (joined f z.0)) rest
