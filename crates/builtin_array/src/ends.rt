@@ -92,6 +92,10 @@ fn reverse_in(alloc: Global, h: &mut Heap, o: ObjId) -> Result<Outcome, Stop>
 /// `push(..)` (ES3 15.4.4.7): the arguments go behind the items of an array, whose new length is the answer. It throws a
 /// TypeError `bad receiver` where the receiver is no array, or `not writable` where it is frozen, and the run stops where the
 /// items are 2^32 or more.
+///
+/// # Errors
+///
+/// `Stop::Number` where the items would be 2^32 or more, and `Stop::Memory` where memory is wanting.
 pub fn push(
     alloc: Global,
     h: &mut Heap,
@@ -112,6 +116,10 @@ pub fn push(
 /// `unshift(..)` (ES3 15.4.4.13): the arguments go before the items of an array, whose new length is the answer. It throws a
 /// TypeError `bad receiver` where the receiver is no array, or `not writable` where it is frozen, and the run stops where the
 /// items are 2^32 or more.
+///
+/// # Errors
+///
+/// `Stop::Number` where the items would be 2^32 or more, and `Stop::Memory` where memory is wanting.
 pub fn unshift(
     alloc: Global,
     h: &mut Heap,
@@ -131,6 +139,10 @@ pub fn unshift(
 
 /// `pop()` (ES3 15.4.4.6): an array loses its last item, which is the answer, or undefined where it has none. It throws a
 /// TypeError `bad receiver` where the receiver is no array, or `not writable` where it is frozen.
+///
+/// # Errors
+///
+/// `Stop::Number` where the items are more than 2^32, and `Stop::Memory` where memory is wanting.
 pub fn pop(
     alloc: Global,
     h: &mut Heap,
@@ -150,6 +162,10 @@ pub fn pop(
 
 /// `shift()` (ES3 15.4.4.9): an array loses its first item, which is the answer, or undefined where it has none. It throws a
 /// TypeError `bad receiver` where the receiver is no array, or `not writable` where it is frozen.
+///
+/// # Errors
+///
+/// `Stop::Memory` where memory is wanting.
 pub fn shift(
     alloc: Global,
     h: &mut Heap,
@@ -169,6 +185,10 @@ pub fn shift(
 
 /// `reverse()` (ES3 15.4.4.8): the items of an array stand the other way round, and the array is the answer. It throws a
 /// TypeError `bad receiver` where the receiver is no array, or `not writable` where it is frozen.
+///
+/// # Errors
+///
+/// `Stop::Memory` where memory is wanting.
 pub fn reverse(
     alloc: Global,
     h: &mut Heap,

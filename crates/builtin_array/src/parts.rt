@@ -53,6 +53,10 @@ fn slice_of(alloc: Global, h: &mut Heap, by: u32, o: ObjId, args: &[Value]) -> R
 /// `slice(a = 0, b = length)` (ES3 15.4.4.10): a new array of the items from a place up to another, each counted from the end
 /// where it is negative. It throws a TypeError `bad receiver` where the receiver is no array, and the run stops where an
 /// argument has no number.
+///
+/// # Errors
+///
+/// `Stop::Number`, `Stop::Depth` or `Stop::Convert` where an argument has no number, and `Stop::Memory` where memory is wanting.
 pub fn slice(
     alloc: Global,
     h: &mut Heap,

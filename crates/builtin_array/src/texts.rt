@@ -23,6 +23,10 @@ fn text_of(alloc: Global, h: &Heap, o: ObjId, args: &[Value]) -> Result<Value, S
 /// `join(s = ",")` (ES3 15.4.4.5): the texts of the items with a text between each two; an undefined item and `null` give
 /// nothing. It throws a TypeError `bad receiver` where the receiver is no array, and the run stops where the argument or an
 /// item has no text.
+///
+/// # Errors
+///
+/// `Stop::Depth` or `Stop::Convert` where the argument or an item has no text, and `Stop::Memory` where memory is wanting.
 pub fn join(
     alloc: Global,
     h: &mut Heap,

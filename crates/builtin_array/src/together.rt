@@ -53,6 +53,10 @@ fn concat_to(
 /// `concat(..)` (ES3 15.4.4.4): a new array of the receiver's items and then, for each argument, its items where it is an
 /// array, and else itself. It throws a TypeError `bad receiver` where the receiver is no array, and the run stops where the
 /// items are 2^32 or more.
+///
+/// # Errors
+///
+/// `Stop::Number` where the items would be 2^32 or more, and `Stop::Memory` where memory is wanting.
 pub fn concat(
     alloc: Global,
     h: &mut Heap,

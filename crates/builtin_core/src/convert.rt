@@ -36,6 +36,10 @@ fn first_text(alloc: Global, h: &Heap, args: &[Value]) -> Result<Value, Stop>
 }
 
 /// `Number(v)` (ES3 15.7.1.1), 0 without an argument. The run stops where the argument has no number.
+///
+/// # Errors
+///
+/// `Stop::Number`, `Stop::Depth` or `Stop::Convert` where the argument has no number, and `Stop::Memory` where memory is wanting.
 pub fn number_from(
     alloc: Global,
     h: &Heap,
@@ -49,6 +53,10 @@ pub fn number_from(
 }
 
 /// `String(v)` (ES3 15.5.1.1), empty without an argument. The run stops where the argument has no text.
+///
+/// # Errors
+///
+/// `Stop::Depth` or `Stop::Convert` where the argument has no text, and `Stop::Memory` where memory is wanting.
 pub fn text_from(
     alloc: Global,
     h: &Heap,

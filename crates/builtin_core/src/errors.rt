@@ -29,6 +29,10 @@ fn make(
 }
 
 /// `Error(m)` (ES3 15.11.1.1). The run stops where the message has no text.
+///
+/// # Errors
+///
+/// `Stop::Depth` or `Stop::Convert` where the message has no text, and `Stop::Memory` where memory is wanting.
 pub fn new_error(
     alloc: Global,
     h: &mut Heap,
@@ -43,6 +47,10 @@ pub fn new_error(
 }
 
 /// `TypeError(m)` (ES3 15.11.7.1). The run stops where the message has no text.
+///
+/// # Errors
+///
+/// `Stop::Depth` or `Stop::Convert` where the message has no text, and `Stop::Memory` where memory is wanting.
 pub fn new_type_error(
     alloc: Global,
     h: &mut Heap,
@@ -57,6 +65,10 @@ pub fn new_type_error(
 }
 
 /// `RangeError(m)` (ES3 15.11.7.1). The run stops where the message has no text.
+///
+/// # Errors
+///
+/// `Stop::Depth` or `Stop::Convert` where the message has no text, and `Stop::Memory` where memory is wanting.
 pub fn new_range_error(
     alloc: Global,
     h: &mut Heap,

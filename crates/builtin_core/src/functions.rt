@@ -53,6 +53,10 @@ fn arguments_in(alloc: Global, h: &Heap, list: &Value) -> Result<Option<Vec<Valu
 
 /// `call(r, ..)` (ES3 15.3.4.4): a call with the first argument as its receiver, and the others as its arguments. It throws a
 /// TypeError `bad receiver` where its own receiver is no function.
+///
+/// # Errors
+///
+/// `Stop::Memory` where memory is wanting.
 pub fn call_function(
     alloc: Global,
     h: &mut Heap,
@@ -78,6 +82,10 @@ pub fn call_function(
 /// `apply(r, l)` (ES3 15.3.4.3): a call with a receiver, and the items of an array as its arguments, none where it is
 /// undefined or null. It throws a TypeError, `bad receiver` where its own receiver is no function, and `bad argument` where
 /// the second argument is anything else.
+///
+/// # Errors
+///
+/// `Stop::Memory` where memory is wanting.
 pub fn apply_function(
     alloc: Global,
     h: &mut Heap,

@@ -30,6 +30,10 @@ fn has_class_object(h: &Heap, value: &Value) -> bool
 }
 
 /// `cajita.isArray(v)`.
+///
+/// # Errors
+///
+/// None: it takes no memory.
 pub fn is_array(h: &Heap, by: u32, this: &Value, args: &[Value]) -> Result<Outcome, Stop>
     ensures { Comes (row_done r.is_array by this.now args.now h.now) result h.now }
 {
@@ -39,6 +43,10 @@ pub fn is_array(h: &Heap, by: u32, this: &Value, args: &[Value]) -> Result<Outco
 }
 
 /// `cajita.isRecord(v)`.
+///
+/// # Errors
+///
+/// None: it takes no memory.
 pub fn is_record(h: &Heap, by: u32, this: &Value, args: &[Value]) -> Result<Outcome, Stop>
     ensures { Comes (row_done r.is_record by this.now args.now h.now) result h.now }
 {
@@ -48,6 +56,10 @@ pub fn is_record(h: &Heap, by: u32, this: &Value, args: &[Value]) -> Result<Outc
 }
 
 /// `Boolean(v)` (ES3 15.6.1.1).
+///
+/// # Errors
+///
+/// None: it takes no memory.
 pub fn truth_from(h: &Heap, by: u32, this: &Value, args: &[Value]) -> Result<Outcome, Stop>
     ensures { Comes (row_done r.truth_from by this.now args.now h.now) result h.now }
 {

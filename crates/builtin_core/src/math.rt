@@ -79,6 +79,10 @@ fn best_of(alloc: Global, h: &Heap, wanted: Best, values: &[Value]) -> Result<Va
 }
 
 /// `Math.abs(x)` (ES3 15.8.2.1). The run stops where the argument has no number.
+///
+/// # Errors
+///
+/// `Stop::Number`, `Stop::Depth` or `Stop::Convert` where the argument has no number, and `Stop::Memory` where memory is wanting.
 pub fn abs(alloc: Global, h: &Heap, by: u32, this: &Value, args: &[Value]) -> Result<Outcome, Stop>
     ensures { Comes (row_done r.abs by this.now args.now h.now) result h.now }
 {
@@ -87,6 +91,10 @@ pub fn abs(alloc: Global, h: &Heap, by: u32, this: &Value, args: &[Value]) -> Re
 
 /// `Math.floor(x)` (ES3 15.8.2.9), which is the number itself: every number is whole. The run stops where the argument has
 /// no number.
+///
+/// # Errors
+///
+/// `Stop::Number`, `Stop::Depth` or `Stop::Convert` where the argument has no number, and `Stop::Memory` where memory is wanting.
 pub fn floor(
     alloc: Global,
     h: &Heap,
@@ -100,6 +108,10 @@ pub fn floor(
 }
 
 /// `Math.ceil(x)` (ES3 15.8.2.6), which is the number itself. The run stops where the argument has no number.
+///
+/// # Errors
+///
+/// `Stop::Number`, `Stop::Depth` or `Stop::Convert` where the argument has no number, and `Stop::Memory` where memory is wanting.
 pub fn ceil(alloc: Global, h: &Heap, by: u32, this: &Value, args: &[Value]) -> Result<Outcome, Stop>
     ensures { Comes (row_done r.ceil by this.now args.now h.now) result h.now }
 {
@@ -107,6 +119,10 @@ pub fn ceil(alloc: Global, h: &Heap, by: u32, this: &Value, args: &[Value]) -> R
 }
 
 /// `Math.round(x)` (ES3 15.8.2.15), which is the number itself. The run stops where the argument has no number.
+///
+/// # Errors
+///
+/// `Stop::Number`, `Stop::Depth` or `Stop::Convert` where the argument has no number, and `Stop::Memory` where memory is wanting.
 pub fn round(
     alloc: Global,
     h: &Heap,
@@ -121,6 +137,10 @@ pub fn round(
 
 /// `Math.max(..)` (ES3 15.8.2.11): the greatest of the arguments' numbers. The run stops where one has no number, and where
 /// there is none at all.
+///
+/// # Errors
+///
+/// `Stop::Number` where there is no argument, `Stop::Number`, `Stop::Depth` or `Stop::Convert` where one has no number, and `Stop::Memory` where memory is wanting.
 pub fn max(alloc: Global, h: &Heap, by: u32, this: &Value, args: &[Value]) -> Result<Outcome, Stop>
     ensures { Comes (row_done r.max by this.now args.now h.now) result h.now }
 {
@@ -129,6 +149,10 @@ pub fn max(alloc: Global, h: &Heap, by: u32, this: &Value, args: &[Value]) -> Re
 
 /// `Math.min(..)` (ES3 15.8.2.12): the least of the arguments' numbers. The run stops where one has no number, and where
 /// there is none at all.
+///
+/// # Errors
+///
+/// `Stop::Number` where there is no argument, `Stop::Number`, `Stop::Depth` or `Stop::Convert` where one has no number, and `Stop::Memory` where memory is wanting.
 pub fn min(alloc: Global, h: &Heap, by: u32, this: &Value, args: &[Value]) -> Result<Outcome, Stop>
     ensures { Comes (row_done r.min by this.now args.now h.now) result h.now }
 {

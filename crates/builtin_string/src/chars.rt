@@ -72,6 +72,10 @@ fn number_at(alloc: Global, h: &Heap, text: &Units, args: &[Value]) -> Result<Va
 
 /// `charAt(i = 0)` (ES3 15.5.4.4): the unit at a place as a text, empty where there is none. It throws a TypeError
 /// `bad receiver` where the receiver is no text, and the run stops where the argument has no number.
+///
+/// # Errors
+///
+/// `Stop::Number`, `Stop::Depth` or `Stop::Convert` where the argument has no number, and `Stop::Memory` where memory is wanting.
 pub fn char_at(
     alloc: Global,
     h: &mut Heap,
@@ -90,6 +94,10 @@ pub fn char_at(
 
 /// `charCodeAt(i = 0)` (ES3 15.5.4.5): the unit at a place as a number; the run stops where there is none. It throws a
 /// TypeError `bad receiver` where the receiver is no text, and the run stops where the argument has no number.
+///
+/// # Errors
+///
+/// `Stop::Number` where there is no unit, `Stop::Number`, `Stop::Depth` or `Stop::Convert` where the argument has no number, and `Stop::Memory` where memory is wanting.
 pub fn char_code_at(
     alloc: Global,
     h: &mut Heap,

@@ -67,6 +67,10 @@ fn substring_of(alloc: Global, h: &Heap, text: &Units, args: &[Value]) -> Result
 /// `slice(a = 0, b = length)` (ES3 15.5.4.13): the units from a place up to another, each counted from the end where it is
 /// negative. It throws a TypeError `bad receiver` where the receiver is no text, and the run stops where an argument has no
 /// number.
+///
+/// # Errors
+///
+/// `Stop::Number`, `Stop::Depth` or `Stop::Convert` where an argument has no number, and `Stop::Memory` where memory is wanting.
 pub fn slice_text(
     alloc: Global,
     h: &mut Heap,
@@ -85,6 +89,10 @@ pub fn slice_text(
 
 /// `substring(a = 0, b = length)` (ES3 15.5.4.15): the units between two places, of which the lesser comes first. It throws a
 /// TypeError `bad receiver` where the receiver is no text, and the run stops where an argument has no number.
+///
+/// # Errors
+///
+/// `Stop::Number`, `Stop::Depth` or `Stop::Convert` where an argument has no number, and `Stop::Memory` where memory is wanting.
 pub fn substring(
     alloc: Global,
     h: &mut Heap,

@@ -94,6 +94,10 @@ fn split_text(
 /// `split(s)` (ES3 15.5.4.14): a new array of the pieces of a text between the occurrences of another one, from the left: its
 /// units where that is empty, and the text alone where it is undefined. It throws a TypeError `bad receiver` where the receiver
 /// is no text, and the run stops where the argument has no text.
+///
+/// # Errors
+///
+/// `Stop::Depth` or `Stop::Convert` where the argument has no text, and `Stop::Memory` where memory is wanting.
 pub fn split(
     alloc: Global,
     h: &mut Heap,

@@ -84,6 +84,10 @@ fn last_index(alloc: Global, h: &Heap, text: &Units, args: &[Value]) -> Result<V
 /// `indexOf(t, i = 0)` (ES3 15.5.4.7): the first place, not before another one, at which a text stands, and -1 where there is
 /// none. It throws a TypeError `bad receiver` where the receiver is no text, and the run stops where the first argument has no
 /// text or the second no number.
+///
+/// # Errors
+///
+/// `Stop::Depth` or `Stop::Convert` where the first argument has no text, these or `Stop::Number` where the second has no number, and `Stop::Memory` where memory is wanting.
 pub fn index_of(
     alloc: Global,
     h: &mut Heap,
@@ -102,6 +106,10 @@ pub fn index_of(
 
 /// `lastIndexOf(t)` (ES3 15.5.4.8): the last place at which a text stands, and -1 where there is none. It throws a TypeError
 /// `bad receiver` where the receiver is no text, and the run stops where the argument has no text.
+///
+/// # Errors
+///
+/// `Stop::Depth` or `Stop::Convert` where the argument has no text, and `Stop::Memory` where memory is wanting.
 pub fn last_index_of(
     alloc: Global,
     h: &mut Heap,

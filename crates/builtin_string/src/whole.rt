@@ -27,6 +27,10 @@ fn joined(alloc: Global, h: &Heap, text: &Units, args: &[Value]) -> Result<Value
 
 /// `concat(..)` (ES3 15.5.4.6): the text with those of the arguments behind it. It throws a TypeError `bad receiver` where the
 /// receiver is no text, and the run stops where an argument has no text.
+///
+/// # Errors
+///
+/// `Stop::Depth` or `Stop::Convert` where an argument has no text, and `Stop::Memory` where memory is wanting.
 pub fn concat_text(
     alloc: Global,
     h: &mut Heap,

@@ -58,6 +58,10 @@ impl Whole {
     }
 
     /// `self + o` (ES3 11.6.1). A fault where that is out of range.
+    ///
+    /// # Errors
+    ///
+    /// `NumberFault` where the sum is out of range.
     pub fn add(self, o: Whole) -> Result<Whole, NumberFault>
         ensures { result ≡ or_fault (sum self o) }
     {
@@ -65,6 +69,10 @@ impl Whole {
     }
 
     /// `self - o` (ES3 11.6.2). A fault where that is out of range.
+    ///
+    /// # Errors
+    ///
+    /// `NumberFault` where the difference is out of range.
     pub fn sub(self, o: Whole) -> Result<Whole, NumberFault>
         ensures { result ≡ or_fault (difference self o) }
     {
@@ -72,6 +80,10 @@ impl Whole {
     }
 
     /// `self * o` (ES3 11.5.1). A fault where that is out of range.
+    ///
+    /// # Errors
+    ///
+    /// `NumberFault` where the product is out of range.
     pub fn mul(self, o: Whole) -> Result<Whole, NumberFault>
         ensures { result ≡ or_fault (product self o) }
     {
@@ -82,6 +94,10 @@ impl Whole {
     }
 
     /// `self / o` (ES3 11.5.2). A fault where `o` is 0 or leaves a fraction.
+    ///
+    /// # Errors
+    ///
+    /// `NumberFault` where `o` is 0 or leaves a fraction.
     #[tactic(auto, using(crate::proofs::Quotients::quotient_exact))]
     pub fn div(self, o: Whole) -> Result<Whole, NumberFault>
         ensures { result ≡ or_fault (quotient self o) }
@@ -93,6 +109,10 @@ impl Whole {
     }
 
     /// `self % o`, with the sign of `self` (ES3 11.5.3). A fault where `o` is 0, and there alone.
+    ///
+    /// # Errors
+    ///
+    /// `NumberFault` where `o` is 0, and there alone.
     #[tactic(auto, using(crate::proofs::Quotients::remainder_exact))]
     pub fn rem(self, o: Whole) -> Result<Whole, NumberFault>
         ensures value { result ≡ or_fault (remainder self o) }

@@ -93,6 +93,10 @@ impl Model for Units {
 impl Units {
     /// The text that bytes of UTF-8 spell, or the place of the first byte of the first sequence that is ill-formed or
     /// cut off. The bytes are to be fewer than 2^32.
+    ///
+    /// # Errors
+    ///
+    /// `Utf8Fault::NotUtf8` where the bytes are not UTF-8, and `Utf8Fault::Memory` where memory is wanting.
     pub fn from_utf8(alloc: Global, bytes: &[u8]) -> Result<Units, Utf8Fault>
         requires { length bytes.now < 2 ^ 32 }
         ensures { Decodes result (decoded bytes.now) }
@@ -110,6 +114,10 @@ impl Units {
     }
 
     /// The text whose units are the numbers of the bytes.
+    ///
+    /// # Errors
+    ///
+    /// `Memory` where memory is wanting, or the text would have more than 2^32 - 2 units.
     pub fn from_ascii(alloc: Global, bytes: &[u8]) -> Result<Units, Memory>
         ensures { IfOk result (λ text. text ≡ bytes.now) }
     {
@@ -120,6 +128,10 @@ impl Units {
     }
 
     /// The text of a list of units.
+    ///
+    /// # Errors
+    ///
+    /// `Memory` where memory is wanting, or the text would have more than 2^32 - 2 units.
     pub fn from_units(alloc: Global, units: &[u16]) -> Result<Units, Memory>
         ensures { IfOk result (λ text. text ≡ units.now) }
     {
@@ -130,6 +142,10 @@ impl Units {
     }
 
     /// The text of a number (ES3 9.8.1), which is kept with it.
+    ///
+    /// # Errors
+    ///
+    /// `Memory` where memory is wanting.
     pub fn of_index(alloc: Global, n: u32) -> Result<Units, Memory>
         ensures { IfOk result (λ text. text ≡ number_units n) }
     {
@@ -138,6 +154,10 @@ impl Units {
 
     /// The same text, and where it is short, its number is kept from now on, in this one and all that share it: a table finds
     /// it then without a look at its units, and two such texts of different numbers are told apart by these.
+    ///
+    /// # Errors
+    ///
+    /// `Memory` where memory is wanting.
     pub fn keyed(&self, alloc: Global) -> Result<Units, Memory>
         ensures { IfOk result (λ text. text ≡ self.now) }
     {
@@ -156,6 +176,10 @@ impl Units {
 
     /// Appends the text in UTF-8: a high surrogate and the low one behind it are one character, and any other
     /// surrogate is written as U+FFFD. Where memory is wanting, nothing is appended.
+    ///
+    /// # Errors
+    ///
+    /// `Memory` where memory is wanting.
     pub fn push_utf8(&self, out: &mut Vec<u8>) -> Result<(), Memory>
         ensures ok { OnOk result (out.new.items ≡ out.old.items ++ utf8_of self.now) }
         ensures err { OnErr result (out.new.items ≡ out.old.items) }
@@ -168,6 +192,10 @@ impl Units {
     }
 
     /// The text as a string literal of printable ASCII without `<` and `>` (ES3 7.8.4), in double quotes.
+    ///
+    /// # Errors
+    ///
+    /// `Memory` where memory is wanting.
     pub fn to_ascii_literal(&self, alloc: Global) -> Result<Vec<u8>, Memory>
         ensures { IfOk result (λ bytes. bytes.items ≡ literal self.now) }
     {
@@ -237,6 +265,10 @@ impl Units {
     }
 
     /// The units from the place `from` up to the place `to`, without the latter.
+    ///
+    /// # Errors
+    ///
+    /// `Memory` where memory is wanting.
     pub fn slice(&self, alloc: Global, from: usize, to: usize) -> Result<Units, Memory>
         requires order { from ≤ to }
         requires within { to ≤ length self.now }
@@ -246,6 +278,10 @@ impl Units {
     }
 
     /// This text with the other behind it.
+    ///
+    /// # Errors
+    ///
+    /// `Memory` where memory is wanting, or the text would have more than 2^32 - 2 units.
     pub fn join(&self, alloc: Global, o: &Units) -> Result<Units, Memory>
         ensures { IfOk result (λ text. text ≡ self.now ++ o.now) }
     {
@@ -262,6 +298,10 @@ impl Units {
     }
 
     /// A copy.
+    ///
+    /// # Errors
+    ///
+    /// `Memory` where memory is wanting.
     pub fn copy(&self, _alloc: Global) -> Result<Units, Memory>
         ensures { IfOk result (λ text. text ≡ self.now) }
     {

@@ -19,6 +19,10 @@ use es3_tree::{BinOp, Name, UnOp, boxed};
 use std::alloc::Global;
 
 /// An expression that has no parts.
+///
+/// # Errors
+///
+/// `Memory` where memory is wanting.
 pub fn leaf(alloc: Global, tree: CExpr) -> Result<Option<Box<CExpr>>, Memory>
     ensures { Gives result held.expr (Some (view.expr tree)) }
 {
@@ -26,6 +30,10 @@ pub fn leaf(alloc: Global, tree: CExpr) -> Result<Option<Box<CExpr>>, Memory>
 }
 
 /// The text as an expression.
+///
+/// # Errors
+///
+/// `Memory` where memory is wanting.
 pub fn text_literal(alloc: Global, text: &Units) -> Result<Option<Box<CExpr>>, Memory>
     ensures { Gives result held.expr (Some (tree.text text.now)) }
 {
@@ -33,6 +41,10 @@ pub fn text_literal(alloc: Global, text: &Units) -> Result<Option<Box<CExpr>>, M
 }
 
 /// The name as an expression: `arguments` is no name like others.
+///
+/// # Errors
+///
+/// `Memory` where memory is wanting.
 pub fn name(alloc: Global, name: &Name) -> Result<Option<Box<CExpr>>, Memory>
     ensures { Gives result held.expr (Some (name_or_arguments name.now.text)) }
 {
@@ -43,6 +55,10 @@ pub fn name(alloc: Global, name: &Name) -> Result<Option<Box<CExpr>>, Memory>
 }
 
 /// The text of the name or the label, if there is one.
+///
+/// # Errors
+///
+/// `Memory` where memory is wanting.
 pub fn text(alloc: Global, name: &Option<Name>) -> Result<Option<Units>, Memory>
     ensures { IfOk result (λ u. u ≡ text_of (source.word_of name.now)) }
 {
@@ -53,6 +69,10 @@ pub fn text(alloc: Global, name: &Option<Name>) -> Result<Option<Units>, Memory>
 }
 
 /// The texts of the names.
+///
+/// # Errors
+///
+/// `Memory` where memory is wanting.
 pub fn texts(alloc: Global, names: &[Name]) -> Result<Vec<Units>, Memory>
     ensures { IfOk result (λ v. v.items ≡ texts_of (source.words names.now)) }
 {
@@ -64,6 +84,10 @@ pub fn texts(alloc: Global, names: &[Name]) -> Result<Vec<Units>, Memory>
 }
 
 /// An array literal of these elements (ES3 11.1.4).
+///
+/// # Errors
+///
+/// `Memory` where memory is wanting, or was for one of its parts.
 #[tactic(auto, using(crate::proofs::Formed::formed_one))]
 pub fn array(
     alloc: Global,
@@ -80,6 +104,10 @@ pub fn array(
 }
 
 /// An object literal of these properties (ES3 11.1.5).
+///
+/// # Errors
+///
+/// `Memory` where memory is wanting, or was for one of its parts.
 #[tactic(auto, using(crate::proofs::Formed::formed_one))]
 pub fn record_literal(
     alloc: Global,
@@ -96,6 +124,10 @@ pub fn record_literal(
 }
 
 /// A function as an expression (ES3 13).
+///
+/// # Errors
+///
+/// `Memory` where memory is wanting, or was for one of its parts.
 #[tactic(auto, using(crate::proofs::Formed::formed_one))]
 pub fn function(
     alloc: Global,
@@ -113,6 +145,10 @@ pub fn function(
 }
 
 /// The member behind a point (ES3 11.2.1).
+///
+/// # Errors
+///
+/// `Memory` where memory is wanting, or was for one of its parts.
 #[tactic(auto, using(crate::proofs::Formed::formed_one))]
 pub fn dot(
     alloc: Global,
@@ -131,6 +167,10 @@ pub fn dot(
 }
 
 /// The member in brackets (ES3 11.2.1).
+///
+/// # Errors
+///
+/// `Memory` where memory is wanting, or was for one of its parts.
 #[tactic(auto, using(crate::proofs::Formed::formed_both))]
 pub fn index(
     alloc: Global,
@@ -149,6 +189,10 @@ pub fn index(
 }
 
 /// A call with these arguments (ES3 11.2.3).
+///
+/// # Errors
+///
+/// `Memory` where memory is wanting, or was for one of its parts.
 #[tactic(auto, using(crate::proofs::Formed::formed_both))]
 pub fn call(
     alloc: Global,
@@ -167,6 +211,10 @@ pub fn call(
 }
 
 /// A `new` with these arguments (ES3 11.2.2).
+///
+/// # Errors
+///
+/// `Memory` where memory is wanting, or was for one of its parts.
 #[tactic(auto, using(crate::proofs::Formed::formed_both))]
 pub fn new(
     alloc: Global,
@@ -194,6 +242,10 @@ fn deleted(alloc: Global, operand: Box<CExpr>) -> Result<Option<Box<CExpr>>, Mem
 }
 
 /// An operator before its operand; a `delete` is there where its operand is a member (ES3 11.4).
+///
+/// # Errors
+///
+/// `Memory` where memory is wanting, or was for one of its parts.
 #[tactic(auto, using(crate::proofs::Formed::formed_from))]
 pub fn unary(
     alloc: Global,
@@ -214,6 +266,10 @@ pub fn unary(
 }
 
 /// The expression as what is written to.
+///
+/// # Errors
+///
+/// `Memory` where memory is wanting, or was for one of its parts.
 #[tactic(auto, using(crate::proofs::Formed::formed_from))]
 pub fn target(written: Result<Option<Box<CExpr>>, Memory>) -> Result<Option<Target>, Memory>
     ensures { (x : Option (tree.Tree tree.expr))
@@ -227,6 +283,10 @@ pub fn target(written: Result<Option<Box<CExpr>>, Memory>) -> Result<Option<Targ
 }
 
 /// One more or one less, before or behind its operand (ES3 11.3, 11.4.4, 11.4.5).
+///
+/// # Errors
+///
+/// `Memory` where memory is wanting, or was for one of its parts.
 #[tactic(auto, using(crate::proofs::Formed::formed_one))]
 pub fn step(
     alloc: Global,
@@ -245,6 +305,10 @@ pub fn step(
 }
 
 /// An assignment, with an operator or without (ES3 11.13).
+///
+/// # Errors
+///
+/// `Memory` where memory is wanting, or was for one of its parts.
 #[tactic(auto, using(crate::proofs::Formed::formed_both))]
 pub fn assign(
     alloc: Global,
@@ -263,6 +327,10 @@ pub fn assign(
 }
 
 /// An operator between its operands (ES3 11.5 to 11.10).
+///
+/// # Errors
+///
+/// `Memory` where memory is wanting, or was for one of its parts.
 #[tactic(auto, using(crate::proofs::Formed::formed_both))]
 pub fn binary(
     alloc: Global,
@@ -281,6 +349,10 @@ pub fn binary(
 }
 
 /// The operator `&&` (ES3 11.11).
+///
+/// # Errors
+///
+/// `Memory` where memory is wanting, or was for one of its parts.
 #[tactic(auto, using(crate::proofs::Formed::formed_both))]
 pub fn and(
     alloc: Global,
@@ -298,6 +370,10 @@ pub fn and(
 }
 
 /// The operator `||` (ES3 11.11).
+///
+/// # Errors
+///
+/// `Memory` where memory is wanting, or was for one of its parts.
 #[tactic(auto, using(crate::proofs::Formed::formed_both))]
 pub fn or(
     alloc: Global,
@@ -315,6 +391,10 @@ pub fn or(
 }
 
 /// The operator `,` (ES3 11.14).
+///
+/// # Errors
+///
+/// `Memory` where memory is wanting, or was for one of its parts.
 #[tactic(auto, using(crate::proofs::Formed::formed_both))]
 pub fn comma(
     alloc: Global,
@@ -332,6 +412,10 @@ pub fn comma(
 }
 
 /// The operator `?:` (ES3 11.12).
+///
+/// # Errors
+///
+/// `Memory` where memory is wanting, or was for one of its parts.
 #[tactic(auto, using(crate::proofs::Formed::formed_three))]
 pub fn conditional(
     alloc: Global,

@@ -22,6 +22,10 @@ use es3_tree::{Name, boxed};
 use std::alloc::Global;
 
 /// A statement that has no parts.
+///
+/// # Errors
+///
+/// `Memory` where memory is wanting.
 pub fn leaf(alloc: Global, tree: CStmt) -> Result<Option<Box<CStmt>>, Memory>
     ensures { Gives result held.stmt (Some (view.stmt tree)) }
 {
@@ -29,6 +33,10 @@ pub fn leaf(alloc: Global, tree: CStmt) -> Result<Option<Box<CStmt>>, Memory>
 }
 
 /// A `continue`, with its label or without (ES3 12.7).
+///
+/// # Errors
+///
+/// `Memory` where memory is wanting.
 pub fn continue_to(alloc: Global, label: &Option<Name>) -> Result<Option<Box<CStmt>>, Memory>
     ensures { Gives result held.stmt (Some (tree.continue (text_of (source.word_of label.now)))) }
 {
@@ -36,6 +44,10 @@ pub fn continue_to(alloc: Global, label: &Option<Name>) -> Result<Option<Box<CSt
 }
 
 /// A `break`, with its label or without (ES3 12.8).
+///
+/// # Errors
+///
+/// `Memory` where memory is wanting.
 pub fn break_from(alloc: Global, label: &Option<Name>) -> Result<Option<Box<CStmt>>, Memory>
     ensures { Gives result held.stmt (Some (tree.break (text_of (source.word_of label.now)))) }
 {
@@ -43,6 +55,10 @@ pub fn break_from(alloc: Global, label: &Option<Name>) -> Result<Option<Box<CStm
 }
 
 /// A block (ES3 12.1).
+///
+/// # Errors
+///
+/// `Memory` where memory is wanting, or was for one of its parts.
 #[tactic(auto, using(crate::proofs::Formed::formed_one))]
 pub fn block(
     alloc: Global,
@@ -59,6 +75,10 @@ pub fn block(
 }
 
 /// A `var` of these variables (ES3 12.2).
+///
+/// # Errors
+///
+/// `Memory` where memory is wanting, or was for one of its parts.
 #[tactic(auto, using(crate::proofs::Formed::formed_one))]
 pub fn var(
     alloc: Global,
@@ -75,6 +95,10 @@ pub fn var(
 }
 
 /// An expression as a statement (ES3 12.4).
+///
+/// # Errors
+///
+/// `Memory` where memory is wanting, or was for one of its parts.
 #[tactic(auto, using(crate::proofs::Formed::formed_one))]
 pub fn expression(
     alloc: Global,
@@ -91,6 +115,10 @@ pub fn expression(
 }
 
 /// An `if`, with an `else` or without (ES3 12.5).
+///
+/// # Errors
+///
+/// `Memory` where memory is wanting, or was for one of its parts.
 #[tactic(auto, using(crate::proofs::Formed::formed_three))]
 pub fn branch(
     alloc: Global,
@@ -110,6 +138,10 @@ pub fn branch(
 }
 
 /// A `while` (ES3 12.6.2).
+///
+/// # Errors
+///
+/// `Memory` where memory is wanting, or was for one of its parts.
 #[tactic(auto, using(crate::proofs::Formed::formed_both))]
 pub fn while_loop(
     alloc: Global,
@@ -128,6 +160,10 @@ pub fn while_loop(
 }
 
 /// A `do` .. `while` (ES3 12.6.1).
+///
+/// # Errors
+///
+/// `Memory` where memory is wanting, or was for one of its parts.
 #[tactic(auto, using(crate::proofs::Formed::formed_both))]
 pub fn do_loop(
     alloc: Global,
@@ -146,6 +182,10 @@ pub fn do_loop(
 }
 
 /// The first part of the head of a `for`, where nothing stands there.
+///
+/// # Errors
+///
+/// `Memory` where memory is wanting.
 pub fn no_first(alloc: Global) -> Result<Option<Box<CFirst>>, Memory>
     ensures { Gives result held.first (Some tree.no_first) }
 {
@@ -153,6 +193,10 @@ pub fn no_first(alloc: Global) -> Result<Option<Box<CFirst>>, Memory>
 }
 
 /// The first part of the head of a `for` that declares variables.
+///
+/// # Errors
+///
+/// `Memory` where memory is wanting, or was for one of its parts.
 #[tactic(auto, using(crate::proofs::Formed::formed_one))]
 pub fn first_var(
     alloc: Global,
@@ -169,6 +213,10 @@ pub fn first_var(
 }
 
 /// The first part of the head of a `for` that is an expression.
+///
+/// # Errors
+///
+/// `Memory` where memory is wanting, or was for one of its parts.
 #[tactic(auto, using(crate::proofs::Formed::formed_one))]
 pub fn first_expr(
     alloc: Global,
@@ -185,6 +233,10 @@ pub fn first_expr(
 }
 
 /// A `for` without `in` (ES3 12.6.3).
+///
+/// # Errors
+///
+/// `Memory` where memory is wanting, or was for one of its parts.
 #[tactic(auto, using(crate::proofs::Formed::formed_four))]
 pub fn for_loop(
     alloc: Global,
@@ -206,6 +258,10 @@ pub fn for_loop(
 }
 
 /// A `for` with `in` (ES3 12.6.4).
+///
+/// # Errors
+///
+/// `Memory` where memory is wanting, or was for one of its parts.
 #[tactic(auto, using(crate::proofs::Formed::formed_three))]
 pub fn for_in(
     alloc: Global,
@@ -225,6 +281,10 @@ pub fn for_in(
 }
 
 /// A `return`, with a value or without (ES3 12.9).
+///
+/// # Errors
+///
+/// `Memory` where memory is wanting, or was for one of its parts.
 #[tactic(auto, using(crate::proofs::Formed::formed_one))]
 pub fn return_value(
     alloc: Global,
@@ -241,6 +301,10 @@ pub fn return_value(
 }
 
 /// A `switch` with these clauses (ES3 12.11).
+///
+/// # Errors
+///
+/// `Memory` where memory is wanting, or was for one of its parts.
 #[tactic(auto, using(crate::proofs::Formed::formed_both))]
 pub fn switch(
     alloc: Global,
@@ -259,6 +323,10 @@ pub fn switch(
 }
 
 /// A statement with a label (ES3 12.12).
+///
+/// # Errors
+///
+/// `Memory` where memory is wanting, or was for one of its parts.
 #[tactic(auto, using(crate::proofs::Formed::formed_one))]
 pub fn label(
     alloc: Global,
@@ -277,6 +345,10 @@ pub fn label(
 }
 
 /// A `throw` (ES3 12.13).
+///
+/// # Errors
+///
+/// `Memory` where memory is wanting, or was for one of its parts.
 #[tactic(auto, using(crate::proofs::Formed::formed_one))]
 pub fn throw(
     alloc: Global,
@@ -293,6 +365,10 @@ pub fn throw(
 }
 
 /// A `catch` with its name.
+///
+/// # Errors
+///
+/// `Memory` where memory is wanting, or was for one of its parts.
 #[tactic(auto, using(crate::proofs::Formed::formed_one))]
 pub fn handler(
     alloc: Global,
@@ -310,6 +386,10 @@ pub fn handler(
 }
 
 /// A `finally`.
+///
+/// # Errors
+///
+/// `Memory` where memory is wanting, or was for one of its parts.
 #[tactic(auto, using(crate::proofs::Formed::formed_one))]
 pub fn last(body: Result<Option<Vec<CStmt>>, Memory>) -> Result<Option<Option<Vec<CStmt>>>, Memory>
     ensures { (x : Option (tree.Tree tree.stmts))
@@ -323,6 +403,10 @@ pub fn last(body: Result<Option<Vec<CStmt>>, Memory>) -> Result<Option<Option<Ve
 }
 
 /// A `try`, with what its `catch` and its `finally` give, or without one of them (ES3 12.14).
+///
+/// # Errors
+///
+/// `Memory` where memory is wanting, or was for one of its parts.
 #[tactic(auto, using(crate::proofs::Formed::formed_three))]
 pub fn try_catch(
     alloc: Global,

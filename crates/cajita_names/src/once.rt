@@ -1,6 +1,6 @@
 //! Names, each once.
 
-ghost use Rattle.std.specs.Prelude.{◌≡◌, ◌∷◌, [], map, IfOk, OnOk};
+ghost use Rattle.std.specs.Prelude.{◌≡◌, ◌∷◌, [], map, IfOk, OnErr, OnOk};
 ghost use Rattle.std.specs.Map.{keys_of};
 ghost use Rattle.cajita_names.specs.Once.{once_after, names_of, is_variable, is_loop_variable};
 ghost use Rattle.cajita_names.specs.Views.{declaration_of};
@@ -18,7 +18,8 @@ use std::alloc::Global;
 ///
 /// `Memory` where memory is wanting.
 pub fn add_name(alloc: Global, names: &mut Vec<Units>, name: &Units) -> Result<(), Memory>
-    ensures { OnOk result (names.new.items ≡ once_after names.old.items (name.now ∷ [])) }
+    ensures added { OnOk result (names.new.items ≡ once_after names.old.items (name.now ∷ [])) }
+    ensures stays { OnErr result (names.new.items ≡ names.old.items) }
 {
     if !is_among(names, name) {
         names.push(name.copy(alloc)?)?;

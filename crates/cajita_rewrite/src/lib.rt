@@ -21,7 +21,11 @@ use cajita_tree::Module;
 use es3_tree::Program;
 use std::alloc::Global;
 
-/// The guarded program that stands for the module (ES3 14). An error says that memory is wanting.
+/// The guarded program that stands for the module (ES3 14).
+///
+/// # Errors
+///
+/// `Memory` where memory is wanting.
 #[tactic(auto, unfolding(crate::specs::Rewrite::rewritten))]
 pub fn rewrite(alloc: Global, m: &Module) -> Result<Program, Memory>
     ensures { IfOk result (λ p. program p ≡ program_of (module_view m.now)) }

@@ -256,6 +256,10 @@ impl Drop for CExpr {
 
 impl CExpr {
     /// It is called with these arguments: where it is a member, that is a call of a method (ES3 11.2.3).
+    ///
+    /// # Errors
+    ///
+    /// `Memory` where memory is wanting.
     #[tactic(auto, using(crate::proofs::Rows::view_method))]
     pub fn called(self, alloc: Global, arguments: Vec<CExpr>) -> Result<CExpr, Memory>
         ensures { IfOk result (λ x. expr x ≡ called_tree (expr self) (of_exprs arguments.items)) }

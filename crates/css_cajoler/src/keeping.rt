@@ -180,6 +180,10 @@ fn keep_rules<F: Asks>(
 /// What is kept of a sheet: the selectors that are kept, each behind the scope and a space, and the declarations of the table. In the place of each URL stands what
 /// the rule answers for it, joined to the base where there is one; where it answers nothing, the declaration is dropped. A rule without selectors or declarations is
 /// dropped.
+///
+/// # Errors
+///
+/// `Memory` where memory is wanting.
 pub fn clean_css<F: Asks>(
     alloc: Global,
     sheet: &Css,

@@ -103,6 +103,10 @@ fn put_rule(out: &mut Vec<u8>, rule: &CssRule) -> Result<(), Memory>
 }
 
 /// The text of a sheet in UTF-8.
+///
+/// # Errors
+///
+/// `Memory` where memory is wanting.
 pub fn print_css(alloc: Global, sheet: &Css) -> Result<Vec<u8>, Memory>
     ensures { IfOk result (λ v. v.items ≡ p.printed (sheet_of sheet.now)) }
 {

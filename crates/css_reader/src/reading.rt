@@ -143,6 +143,10 @@ fn read_text(alloc: Global, text: &str) -> Result<Css, CssError>
 
 /// The sheet that bytes of UTF-8 spell, which are fewer than 2^32: its rules, with each selector and value as it is printed. A text that is not UTF-8 is refused
 /// first, at the first byte that begins none; any other at its first character with which no sheet goes on, or at its end, where something is wanting.
+///
+/// # Errors
+///
+/// `CssError::Syntax`, `CssError::Escape` or `CssError::AtRule` where no sheet goes on, with the byte, and `CssError::Memory` where memory is wanting.
 pub fn read_css(alloc: Global, text: &[u8]) -> Result<Css, CssError>
     requires { length text.now < 2 ^ 32 }
     ensures { IsRead result text.now }

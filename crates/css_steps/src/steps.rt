@@ -76,6 +76,10 @@ fn colon_step(
 }
 
 /// What is read behind a unit, or `None` where no sheet goes on with it.
+///
+/// # Errors
+///
+/// `Memory` where memory is wanting.
 #[tactic(auto, unfolding(css_grammar::specs::Machine::step))]
 pub fn step(
     alloc: Global,

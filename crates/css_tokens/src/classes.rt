@@ -123,6 +123,10 @@ pub fn append_lowered(text: &mut Vec<u16>, word: &[u16]) -> Result<(), Memory>
 }
 
 /// Appends units.
+///
+/// # Errors
+///
+/// `Memory` where memory is wanting.
 pub fn append(text: &mut Vec<u16>, word: &[u16]) -> Result<(), Memory>
     ensures { OnOk result (text.new.items ≡ text.old.items ++ word.now) }
 {

@@ -35,6 +35,10 @@ fn take_items<T: Drop>(alloc: Global, list: &mut Vec<T>) -> Result<Vec<T>, Memor
 }
 
 /// White space between compounds is one space.
+///
+/// # Errors
+///
+/// `Memory` where memory is wanting.
 pub fn join(text: &mut Vec<u16>, place: Where) -> Result<(), Memory>
     ensures { OnOk result (text.new.items ≡ g.joined (where_of place) text.old.items) }
 {
@@ -45,6 +49,10 @@ pub fn join(text: &mut Vec<u16>, place: Where) -> Result<(), Memory>
 }
 
 /// One unit in the place of a text.
+///
+/// # Errors
+///
+/// `Memory` where memory is wanting.
 pub fn restart(text: &mut Vec<u16>, unit: u16) -> Result<(), Memory>
     ensures { OnOk result (text.new.items ≡ unit ∷ []) }
 {
@@ -54,6 +62,10 @@ pub fn restart(text: &mut Vec<u16>, unit: u16) -> Result<(), Memory>
 }
 
 /// Two units in the place of a text.
+///
+/// # Errors
+///
+/// `Memory` where memory is wanting.
 pub fn restart_two(text: &mut Vec<u16>, first: u16, second: u16) -> Result<(), Memory>
     ensures { OnOk result (text.new.items ≡ first ∷ second ∷ []) }
 {
@@ -63,6 +75,10 @@ pub fn restart_two(text: &mut Vec<u16>, first: u16, second: u16) -> Result<(), M
 }
 
 /// A selector is whole.
+///
+/// # Errors
+///
+/// `Memory` where memory is wanting.
 pub fn push_selector(alloc: Global, work: &mut Work) -> Result<(), Memory>
     ensures { OnOk result (place_of (Spot.Selecting Where.Wanted) work.new ≡ g.selecting g.wanted (rules_of work.old.rules.items) (work.old.selectors.items ++ work.old.text.items ∷ []) []) }
 {
@@ -73,6 +89,10 @@ pub fn push_selector(alloc: Global, work: &mut Work) -> Result<(), Memory>
 }
 
 /// A value is whole.
+///
+/// # Errors
+///
+/// `Memory` where memory is wanting.
 pub fn push_value(alloc: Global, work: &mut Work, tail: Tail) -> Result<(), Memory>
     ensures { OnOk result (place_of Spot.Values work.new ≡ g.values (tail_of tail) (body_of work.old) work.old.name.items (work.old.values.items ++ work.old.word.items ∷ [])) }
 {
@@ -83,6 +103,10 @@ pub fn push_value(alloc: Global, work: &mut Work, tail: Tail) -> Result<(), Memo
 }
 
 /// A declaration is whole.
+///
+/// # Errors
+///
+/// `Memory` where memory is wanting.
 pub fn push_declaration(alloc: Global, work: &mut Work) -> Result<(), Memory>
     ensures { OnOk result (body_of work.new ≡ s.with_declaration (body_of work.old) work.old.name.items work.old.values.items) }
 {
@@ -93,6 +117,10 @@ pub fn push_declaration(alloc: Global, work: &mut Work) -> Result<(), Memory>
 }
 
 /// A rule is whole.
+///
+/// # Errors
+///
+/// `Memory` where memory is wanting.
 pub fn push_rule(alloc: Global, work: &mut Work) -> Result<(), Memory>
     ensures { OnOk result (place_of (Spot.Selecting Where.Wanted) work.new ≡ g.selecting g.wanted (s.ruled (body_of work.old)) [] []) }
 {
@@ -104,6 +132,10 @@ pub fn push_rule(alloc: Global, work: &mut Work) -> Result<(), Memory>
 }
 
 /// The number is before a unit.
+///
+/// # Errors
+///
+/// `Memory` where memory is wanting.
 pub fn keep_number(work: &mut Work, whole: bool) -> Result<(), Memory>
     ensures { OnOk result (use_of (Use.Unit whole) work.new ≡ m.a_unit whole (tail_of work.old.tail) (body_of work.old) work.old.name.items work.old.values.items work.old.word.items) }
 {
@@ -122,6 +154,10 @@ fn push_number(alloc: Global, work: &mut Work, tail: Tail) -> Result<(), Memory>
 }
 
 /// The place behind a word.
+///
+/// # Errors
+///
+/// `Memory` where memory is wanting.
 pub fn put(alloc: Global, work: &mut Work, word_use: Use) -> Result<Spot, Memory>
     ensures { IfOk result (λ p. place_of p work.new ≡ m.put (use_of word_use work.old) work.old.word.items) }
 {
@@ -170,6 +206,10 @@ pub fn put(alloc: Global, work: &mut Work, word_use: Use) -> Result<Spot, Memory
 }
 
 /// The place behind `(..)` or `[..]`, which this unit closes.
+///
+/// # Errors
+///
+/// `Memory` where memory is wanting.
 pub fn close(alloc: Global, work: &mut Work, opener: Opener, unit: u16) -> Result<Spot, Memory>
     ensures { IfOk result (λ p. place_of p work.new ≡ m.enclosed (opener_of opener work.old) work.old.inner.items unit) }
 {

@@ -16,6 +16,10 @@ pub fn unit(text: &Units, at: usize) -> u16
 }
 
 /// Appends the units of a text.
+///
+/// # Errors
+///
+/// `Memory` where memory is wanting.
 pub fn append_units(units: &mut Vec<u16>, text: &Units) -> Result<(), Memory>
     ensures { OnOk result (units.new.items ≡ units.old.items ++ text.now) }
 {
@@ -27,6 +31,10 @@ pub fn append_units(units: &mut Vec<u16>, text: &Units) -> Result<(), Memory>
 }
 
 /// The units of a text, in the place of what was in the list.
+///
+/// # Errors
+///
+/// `Memory` where memory is wanting.
 pub fn fill(units: &mut Vec<u16>, text: &Units) -> Result<(), Memory>
     ensures { OnOk result (units.new.items ≡ text.now) }
 {
@@ -72,6 +80,10 @@ pub fn stands_in(table: &[&str], text: &[u16]) -> bool
 }
 
 /// Copies of texts.
+///
+/// # Errors
+///
+/// `Memory` where memory is wanting.
 pub fn copy_all(alloc: Global, list: &[Units]) -> Result<Vec<Units>, Memory>
     ensures { IfOk result (λ v. v.items ≡ list.now) }
 {

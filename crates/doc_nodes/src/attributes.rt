@@ -53,6 +53,10 @@ fn push(attrs: &mut Vec<Attr>, alloc: Global, name: &Units, value: Units) -> Res
 }
 
 /// Gives the first attribute of a name this value, in its place, or makes a new one, the last. Where memory is wanting, nothing changes.
+///
+/// # Errors
+///
+/// `Memory` where memory is wanting.
 pub fn write(attrs: &mut Vec<Attr>, alloc: Global, name: &Units, value: Units) -> Result<(), Memory>
     ensures ok { OnOk result (attrs.new.items ≡ with_value name.now value attrs.old.items) }
     ensures err { OnErr result (attrs.new.items ≡ attrs.old.items) }
@@ -68,6 +72,10 @@ pub fn write(attrs: &mut Vec<Attr>, alloc: Global, name: &Units, value: Units) -
 }
 
 /// Copies attributes.
+///
+/// # Errors
+///
+/// `Memory` where memory is wanting.
 pub fn copied(alloc: Global, attrs: &[Attr]) -> Result<Vec<Attr>, Memory>
     ensures { IfOk result (λ v. v.items ≡ attrs.now) }
 {

@@ -43,6 +43,10 @@ impl Root {
 }
 
 /// So many roots without nodes.
+///
+/// # Errors
+///
+/// `Memory` where memory is wanting.
 pub fn empty_roots(alloc: Global, count: usize) -> Result<Vec<Root>, Memory>
     ensures { IfOk result (λ v. v.items ≡ replicate count []) }
 {
@@ -76,6 +80,10 @@ fn count_of(roots: &[Root], root: u32) -> usize
 }
 
 /// The next owner of a root, or none; there is no memory for 2^32 nodes.
+///
+/// # Errors
+///
+/// `Memory` where the root has 2^32 nodes or more.
 pub fn next_owner(roots: &[Root], root: Option<u32>) -> Result<Option<(u32, u32)>, Memory>
     ensures { IfOk result (λ o. o ≡ next_owner roots.now root) }
 {
@@ -92,6 +100,10 @@ pub fn next_owner(roots: &[Root], root: Option<u32>) -> Result<Option<(u32, u32)
 }
 
 /// Makes a node the next of a root. Where memory is wanting, nothing changes.
+///
+/// # Errors
+///
+/// `Memory` where memory is wanting.
 pub fn push_owned(roots: &mut [Root], root: Option<u32>, n: NodeId) -> Result<(), Memory>
     ensures ok { OnOk result (roots.new ≡ with_owned root n roots.old) }
     ensures err { OnErr result (roots.new ≡ roots.old) }
@@ -126,6 +138,10 @@ fn place_of(ids: &[Units], id: &Units) -> Option<usize>
 }
 
 /// The root that an element with these attributes belongs to: the granted one that has its id, or else the one around it. There is no memory for 2^32 roots.
+///
+/// # Errors
+///
+/// `Memory` where that root's number would be 2^32 or more.
 pub fn root_at(ids: &[Units], attrs: &[Attr], around: Option<u32>) -> Result<Option<u32>, Memory>
     ensures { IfOk result (λ root. root ≡ root_at ids.now around attrs.now) }
 {

@@ -80,6 +80,10 @@ impl Document {
     ///
     /// In this order: `NoNode` exactly where one of the two isn't of this document, `OtherRoot` where they belong to two roots or only one of them to a root, `Cycle` where the child is the
     /// parent or stands above it. A refused call changes nothing.
+    ///
+    /// # Errors
+    ///
+    /// `NoNode`, `OtherRoot` or `Cycle`, as said above, and `Memory` where memory is wanting; then nothing changes.
     pub fn append(&mut self, parent: NodeId, child: NodeId) -> Result<(), DocError>
         ensures { Changes (append parent child self.old) result self.old self.new }
     {
@@ -95,6 +99,10 @@ impl Document {
     }
 
     /// Detaches a child of a node. `NoNode` exactly where one of the two isn't of this document, or the child doesn't stand under the parent; then nothing changes.
+    ///
+    /// # Errors
+    ///
+    /// `NoNode`, as said above; then nothing changes.
     pub fn remove(&mut self, parent: NodeId, child: NodeId) -> Result<(), DocError>
         ensures { Changes (remove parent child self.old) result self.old self.new }
     {
@@ -107,6 +115,10 @@ impl Document {
     }
 
     /// Gives an attribute a value, in its place where it is there, and else the last. `NoNode` exactly where the node isn't of this document. A refused call changes nothing.
+    ///
+    /// # Errors
+    ///
+    /// `NoNode`, as said above, and `Memory` where memory is wanting; then nothing changes.
     pub fn set_attr(&mut self, n: NodeId, name: &Units, value: Units) -> Result<(), DocError>
         ensures { Changes (set_attr n name.now value self.old) result self.old self.new }
     {
@@ -237,6 +249,10 @@ impl Document {
     /// Gives a text node another text, or an element a new text, of the element's root, as its only child; the children that it had are detached.
     ///
     /// `NoNode` exactly where the node isn't of this document. A refused call changes nothing.
+    ///
+    /// # Errors
+    ///
+    /// `NoNode`, as said above, and `Memory` where memory is wanting; then nothing changes.
     pub fn set_text(&mut self, n: NodeId, text: Units) -> Result<(), DocError>
         ensures { Changes (set_text n text self.old) result self.old self.new }
     {
@@ -251,6 +267,10 @@ impl Document {
     }
 
     /// A new node of a granted root, which is to be one that there is. It takes the root's next number, and is detached. Where memory is wanting, nothing changes.
+    ///
+    /// # Errors
+    ///
+    /// `Memory` where memory is wanting.
     pub fn create(&mut self, root: u32, node: NewNode) -> Result<NodeId, Memory>
         ensures id { IfOk result (λ n. n ≡ length self.old.rows) }
         ensures ok { OnOk result (self.new ≡ create root node self.old) }

@@ -80,6 +80,10 @@ impl Document {
     /// The document of cleaned HTML. The granted roots are the elements that have these ids; each node at or below one belongs to it, and takes its next number, in document order, from 0.
     ///
     /// The ids are to differ, each is to stand once in the HTML, and no root is to be inside another; where one is, what stands below the inner one belongs to it.
+    ///
+    /// # Errors
+    ///
+    /// `Memory` where memory is wanting.
     pub fn from_clean(alloc: Global, html: &Clean, roots: &[Units]) -> Result<Document, Memory>
         ensures { IfOk result (λ d. d ≡ from_clean roots.now (trees html.now)) }
     {

@@ -142,6 +142,10 @@ impl Document {
     }
 
     /// The text of the document in UTF-8: what stands under the document itself, written as HTML is. Detached nodes aren't written.
+    ///
+    /// # Errors
+    ///
+    /// `Memory` where memory is wanting.
     pub fn print(&self) -> Result<Vec<u8>, Memory>
         ensures { IfOk result (λ out. out.items ≡ print self.now) }
     {

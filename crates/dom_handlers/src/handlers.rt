@@ -1,6 +1,6 @@
 //! Handlers of nodes.
 
-ghost use Rattle.std.specs.Prelude.{◌≡◌, ◌≤◌, ◌++◌, ℕ, [], length, slice_get, IfOk, OnOk};
+ghost use Rattle.std.specs.Prelude.{◌≡◌, ◌≤◌, ◌++◌, ℕ, [], length, slice_get, IfOk, OnErr, OnOk};
 ghost use Rattle.std.specs.Option.{option_to_list, option_copied};
 ghost use Rattle.dom_handlers.specs.Handlers.{registered, of_kind, functions_of};
 ghost use Rattle.dom_handlers.specs.Kept.{found, places_of};
@@ -51,7 +51,8 @@ impl Handlers {
     ///
     /// `Memory` where memory is wanting.
     pub fn on(&mut self, n: NodeId, kind: EventKind, function: Value) -> Result<(), Memory>
-        ensures { OnOk result (self.new ≡ registered n kind function self.old) }
+        ensures registers { OnOk result (self.new ≡ registered n kind function self.old) }
+        ensures stays { OnErr result (self.new ≡ self.old) }
     {
         let at = n.number() as usize;
         reach(self.alloc, &mut self.places, at + 1)?;

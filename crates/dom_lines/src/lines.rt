@@ -88,7 +88,11 @@ fn push_text(
     }
 }
 
-/// Appends the line of a change, which ends with a line feed. The roots are named in the order of their numbers. The only error is want of memory.
+/// Appends the line of a change, which ends with a line feed. The roots are named in the order of their numbers.
+///
+/// # Errors
+///
+/// `Memory` where memory is wanting.
 pub fn push_change(
     alloc: Global,
     out: &mut Vec<u8>,

@@ -13,6 +13,10 @@ use es3_moves::texts::Texts;
 use std::alloc::Global;
 
 /// Throws an error of the interpreter, a TypeError without a name in the log.
+///
+/// # Errors
+///
+/// `Memory` where memory is wanting.
 pub fn throw_error(
     alloc: Global,
     message: &[u8],

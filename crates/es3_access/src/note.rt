@@ -29,6 +29,10 @@ fn touch(by: u32, what: Touch, on: Tag, key: Option<Rc<Units>>) -> Option<Note>
 }
 
 /// What is recorded where a reference is read or written: a member of an object with a name, at a key that isn't hidden.
+///
+/// # Errors
+///
+/// `Memory` where memory is wanting.
 #[tactic(auto, using(crate::proofs::Told::telling_found))]
 pub fn of_member(what: Touch, reference: &Ref, by: u32, h: &Heap) -> Result<Option<Note>, Memory>
     ensures note { IfOk result (λ n. option_map plain_note n ≡ member_touch what (plain_ref reference.now) by h.now) }

@@ -20,6 +20,10 @@ use es3_references::references::read;
 use std::alloc::Global;
 
 /// What is done with the value of a reference; an arguments object is made where it is read first (ES3 10.1.8).
+///
+/// # Errors
+///
+/// `Memory` where memory is wanting.
 pub fn with_read(
     alloc: Global,
     reference: &Ref,

@@ -31,6 +31,10 @@ fn callable(h: &Heap, o: ObjId) -> Option<(FuncKind, u32)>
 }
 
 /// What a call of a value does (ES3 11.2.3, 13.2.1).
+///
+/// # Errors
+///
+/// `Memory` where memory is wanting.
 pub fn apply(
     alloc: Global,
     f: Value,
@@ -169,6 +173,10 @@ fn end_of(made: Option<ObjId>) -> End
 }
 
 /// What a value makes by `new` (ES3 11.2.2, 13.2.2).
+///
+/// # Errors
+///
+/// `Memory` where memory is wanting.
 pub fn construct(
     alloc: Global,
     f: Value,

@@ -74,6 +74,10 @@ fn closure(
 }
 
 /// Makes a function with these scopes around it; its object is the next one (ES3 13.2).
+///
+/// # Errors
+///
+/// `Memory` where memory is wanting.
 pub fn make_function(
     alloc: Global,
     function: &FuncCode,
@@ -92,6 +96,10 @@ pub fn make_function(
 }
 
 /// What a function expression does (ES3 13): one with a name of its own has a scope with that name around it.
+///
+/// # Errors
+///
+/// `Memory` where memory is wanting.
 pub fn enter_function(
     alloc: Global,
     function: &FuncCode,

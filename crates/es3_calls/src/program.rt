@@ -17,6 +17,10 @@ use std::alloc::Global;
 use std::rc::Rc;
 
 /// What a program declares, before its first statement (ES3 10.1.3, 10.2.1).
+///
+/// # Errors
+///
+/// `Memory` where memory is wanting.
 pub fn declare_program(
     alloc: Global,
     body: &[Rc<StmtCode>],

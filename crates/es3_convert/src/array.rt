@@ -11,6 +11,10 @@ use es3_heap::{Heap, ObjId, Value};
 use std::alloc::Global;
 
 /// An object's own property of a key, undefined where it has none.
+///
+/// # Errors
+///
+/// `Memory` where memory is wanting.
 pub fn own_value(alloc: Global, h: &Heap, o: ObjId, k: &Units) -> Result<Value, Memory>
     ensures { IfOk result (λ v. v ≡ value_of (own h.now o k.now)) }
 {
@@ -21,6 +25,10 @@ pub fn own_value(alloc: Global, h: &Heap, o: ObjId, k: &Units) -> Result<Value, 
 }
 
 /// How many items an array has, 0 where its length is no number.
+///
+/// # Errors
+///
+/// `Memory` where memory is wanting.
 pub fn array_len(alloc: Global, h: &Heap, o: ObjId) -> Result<u64, Memory>
     ensures { IfOk result (λ n. n ≡ length_of (value_of (own h.now o length_key))) }
 {
@@ -31,6 +39,10 @@ pub fn array_len(alloc: Global, h: &Heap, o: ObjId) -> Result<u64, Memory>
 }
 
 /// The item of an array at an index, from 0; a hole is undefined.
+///
+/// # Errors
+///
+/// `Memory` where memory is wanting.
 pub fn array_item(alloc: Global, h: &Heap, o: ObjId, index: u64) -> Result<Value, Memory>
     ensures { IfOk result (λ v. v ≡ value_of (own h.now o (number_units index))) }
 {
@@ -39,6 +51,10 @@ pub fn array_item(alloc: Global, h: &Heap, o: ObjId, index: u64) -> Result<Value
 }
 
 /// The items of an array, in their order; a hole is undefined.
+///
+/// # Errors
+///
+/// `Memory` where memory is wanting.
 pub fn array_items(alloc: Global, h: &Heap, o: ObjId) -> Result<Vec<Value>, Memory>
     ensures { IfOk result (λ v. v.items ≡ array_items h.now o) }
 {

@@ -93,6 +93,10 @@ fn counted(b: bool) -> Value
 
 /// Whether `a == b` (ES3 11.9.3). The run stops where a comparison needs a number that a text doesn't have (`Number`), or the text of
 /// an object that has none (`Depth`, `Convert`).
+///
+/// # Errors
+///
+/// `Stop::Number`, `Stop::Depth` or `Stop::Convert`, as said above, and `Stop::Memory` where memory is wanting.
 pub fn loose_equal(alloc: Global, h: &Heap, a: &Value, b: &Value) -> Result<bool, Stop>
     ensures { Answers result (loosely_equal h.now a.now b.now) }
 {
@@ -120,6 +124,10 @@ fn less_primitives(alloc: Global, a: &Value, b: &Value) -> Result<bool, Stop>
 
 /// Whether `a < b` (ES3 11.8.5). The run stops where a comparison needs a number that there is not (`Number`), or the text of an object
 /// that has none (`Depth`, `Convert`).
+///
+/// # Errors
+///
+/// `Stop::Number`, `Stop::Depth` or `Stop::Convert`, as said above, and `Stop::Memory` where memory is wanting.
 pub fn less(alloc: Global, h: &Heap, a: &Value, b: &Value) -> Result<bool, Stop>
     ensures { Answers result (less_of h.now a.now b.now) }
 {

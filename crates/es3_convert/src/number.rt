@@ -234,6 +234,10 @@ pub fn primitive_number(alloc: Global, v: &Value) -> Result<Whole, Stop>
 
 /// The number of a value (ES3 9.3), for an object that of its text. The run stops where there is none in range (`Number`), and where
 /// the object has no text (`Depth`, `Convert`).
+///
+/// # Errors
+///
+/// `Stop::Number`, `Stop::Depth` or `Stop::Convert`, as said above, and `Stop::Memory` where memory is wanting.
 pub fn to_number(alloc: Global, h: &Heap, v: &Value) -> Result<Whole, Stop>
     ensures { Answers result (number_of h.now v.now) }
 {

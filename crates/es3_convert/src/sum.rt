@@ -10,6 +10,10 @@ use es3_heap::{Heap, Stop, Value};
 use std::alloc::Global;
 
 /// The value itself, or the text of an object (ES3 9.1, 8.6.2.6). The run stops where that text can't be had.
+///
+/// # Errors
+///
+/// As `to_text`.
 pub fn to_primitive(alloc: Global, h: &Heap, v: &Value) -> Result<Value, Stop>
     ensures { Answers result (primitive_of h.now v.now) }
 {
@@ -52,6 +56,10 @@ fn sum_of_primitives(alloc: Global, a: &Value, b: &Value) -> Result<Value, Stop>
 }
 
 /// The value of `a + b` (ES3 11.6.1). The run stops where an operand has no text or the sum is no number in range.
+///
+/// # Errors
+///
+/// `Stop::Number` where the sum is no number in range, `Stop::Depth` or `Stop::Convert` where an operand has no text, and `Stop::Memory` where memory is wanting.
 pub fn add(alloc: Global, h: &Heap, a: &Value, b: &Value) -> Result<Value, Stop>
     ensures { Answers result (sum_of h.now a.now b.now) }
 {

@@ -25,6 +25,10 @@ pub const TO_STRING: u32 = 62;
 pub const VALUE_OF: u32 = 63;
 
 /// The text of a number (ES3 9.8.1).
+///
+/// # Errors
+///
+/// `Memory` where memory is wanting.
 pub fn number_text(alloc: Global, n: Whole) -> Result<Units, Memory>
     ensures { IfOk result (λ text. text ≡ number_text n) }
 {
@@ -37,6 +41,10 @@ pub fn number_text(alloc: Global, n: Whole) -> Result<Units, Memory>
 }
 
 /// The name of an index (ES3 9.8.1, 15.4).
+///
+/// # Errors
+///
+/// `Memory` where memory is wanting.
 pub fn index_key(alloc: Global, index: u64) -> Result<Units, Memory>
     ensures { IfOk result (λ text. text ≡ number_units index) }
 {
@@ -86,6 +94,10 @@ fn converts(alloc: Global, h: &Heap, o: ObjId) -> Result<bool, Memory>
 }
 
 /// Appends a text.
+///
+/// # Errors
+///
+/// `Memory` where memory is wanting.
 pub fn push_text(units: &mut Vec<u16>, text: &Units) -> Result<(), Memory>
     ensures { OnOk result (units.new.items ≡ units.old.items ++ text.now) }
 {
@@ -178,6 +190,10 @@ fn text_within(alloc: Global, nested: u32, h: &Heap, v: &Value) -> Result<Units,
 
 /// The text of a value (ES3 9.8). At most 32 arrays may be nested in one another, else the run stops (`Depth`); it stops
 /// too at an object whose `toString` or `valueOf` is not the built-in one (`Convert`).
+///
+/// # Errors
+///
+/// `Stop::Depth` or `Stop::Convert`, as said above, and `Stop::Memory` where memory is wanting.
 pub fn to_text(alloc: Global, h: &Heap, v: &Value) -> Result<Units, Stop>
     ensures { Answers result (text_of h.now v.now) }
 {

@@ -37,6 +37,10 @@ pub struct Filled {
 }
 
 /// The first clause from a place on that has statements.
+///
+/// # Errors
+///
+/// `Memory` where memory is wanting.
 #[tactic(auto, using(crate::proofs::Cases::cases_more, crate::proofs::Cases::cases_end, crate::proofs::Places::stmts_more, crate::proofs::Places::stmts_end))]
 pub fn filled_from(cs: &[CaseCode], from: usize) -> Result<Option<Filled>, Memory>
     ensures { IfOk result (λ n. option_map (plain_filled cs.now) n ≡ filled (cases_at cs.now from)) }
@@ -82,6 +86,10 @@ pub struct Tested {
 }
 
 /// The first clause from a place on that has an expression.
+///
+/// # Errors
+///
+/// `Memory` where memory is wanting.
 #[tactic(auto, using(crate::proofs::Cases::cases_more, crate::proofs::Cases::cases_end))]
 pub fn tested_from(cs: &[CaseCode], from: usize) -> Result<Option<Tested>, Memory>
     ensures { IfOk result (λ n. option_map (plain_tested cs.now) n ≡ tested (cases_at cs.now from)) }

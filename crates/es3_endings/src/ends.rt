@@ -64,6 +64,10 @@ fn made(object: ObjId, v: Value) -> Value
 }
 
 /// What follows the block of a `try`: a `catch` takes what was thrown (ES3 12.14).
+///
+/// # Errors
+///
+/// `Memory` where memory is wanting.
 pub fn after_try(
     alloc: Global,
     handlers: Handlers,
@@ -109,6 +113,10 @@ fn begin_catch(
 }
 
 /// The statements of a `finally`, if there is one, with how what stood before it ended (ES3 12.14).
+///
+/// # Errors
+///
+/// `Memory` where memory is wanting.
 pub fn begin_finally(
     alloc: Global,
     last: Option<Rc<FinallyCode>>,

@@ -23,6 +23,10 @@ use std::alloc::Global;
 use std::rc::Rc;
 
 /// What an expression does when it is entered for its value.
+///
+/// # Errors
+///
+/// `Memory` where memory is wanting.
 pub fn enter_expr(
     alloc: Global,
     code: &ExprCode,

@@ -23,6 +23,10 @@ use std::alloc::Global;
 use std::rc::Rc;
 
 /// The next item of an array, or the array (ES3 11.1.4).
+///
+/// # Errors
+///
+/// `Memory` where memory is wanting.
 #[tactic(auto, using(crate::proofs::Parts::exprs_more, crate::proofs::Parts::exprs_end))]
 pub fn next_item(
     vs: Vec<Value>,
@@ -46,6 +50,10 @@ pub fn next_item(
 }
 
 /// The next property of an object literal, or the object (ES3 11.1.5).
+///
+/// # Errors
+///
+/// `Memory` where memory is wanting.
 #[tactic(auto, using(crate::proofs::Parts::fields_more, crate::proofs::Parts::fields_end))]
 pub fn next_field(
     object: ObjId,
@@ -69,6 +77,10 @@ pub fn next_field(
 }
 
 /// The arguments of a call, of which none is there yet (ES3 11.2.4).
+///
+/// # Errors
+///
+/// `Memory` where memory is wanting.
 pub fn begin_arguments(
     alloc: Global,
     callee: Callee,
@@ -89,6 +101,10 @@ pub fn begin_arguments(
 }
 
 /// The next argument of a call, or the call (ES3 11.2.4).
+///
+/// # Errors
+///
+/// `Memory` where memory is wanting.
 #[tactic(auto, using(crate::proofs::Parts::exprs_more, crate::proofs::Parts::exprs_end))]
 pub fn next_argument(
     alloc: Global,

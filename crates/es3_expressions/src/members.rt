@@ -24,6 +24,10 @@ use std::alloc::Global;
 use std::rc::Rc;
 
 /// The value of a member.
+///
+/// # Errors
+///
+/// `Memory` where memory is wanting.
 pub fn dot_value(
     alloc: Global,
     base: Value,
@@ -43,6 +47,10 @@ pub fn dot_value(
 }
 
 /// A member as a reference.
+///
+/// # Errors
+///
+/// `Memory` where memory is wanting.
 pub fn dot_target(
     alloc: Global,
     base: Value,
@@ -99,6 +107,10 @@ fn keyed(alloc: Global, base: Value, key: &Value, h: &Heap) -> Result<Indexed, M
 }
 
 /// The value of a member whose key is computed.
+///
+/// # Errors
+///
+/// `Memory` where memory is wanting.
 pub fn index_value(
     alloc: Global,
     base: Value,
@@ -119,6 +131,10 @@ pub fn index_value(
 }
 
 /// A member whose key is computed, as a reference.
+///
+/// # Errors
+///
+/// `Memory` where memory is wanting.
 pub fn index_target(
     alloc: Global,
     base: Value,

@@ -26,6 +26,10 @@ use std::alloc::Global;
 use std::rc::Rc;
 
 /// What an expression does when it is entered as a reference.
+///
+/// # Errors
+///
+/// `Memory` where memory is wanting.
 pub fn enter_target(
     alloc: Global,
     code: &ExprCode,
@@ -87,6 +91,10 @@ fn target_index(base: &Rc<ExprCode>, key: &Rc<ExprCode>, env: Env) -> Result<Mov
 }
 
 /// What is done with a reference.
+///
+/// # Errors
+///
+/// `Memory` where memory is wanting.
 pub fn use_target(
     alloc: Global,
     then: Target,
@@ -166,6 +174,10 @@ fn type_of(
 }
 
 /// The name of the type of a value (ES3 11.4.3).
+///
+/// # Errors
+///
+/// `Memory` where memory is wanting.
 pub fn give_type(alloc: Global, v: &Value, h: &Heap) -> Result<Move, Memory>
     ensures plan { IfOk result (λ x. (s : Store) → s.heap ≡ h.now → move_plan x s ≡ e.type_of_value v.now s) }
     ensures small { IfOk result (λ x. size x ≤ 8) }

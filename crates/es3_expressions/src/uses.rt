@@ -32,6 +32,10 @@ use std::alloc::Global;
 use std::rc::Rc;
 
 /// What is done with a value.
+///
+/// # Errors
+///
+/// `Memory` where memory is wanting.
 pub fn use_value(
     alloc: Global,
     then: Use,
@@ -147,6 +151,10 @@ fn give_given(alloc: Global, given: Given, h: &mut Heap, texts: &Texts) -> Resul
 }
 
 /// What is done with a value that was read.
+///
+/// # Errors
+///
+/// `Memory` where memory is wanting.
 pub fn use_read(
     alloc: Global,
     then: Then,

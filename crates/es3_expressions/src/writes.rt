@@ -29,6 +29,10 @@ use es3_tree::BinOp;
 use std::alloc::Global;
 
 /// The same reference once more.
+///
+/// # Errors
+///
+/// `Memory` where memory is wanting.
 pub fn copy_ref(alloc: Global, reference: &Ref) -> Result<Ref, Memory>
     ensures { IfOk result (λ x. plain_ref x ≡ plain_ref reference.now) }
 {
@@ -64,6 +68,10 @@ fn write_value(
 }
 
 /// `=` with its value (ES3 11.13.1).
+///
+/// # Errors
+///
+/// `Memory` where memory is wanting.
 pub fn assign(alloc: Global, reference: Ref, v: Value, env: &Env, h: &Heap) -> Result<Move, Memory>
     ensures plan { IfOk result (λ x. (s : Store) → s.heap ≡ h.now → move_plan x s ≡ e.assign_value (plain_ref reference) (plain_env env.now) v s) }
     ensures small { IfOk result (λ x. size x < 11) }
@@ -73,6 +81,10 @@ pub fn assign(alloc: Global, reference: Ref, v: Value, env: &Env, h: &Heap) -> R
 }
 
 /// An assignment with an operator, with the value that was and its value (ES3 11.13.2).
+///
+/// # Errors
+///
+/// `Memory` where memory is wanting.
 pub fn compound(
     alloc: Global,
     op: BinOp,
@@ -113,6 +125,10 @@ fn write_given(
 }
 
 /// `++` or `--` of the value that was (ES3 11.3, 11.4.4, 11.4.5).
+///
+/// # Errors
+///
+/// `Memory` where memory is wanting.
 pub fn step(
     alloc: Global,
     up: bool,
@@ -154,6 +170,10 @@ fn step_number(
 }
 
 /// Writes a value, and gives another (ES3 8.7.2).
+///
+/// # Errors
+///
+/// `Memory` where memory is wanting.
 pub fn write_reference(
     alloc: Global,
     reference: Ref,

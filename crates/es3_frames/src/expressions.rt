@@ -15,6 +15,10 @@ use std::alloc::Global;
 
 impl Part {
     /// A `new` without arguments (ES3 11.2.2).
+    ///
+    /// # Errors
+    ///
+    /// `Memory` where memory is wanting.
     #[tactic(auto, using(es3_tree::proofs::PlacedRows::placed_new))]
     pub fn constructed(alloc: Global, constructor: Part) -> Result<Part, Memory>
         ensures { IfOk result (λ x. expr x.tree.value ≡ placed.new (expr constructor.tree.value) placed.no_exprs) }
@@ -24,6 +28,10 @@ impl Part {
     }
 
     /// The member of an object by a key between brackets (ES3 11.2.1).
+    ///
+    /// # Errors
+    ///
+    /// `Memory` where memory is wanting.
     pub fn indexed(alloc: Global, object: Part, key: Part) -> Result<Part, Memory>
         ensures { IfOk result (λ x. expr x.tree.value ≡ placed.index (expr object.tree.value) (expr key.tree.value)) }
     {
@@ -32,6 +40,10 @@ impl Part {
     }
 
     /// A prefix operator that is no `++` or `--`, which begins at the byte `at`, and its operand (ES3 11.4).
+    ///
+    /// # Errors
+    ///
+    /// `Memory` where memory is wanting.
     pub fn prefixed(alloc: Global, op: UnOp, operand: Part, at: u32) -> Result<Part, Memory>
         ensures { IfOk result (λ x. expr x.tree.value ≡ placed.unary op (expr operand.tree.value) at) }
     {
@@ -41,6 +53,10 @@ impl Part {
 
     /// `++` where `up`, else `--`, before its operand where `before`, else behind it; none where the operand can't be assigned to
     /// (ES3 11.3, 11.4.4, 11.4.5).
+    ///
+    /// # Errors
+    ///
+    /// `Memory` where memory is wanting.
     pub fn stepped(
         alloc: Global,
         up: bool,
@@ -60,6 +76,10 @@ impl Part {
     }
 
     /// An operator between two parts (ES3 11.5 to 11.11, 11.13, 11.14).
+    ///
+    /// # Errors
+    ///
+    /// `Memory` where memory is wanting.
     pub fn joined(alloc: Global, join: Join, left: Part, right: Part) -> Result<Part, Memory>
         ensures { IfOk result (λ x. expr x.tree.value ≡ joined_spec (join_of join) (expr left.tree.value) (expr right.tree.value)) }
     {
@@ -68,6 +88,10 @@ impl Part {
     }
 
     /// A conditional (ES3 11.12).
+    ///
+    /// # Errors
+    ///
+    /// `Memory` where memory is wanting.
     pub fn chosen(alloc: Global, test: Part, yes: Part, no: Part) -> Result<Part, Memory>
         ensures { IfOk result (λ x. expr x.tree.value ≡ placed.choice (expr test.tree.value) (expr yes.tree.value) (expr no.tree.value)) }
     {

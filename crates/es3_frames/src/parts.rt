@@ -114,6 +114,10 @@ pub fn above(depth: u32) -> u32
 
 impl Part {
     /// An expression that is so deep.
+    ///
+    /// # Errors
+    ///
+    /// `Memory` where memory is wanting.
     pub fn made(alloc: Global, tree: Expr, depth: u32) -> Result<Part, Memory>
         requires { depth ≡ capped (deep t.expr (expr tree)) }
         ensures { IfOk result (λ x. x.tree.value ≡ tree) }
@@ -123,6 +127,10 @@ impl Part {
     }
 
     /// An expression without parts (ES3 11.1).
+    ///
+    /// # Errors
+    ///
+    /// `Memory` where memory is wanting.
     pub fn leaf(alloc: Global, tree: Expr) -> Result<Part, Memory>
         requires { deep t.expr (expr tree) ≡ 1 }
         ensures { IfOk result (λ x. x.tree.value ≡ tree) }
@@ -133,6 +141,10 @@ impl Part {
 
 impl Done {
     /// A statement that is so deep.
+    ///
+    /// # Errors
+    ///
+    /// `Memory` where memory is wanting.
     pub fn made(alloc: Global, tree: Stmt, depth: u32) -> Result<Done, Memory>
         requires { depth ≡ capped (deep t.stmt (stmt tree)) }
         ensures { IfOk result (λ s. s.tree.value ≡ tree) }
@@ -176,6 +188,10 @@ impl Exprs {
     }
 
     /// With one more at the end.
+    ///
+    /// # Errors
+    ///
+    /// `Memory` where memory is wanting.
     pub fn with(self, part: Part) -> Result<Exprs, Memory>
         ensures { IfOk result (λ xs. map expr xs.list.items ≡ map expr self.list.items ++ expr part.tree.value ∷ []) }
     {
@@ -200,6 +216,10 @@ impl Stmts {
     }
 
     /// With one more at the end.
+    ///
+    /// # Errors
+    ///
+    /// `Memory` where memory is wanting.
     pub fn with(self, done: Done) -> Result<Stmts, Memory>
         ensures { IfOk result (λ xs. map stmt xs.list.items ≡ map stmt self.list.items ++ stmt done.tree.value ∷ []) }
     {
@@ -224,6 +244,10 @@ impl Fields {
     }
 
     /// With one more at the end.
+    ///
+    /// # Errors
+    ///
+    /// `Memory` where memory is wanting.
     pub fn with(self, key: Name, value: Part) -> Result<Fields, Memory>
         ensures { IfOk result (λ xs.
             map field_of xs.list.items ≡ map field_of self.list.items ++ (word key, expr value.tree.value) ∷ []) }
@@ -249,6 +273,10 @@ impl Items {
     }
 
     /// With one more at the end.
+    ///
+    /// # Errors
+    ///
+    /// `Memory` where memory is wanting.
     pub fn with(self, name: Name, value: Maybe) -> Result<Items, Memory>
         ensures { IfOk result (λ xs.
             map item_of xs.list.items ≡ map item_of self.list.items ++ (word name, of_maybe_boxed value.tree) ∷ []) }
@@ -278,6 +306,10 @@ impl Clauses {
     }
 
     /// With one more at the end: a `case` with its test, or `default` with none.
+    ///
+    /// # Errors
+    ///
+    /// `Memory` where memory is wanting.
     pub fn with(self, test: Maybe, body: Stmts) -> Result<Clauses, Memory>
         ensures { IfOk result (λ xs.
             map clause_of xs.list.items

@@ -34,7 +34,7 @@ impl Drop for Stack {
 }
 
 impl Stack {
-    ghost use Rattle.std.specs.Prelude.{◌≡◌, ◌∷◌, [], OnOk};
+    ghost use Rattle.std.specs.Prelude.{◌≡◌, ◌∷◌, [], OnErr, OnOk};
     ghost use Rattle.es3_grammar.specs.Frames.{asked as asked_spec, behind_new as behind_new_spec, no_in_here};
     ghost use Rattle.es3_grammar.specs.Machine.{declares as declares_spec};
     ghost use Rattle.es3_grammar.specs.Sums as m;
@@ -62,9 +62,14 @@ impl Stack {
     }
 
     /// One more frame, within the others.
+    ///
+    /// # Errors
+    ///
+    /// `Memory` where memory is wanting.
     #[tactic(auto, using(crate::proofs::Stacks::pushed))]
     pub fn push(&mut self, frame: Frame) -> Result<(), Memory>
-        ensures { OnOk result (stack_of self.new ≡ frame_of frame ∷ stack_of self.old) }
+        ensures pushed { OnOk result (stack_of self.new ≡ frame_of frame ∷ stack_of self.old) }
+        ensures stays { OnErr result (self.new ≡ self.old) }
     {
         let sums = after(&frame, self.sums());
         self.entries.push(Entry { frame, sums })?;

@@ -42,6 +42,10 @@ impl Handler {
 
 impl Front {
     /// The head of a `for` begins with a semicolon (ES3 12.6.3).
+    ///
+    /// # Errors
+    ///
+    /// `Memory` where memory is wanting.
     pub fn none(alloc: Global) -> Result<Front, Memory>
         ensures { IfOk result (λ x. first x.tree.value ≡ placed.no_first) }
     {
@@ -50,6 +54,10 @@ impl Front {
     }
 
     /// The head of a `for` begins with variables (ES3 12.6.3).
+    ///
+    /// # Errors
+    ///
+    /// `Memory` where memory is wanting.
     #[tactic(auto, using(crate::proofs::Rows::items_mapped))]
     pub fn variables(alloc: Global, items: Items) -> Result<Front, Memory>
         ensures { IfOk result (λ x. first x.tree.value ≡ placed.first_var (items_of (map item_of items.list.items))) }
@@ -60,6 +68,10 @@ impl Front {
     }
 
     /// The head of a `for` begins with an expression (ES3 12.6.3).
+    ///
+    /// # Errors
+    ///
+    /// `Memory` where memory is wanting.
     pub fn expression(alloc: Global, part: Part) -> Result<Front, Memory>
         ensures { IfOk result (λ x. first x.tree.value ≡ placed.first_expr (expr part.tree.value)) }
     {
@@ -71,6 +83,10 @@ impl Front {
 
 impl Target {
     /// The head of a `for` .. `in` declares this variable (ES3 12.6.4).
+    ///
+    /// # Errors
+    ///
+    /// `Memory` where memory is wanting.
     pub fn variable(alloc: Global, name: Name) -> Result<Target, Memory>
         ensures { IfOk result (λ x. loop_target x.tree.value ≡ placed.loop_var (word name)) }
     {
@@ -79,6 +95,10 @@ impl Target {
     }
 
     /// The head of a `for` .. `in` writes to what this expression names (ES3 12.6.4).
+    ///
+    /// # Errors
+    ///
+    /// `Memory` where memory is wanting.
     pub fn expression(alloc: Global, part: Part) -> Result<Target, Memory>
         ensures { IfOk result (λ x. loop_target x.tree.value ≡ placed.loop_expr (expr part.tree.value)) }
     {
@@ -90,6 +110,10 @@ impl Target {
 
 impl Done {
     /// The empty statement (ES3 12.3).
+    ///
+    /// # Errors
+    ///
+    /// `Memory` where memory is wanting.
     pub fn empty(alloc: Global) -> Result<Done, Memory>
         ensures { IfOk result (λ s. stmt s.tree.value ≡ placed.empty) }
     {
@@ -97,6 +121,10 @@ impl Done {
     }
 
     /// A block (ES3 12.1).
+    ///
+    /// # Errors
+    ///
+    /// `Memory` where memory is wanting.
     #[tactic(auto, using(crate::proofs::Rows::stmts_mapped))]
     pub fn block(alloc: Global, body: Stmts) -> Result<Done, Memory>
         ensures { IfOk result (λ s. stmt s.tree.value ≡ placed.block (stmts_of (map stmt body.list.items))) }
@@ -106,6 +134,10 @@ impl Done {
     }
 
     /// A `var` (ES3 12.2).
+    ///
+    /// # Errors
+    ///
+    /// `Memory` where memory is wanting.
     #[tactic(auto, using(crate::proofs::Rows::items_mapped))]
     pub fn variables(alloc: Global, items: Items) -> Result<Done, Memory>
         ensures { IfOk result (λ s. stmt s.tree.value ≡ placed.var (items_of (map item_of items.list.items))) }
@@ -115,6 +147,10 @@ impl Done {
     }
 
     /// An `if` with no `else` (ES3 12.5).
+    ///
+    /// # Errors
+    ///
+    /// `Memory` where memory is wanting.
     #[tactic(auto, using(es3_tree::proofs::PlacedRows::placed_if))]
     pub fn branch(alloc: Global, test: Part, then: Done) -> Result<Done, Memory>
         ensures { IfOk result (λ s. stmt s.tree.value ≡ placed.branch (expr test.tree.value) (stmt then.tree.value) placed.no_stmt) }
@@ -125,6 +161,10 @@ impl Done {
     }
 
     /// An `if` with its `else` (ES3 12.5).
+    ///
+    /// # Errors
+    ///
+    /// `Memory` where memory is wanting.
     #[tactic(auto, using(es3_tree::proofs::PlacedRows::placed_if))]
     pub fn either(alloc: Global, test: Part, then: Done, otherwise: Done) -> Result<Done, Memory>
         ensures { IfOk result (λ s.
@@ -137,6 +177,10 @@ impl Done {
     }
 
     /// A `while` (ES3 12.6.2).
+    ///
+    /// # Errors
+    ///
+    /// `Memory` where memory is wanting.
     pub fn while_loop(alloc: Global, test: Part, body: Done) -> Result<Done, Memory>
         ensures { IfOk result (λ s. stmt s.tree.value ≡ placed.while_loop (expr test.tree.value) (stmt body.tree.value)) }
     {
@@ -146,6 +190,10 @@ impl Done {
     }
 
     /// A `for` whose head has three parts (ES3 12.6.3).
+    ///
+    /// # Errors
+    ///
+    /// `Memory` where memory is wanting.
     #[tactic(auto, using(es3_tree::proofs::PlacedRows::placed_for))]
     pub fn for_loop(
         alloc: Global,
@@ -171,6 +219,10 @@ impl Done {
     }
 
     /// A `for` .. `in` (ES3 12.6.4).
+    ///
+    /// # Errors
+    ///
+    /// `Memory` where memory is wanting.
     pub fn for_in(alloc: Global, target: Target, object: Part, body: Done) -> Result<Done, Memory>
         ensures { IfOk result (λ s.
             stmt s.tree.value ≡ placed.for_in (loop_target target.tree.value) (expr object.tree.value) (stmt body.tree.value)) }
@@ -182,6 +234,10 @@ impl Done {
     }
 
     /// A `break`, where `breaks`, else a `continue`, that begins at the byte `at`, with its label if it has one (ES3 12.7, 12.8).
+    ///
+    /// # Errors
+    ///
+    /// `Memory` where memory is wanting.
     pub fn jump(alloc: Global, breaks: bool, label: Option<Name>, at: u32) -> Result<Done, Memory>
         ensures { IfOk result (λ s. stmt s.tree.value ≡ jump_spec breaks (word_of label) at) }
     {
@@ -193,6 +249,10 @@ impl Done {
     }
 
     /// A `return` that begins at the byte `at`, with its value if it has one (ES3 12.9).
+    ///
+    /// # Errors
+    ///
+    /// `Memory` where memory is wanting.
     pub fn returned(alloc: Global, value: Maybe, at: u32) -> Result<Done, Memory>
         ensures { IfOk result (λ s. stmt s.tree.value ≡ placed.return (of_maybe_boxed value.tree) at) }
     {
@@ -201,6 +261,10 @@ impl Done {
     }
 
     /// A `with` that begins at the byte `at` (ES3 12.10).
+    ///
+    /// # Errors
+    ///
+    /// `Memory` where memory is wanting.
     pub fn with_object(alloc: Global, object: Part, body: Done, at: u32) -> Result<Done, Memory>
         ensures { IfOk result (λ s. stmt s.tree.value ≡ placed.with_object (expr object.tree.value) (stmt body.tree.value) at) }
     {
@@ -210,6 +274,10 @@ impl Done {
     }
 
     /// A `switch` (ES3 12.11).
+    ///
+    /// # Errors
+    ///
+    /// `Memory` where memory is wanting.
     #[tactic(auto, using(crate::proofs::Rows::cases_mapped))]
     pub fn switch(alloc: Global, value: Part, clauses: Clauses) -> Result<Done, Memory>
         ensures { IfOk result (λ s.
@@ -221,6 +289,10 @@ impl Done {
     }
 
     /// A statement with a label before it (ES3 12.12).
+    ///
+    /// # Errors
+    ///
+    /// `Memory` where memory is wanting.
     pub fn label(alloc: Global, name: Name, body: Done) -> Result<Done, Memory>
         ensures { IfOk result (λ s. stmt s.tree.value ≡ placed.label (word name) (stmt body.tree.value)) }
     {
@@ -229,6 +301,10 @@ impl Done {
     }
 
     /// A `try` with its `catch` and no `finally` (ES3 12.14).
+    ///
+    /// # Errors
+    ///
+    /// `Memory` where memory is wanting.
     #[tactic(auto, using(crate::proofs::Rows::stmts_mapped))]
     pub fn caught(alloc: Global, body: Stmts, name: Name, handler: Stmts) -> Result<Done, Memory>
         ensures { IfOk result (λ s.
@@ -240,6 +316,10 @@ impl Done {
     }
 
     /// A `try` with its `finally`, and its `catch` if it has one (ES3 12.14).
+    ///
+    /// # Errors
+    ///
+    /// `Memory` where memory is wanting.
     #[tactic(auto, using(crate::proofs::Rows::stmts_mapped))]
     pub fn finished(
         alloc: Global,
@@ -257,6 +337,10 @@ impl Done {
     }
 
     /// An expression as a statement (ES3 12.4).
+    ///
+    /// # Errors
+    ///
+    /// `Memory` where memory is wanting.
     pub fn expression(alloc: Global, value: Part) -> Result<Done, Memory>
         ensures { IfOk result (λ s. stmt s.tree.value ≡ placed.expression (expr value.tree.value)) }
     {
@@ -265,6 +349,10 @@ impl Done {
     }
 
     /// A `do` .. `while` (ES3 12.6.1).
+    ///
+    /// # Errors
+    ///
+    /// `Memory` where memory is wanting.
     pub fn do_loop(alloc: Global, body: Done, test: Part) -> Result<Done, Memory>
         ensures { IfOk result (λ s. stmt s.tree.value ≡ placed.do_loop (stmt body.tree.value) (expr test.tree.value)) }
     {
@@ -274,6 +362,10 @@ impl Done {
     }
 
     /// A `throw` (ES3 12.13).
+    ///
+    /// # Errors
+    ///
+    /// `Memory` where memory is wanting.
     pub fn thrown(alloc: Global, value: Part) -> Result<Done, Memory>
         ensures { IfOk result (λ s. stmt s.tree.value ≡ placed.throw (expr value.tree.value)) }
     {

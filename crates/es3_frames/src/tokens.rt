@@ -34,6 +34,10 @@ pub fn is_word(kind: &Kind, word: Word) -> bool
 }
 
 /// The name of these units, which begins at this byte (ES3 7.6).
+///
+/// # Errors
+///
+/// `Memory` where memory is wanting.
 pub fn named(alloc: Global, text: &Units, at: u32) -> Result<Name, Memory>
     ensures { IfOk result (λ name. word_view name ≡ placed_word text.now at) }
 {

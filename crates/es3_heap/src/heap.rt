@@ -62,6 +62,10 @@ const FIRST_PROTOS: [Option<u32>; 10] = [
 
 impl Heap {
     /// A store with the ten prototypes.
+    ///
+    /// # Errors
+    ///
+    /// `Memory` where memory is wanting.
     pub fn new(alloc: Global) -> Result<Heap, Memory>
         ensures { IfOk result (λ h. h ≡ new_objects) }
     {
@@ -201,6 +205,10 @@ impl Heap {
 
     /// Writes a value to a property (ES3 8.6.2.2). The answer is whether that may be done (8.6.2.3); where it may not,
     /// nothing is written.
+    ///
+    /// # Errors
+    ///
+    /// `Memory` where memory is wanting.
     pub fn put(&mut self, o: ObjId, k: &Units, v: Value) -> Result<bool, Memory>
         ensures answer { IfOk result (λ b. b ≡ can_put self.old o k.now) }
         ensures store { OnOk result (self.new ≡ put self.old o k.now v) }
@@ -239,6 +247,10 @@ impl Heap {
     }
 
     /// Gives a property this value and these attributes, whatever was there.
+    ///
+    /// # Errors
+    ///
+    /// `Memory` where memory is wanting; then nothing changes.
     pub fn define(&mut self, o: ObjId, k: &Units, v: Value, a: Attrs) -> Result<(), Memory>
         ensures store { OnOk result (self.new ≡ define self.old o k.now v a) }
         ensures kept { OnErr result (self.new ≡ self.old) }
@@ -309,6 +321,10 @@ impl Heap {
     }
 
     /// As `own` by the text of a number; no text is made for an array whose items were made upwards.
+    ///
+    /// # Errors
+    ///
+    /// `Memory` where memory is wanting.
     pub fn own_index(&self, o: ObjId, i: u32) -> Result<Option<(&Value, Attrs)>, Memory>
         ensures { IfOk result (λ r. own self.now o (number_units i) ≡ option_map (λ p. property (number_units i) p.0.now p.1) r) }
     {
@@ -319,6 +335,10 @@ impl Heap {
     }
 
     /// As `get` by the text of a number.
+    ///
+    /// # Errors
+    ///
+    /// `Memory` where memory is wanting.
     pub fn get_index(&self, o: ObjId, i: u32) -> Result<&Value, Memory>
         ensures { IfOk result (λ v. v.now ≡ get self.now o (number_units i)) }
     {
@@ -329,6 +349,10 @@ impl Heap {
     }
 
     /// As `put` by the text of a number.
+    ///
+    /// # Errors
+    ///
+    /// `Memory` where memory is wanting; then nothing changes.
     pub fn put_index(&mut self, o: ObjId, i: u32, v: Value) -> Result<bool, Memory>
         ensures answer { IfOk result (λ b. b ≡ can_put self.old o (number_units i)) }
         ensures store { OnOk result (self.new ≡ put self.old o (number_units i) v) }
@@ -372,6 +396,10 @@ impl Heap {
     }
 
     /// As `delete` by the text of a number.
+    ///
+    /// # Errors
+    ///
+    /// `Memory` where memory is wanting; then nothing changes.
     pub fn delete_index(&mut self, o: ObjId, i: u32) -> Result<bool, Memory>
         ensures answer { IfOk result (λ b. b ≡ can_delete self.old o (number_units i)) }
         ensures store { OnOk result (self.new ≡ delete self.old o (number_units i)) }
@@ -391,6 +419,10 @@ impl Heap {
     }
 
     /// All own keys of an object, whatever their attributes, in the order in which the properties were made.
+    ///
+    /// # Errors
+    ///
+    /// `Memory` where memory is wanting.
     pub fn own_keys(&self, o: ObjId) -> Result<Vec<Units>, Memory>
         ensures { IfOk result (λ v. v.items ≡ own_keys self.now o) }
     {
@@ -427,6 +459,10 @@ impl Heap {
 
     /// The keys that `for in` visits (ES3 12.6.4): those of the object without DontEnum, in the order in which the properties
     /// were made, then those of the prototypes above it, but none that an object below has.
+    ///
+    /// # Errors
+    ///
+    /// `Memory` where memory is wanting.
     pub fn keys(&self, o: ObjId) -> Result<Vec<Units>, Memory>
         ensures { IfOk result (λ v. v.items ≡ keys self.now o) }
     {
@@ -502,6 +538,10 @@ impl Heap {
     }
 
     /// A new object that is no function; an array has the length 0, and the others have no properties.
+    ///
+    /// # Errors
+    ///
+    /// `Memory` where memory is wanting; then nothing changes.
     pub fn make(&mut self, class: Class, proto: Option<ObjId>) -> Result<ObjId, Memory>
         ensures id { IfOk result (λ o. o ≡ length self.old.list) }
         ensures store { OnOk result (self.new ≡ made class proto self.old) }
@@ -513,6 +553,10 @@ impl Heap {
     }
 
     /// A new function without properties (ES3 13.2), with what a call of it runs and the module that makes it.
+    ///
+    /// # Errors
+    ///
+    /// `Memory` where memory is wanting; then nothing changes.
     pub fn make_func(&mut self, kind: FuncKind, maker: u32) -> Result<ObjId, Memory>
         ensures id { IfOk result (λ o. o ≡ length self.old.list) }
         ensures store { OnOk result (self.new ≡ made_function kind maker self.old) }
@@ -530,6 +574,10 @@ impl Heap {
     }
 
     /// A new array of these items (ES3 11.1.4, 15.4.2.1).
+    ///
+    /// # Errors
+    ///
+    /// `Memory` where memory is wanting; then nothing changes.
     pub fn make_array(&mut self, items: Vec<Value>) -> Result<ObjId, Memory>
         ensures id { IfOk result (λ o. o ≡ length self.old.list) }
         ensures store { OnOk result (self.new ≡ with_object self.old (array_object items.items)) }
@@ -542,6 +590,10 @@ impl Heap {
 
     /// Gives an array these items in the place of those that it had (ES3 15.4.5.1): one past the new length goes, the others
     /// keep their places among the properties, and new ones go last. After want of memory its items are not known.
+    ///
+    /// # Errors
+    ///
+    /// `Memory` where memory is wanting.
     pub fn set_items(&mut self, o: ObjId, items: Vec<Value>) -> Result<(), Memory>
         ensures store { OnOk result (self.new ≡ set_items self.old o items.items) }
         ensures live { length self.new.list ≡ length self.old.list }
@@ -565,6 +617,10 @@ impl Heap {
     }
 
     /// Copies of the items of an array, in their order; a hole is undefined. There is no memory for 2^32 items or more.
+    ///
+    /// # Errors
+    ///
+    /// `Memory` where memory is wanting, or there are 2^32 items or more.
     pub fn items(&self, o: ObjId) -> Result<Vec<Value>, Memory>
         ensures { IfOk result (λ v. v.items ≡ array_items self.now o) }
     {
@@ -576,6 +632,10 @@ impl Heap {
 
     /// Gives an array these items behind those that it has (ES3 15.4.4.7); a hole is filled by undefined. Where the array has nothing
     /// but items in their order, only the new ones are gone through. After want of memory its items are not known.
+    ///
+    /// # Errors
+    ///
+    /// `Memory` where memory is wanting.
     pub fn append_items(&mut self, o: ObjId, items: Vec<Value>) -> Result<(), Memory>
         ensures store { OnOk result (self.new ≡ append_items self.old o items.items) }
         ensures live { length self.new.list ≡ length self.old.list }
@@ -593,6 +653,10 @@ impl Heap {
     /// Takes the last item of an array away (ES3 15.4.4.6), and answers it, or None where there is none; a hole before it is filled
     /// by undefined. Where the array has nothing but items in their order, the others are not gone through. After want of memory the
     /// items are not known.
+    ///
+    /// # Errors
+    ///
+    /// `Memory` where memory is wanting.
     pub fn take_last(&mut self, o: ObjId) -> Result<Option<Value>, Memory>
         ensures answer { IfOk result (λ r. r ≡ last_item self.old o) }
         ensures store { OnOk result (self.new ≡ without_last self.old o) }
@@ -607,6 +671,10 @@ impl Heap {
     }
 
     /// A new error with its name and message (ES3 15.11).
+    ///
+    /// # Errors
+    ///
+    /// `Memory` where memory is wanting; then nothing changes.
     pub fn make_error(&mut self, proto: Proto, name: Units, message: Units) -> Result<ObjId, Memory>
         ensures id { IfOk result (λ o. o ≡ length self.old.list) }
         ensures store { OnOk result (self.new ≡ with_object self.old (error_object proto name message)) }

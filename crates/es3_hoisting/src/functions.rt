@@ -12,6 +12,10 @@ use std::alloc::Global;
 use std::rc::Rc;
 
 /// The functions that the statements of a body declare, in their order (ES3 13).
+///
+/// # Errors
+///
+/// `Memory` where memory is wanting.
 pub fn functions_of(alloc: Global, body: &[Rc<StmtCode>]) -> Result<Vec<Rc<FuncCode>>, Memory>
     ensures { IfOk result (λ fs. funcs_of fs.items ≡ hoisting.functions_of (plain_stmts body.now)) }
 {
@@ -33,6 +37,10 @@ fn push_function(functions: &mut Vec<Rc<FuncCode>>, s: &StmtCode) -> Result<(), 
 }
 
 /// The name that a function is declared by (ES3 13): of no units where it has none.
+///
+/// # Errors
+///
+/// `Memory` where memory is wanting.
 pub fn declared_name(alloc: Global, function: &FuncCode) -> Result<Rc<Units>, Memory>
     ensures { IfOk result (λ x. x.value ≡ hoisting.declared_name (plain_func function.now)) }
 {

@@ -15,6 +15,10 @@ use std::rc::Rc;
 type Names = Vec<Rc<Units>>;
 
 /// The names that the statements of a body declare by `var`, also within statements (ES3 12.2).
+///
+/// # Errors
+///
+/// `Memory` where memory is wanting.
 pub fn vars_of(alloc: Global, body: &[Rc<StmtCode>]) -> Result<Vec<Rc<Units>>, Memory>
     ensures { IfOk result (λ names. names_of names.items ≡ hoisting.vars_of (plain_stmts body.now)) }
 {
@@ -24,6 +28,10 @@ pub fn vars_of(alloc: Global, body: &[Rc<StmtCode>]) -> Result<Vec<Rc<Units>>, M
 }
 
 /// The names that a function's body declares by `var`: `arguments` is no new one (ES3 10.1.6).
+///
+/// # Errors
+///
+/// `Memory` where memory is wanting.
 pub fn own_vars(
     alloc: Global,
     body: &[Rc<StmtCode>],

@@ -121,6 +121,10 @@ fn cut_text(alloc: Global, text: &str) -> Result<Vec<Token>, LexError>
 ///
 /// A source that is longer than its limit is refused first, then one that is not UTF-8; the other refusals come from left to
 /// right. A byte order mark at the very beginning is skipped, and its bytes count in every place.
+///
+/// # Errors
+///
+/// A variant of `LexError` with the byte where the source is refused, and `LexError::Memory` where memory is wanting.
 pub fn tokens(alloc: Global, source: &[u8], limit: usize) -> Result<Tokens, LexError>
     requires { length source.now < 2 ^ 32 }
     ensures { Cuts result source.now (cut limit source.now) }

@@ -19,6 +19,10 @@ use std::alloc::Global;
 use std::rc::Rc;
 
 /// Statements in order.
+///
+/// # Errors
+///
+/// `Memory` where memory is wanting.
 pub fn load_stmts(alloc: Global, ss: Vec<Stmt>) -> Result<Rc<Vec<Rc<StmtCode>>>, Memory>
     ensures { IfOk result (λ c. plain_stmts c.value.items ≡ v.of_stmts ss.items) }
 {

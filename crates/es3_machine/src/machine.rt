@@ -55,6 +55,10 @@ impl Model for Machine {
 
 impl Machine {
     /// A machine whose texts have a global object (ES3 10.1.5). Nothing is started.
+    ///
+    /// # Errors
+    ///
+    /// `Memory` where memory is wanting.
     pub fn new(alloc: Global, globals: ObjId) -> Result<Machine, Memory>
         ensures nothing { IfOk result (λ m. started_of m ≡ None) }
         ensures store { IfOk result (λ m. (h : Objects) → store_in h m ≡ new_store h globals) }
@@ -73,6 +77,10 @@ impl Machine {
     }
 
     /// Starts a program as a module, in place of what was started before and not run (ES3 14).
+    ///
+    /// # Errors
+    ///
+    /// `Memory` where memory is wanting; then nothing changes.
     pub fn start_program(&mut self, p: Program, by: u32) -> Result<(), Memory>
         ensures started { OnOk result (started_of self.new ≡ Some (a_program (v.program p) by)) }
         ensures kept { OnErr result (started_of self.new ≡ started_of self.old) }
@@ -95,6 +103,10 @@ impl Machine {
 
     /// Runs what was started, with so many steps at most. The answer is what it came to and the steps that it took, or
     /// why it stopped for good; after it nothing is started. Where memory is wanting, nothing is told of the run but that no object is gone.
+    ///
+    /// # Errors
+    ///
+    /// `Stop::Number`, `Stop::Depth` or `Stop::Convert` where the run is stopped by a fault, `Stop::Steps` where the steps are spent, and `Stop::Memory` where memory is wanting.
     pub fn run<N: Natives>(
         &mut self,
         h: &mut Heap,

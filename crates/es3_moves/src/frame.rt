@@ -37,6 +37,10 @@ pub struct Env {
 
 impl Env {
     /// A place in an execution context.
+    ///
+    /// # Errors
+    ///
+    /// `Memory` where memory is wanting.
     pub fn new(alloc: Global, context: Context) -> Result<Env, Memory>
         ensures { IfOk result (λ e. plain_env e ≡ plain_context context) }
     {
@@ -73,6 +77,10 @@ impl Env {
     }
 
     /// The same place once more.
+    ///
+    /// # Errors
+    ///
+    /// `Memory` where memory is wanting.
     pub fn copy(&self) -> Result<Env, Memory>
         ensures { IfOk result (λ e. plain_env e ≡ plain_env self.now) }
     {
@@ -81,6 +89,10 @@ impl Env {
     }
 
     /// The same place in other scopes.
+    ///
+    /// # Errors
+    ///
+    /// `Memory` where memory is wanting.
     pub fn within(&self, alloc: Global, chain: Rc<Chain>) -> Result<Env, Memory>
         ensures { IfOk result (λ e. plain_env e ≡ with_chain (plain_env self.now) (plain_chain chain.value)) }
     {

@@ -57,6 +57,10 @@ pub trait Natives {
         ensures live { length h.old.list ≤ length h.new.list };
 
     /// A touch of an object with a name, by the module `by`, at a key where there is one.
+    ///
+    /// # Errors
+    ///
+    /// `Memory` where memory is wanting.
     fn touch(
         &mut self,
         alloc: Global,

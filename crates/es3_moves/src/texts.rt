@@ -66,6 +66,10 @@ impl Names {
     }
 
     /// A value for a name, in the place of the one that it had, or bound last.
+    ///
+    /// # Errors
+    ///
+    /// `Memory` where memory is wanting.
     pub fn put(&mut self, name: &Rc<Units>, value: Value) -> Result<(), Memory>
         ensures { OnOk result (self.new ≡ with_name name.now.value value self.old) }
     {
@@ -73,6 +77,10 @@ impl Names {
     }
 
     /// Binds a declared name that isn't bound yet, as undefined (ES3 10.1.3).
+    ///
+    /// # Errors
+    ///
+    /// `Memory` where memory is wanting.
     pub fn declare(&mut self, name: &Rc<Units>) -> Result<(), Memory>
         ensures { OnOk result (self.new ≡ with_vars (name.now.value ∷ []) self.old) }
     {
@@ -188,6 +196,10 @@ impl Texts {
     ghost use Rattle.es3_moves.specs.Where.{plain_chain};
 
     /// Nothing yet but a global object.
+    ///
+    /// # Errors
+    ///
+    /// `Memory` where memory is wanting.
     pub fn new(alloc: Global, globals: ObjId) -> Result<Texts, Memory>
         ensures globals { IfOk result (λ t. t.globals ≡ globals) }
         ensures scopes { IfOk result (λ t. plain_scopes t ≡ []) }
@@ -235,6 +247,10 @@ impl Texts {
     }
 
     /// A value for a name in the scope of a number.
+    ///
+    /// # Errors
+    ///
+    /// `Memory` where memory is wanting.
     pub fn put(&mut self, c: u32, name: &Rc<Units>, value: Value) -> Result<(), Memory>
         ensures scopes { OnOk result (plain_scopes self.new ≡ slice_set (plain_scopes self.old) c (renamed (slice_get (plain_scopes self.old) c) (with_name name.now.value value (scope_at (slice_get (plain_scopes self.old) c))))) }
         ensures functions { self.new.codes ≡ self.old.codes }
@@ -250,6 +266,10 @@ impl Texts {
     }
 
     /// Keeps a function, and gives its number.
+    ///
+    /// # Errors
+    ///
+    /// `Memory` where memory is wanting, or there would be more than 2^32 - 2 functions.
     pub fn make_code(&mut self, code: Closure) -> Result<u32, Memory>
         ensures number { IfOk result (λ n. n ≡ length (plain_codes self.old)) }
         ensures functions { OnOk result (plain_codes self.new ≡ plain_codes self.old ++ plain_code code ∷ []) }
@@ -266,6 +286,10 @@ impl Texts {
     }
 
     /// Keeps a new scope, the innermost of a chain.
+    ///
+    /// # Errors
+    ///
+    /// `Memory` where memory is wanting, or there would be more than 2^32 - 2 scopes.
     pub fn open_scope(
         &mut self,
         alloc: Global,

@@ -15,6 +15,10 @@ use es3_moves::texts::Texts;
 use std::alloc::Global;
 
 /// What follows a list of statements, by how they ended.
+///
+/// # Errors
+///
+/// `Memory` where memory is wanting.
 pub fn close(alloc: Global, end: End, flow: Flow, texts: &mut Texts) -> Result<Move, Memory>
     ensures plan { IfOk result (λ x. (h : Objects) → move_plan x (store_of h texts.new) ≡ end_plan end (plain_flow flow) (store_of h texts.old)) }
     ensures small { IfOk result (λ x. size x < 18 + end_size end) }

@@ -20,6 +20,10 @@ use std::alloc::Global;
 use std::rc::Rc;
 
 /// The next statement of a list, or what follows the list (ES3 12.1).
+///
+/// # Errors
+///
+/// `Memory` where memory is wanting.
 #[tactic(auto, using(es3_endings::proofs::Places::stmts_more, es3_endings::proofs::Places::stmts_end))]
 pub fn next_statement(
     alloc: Global,
@@ -46,6 +50,10 @@ pub fn next_statement(
 
 /// What follows a statement of a list: the rest of the list, or what follows the list where the statement jumps (ES3 12.1). A
 /// jump takes the value so far along.
+///
+/// # Errors
+///
+/// `Memory` where memory is wanting.
 pub fn after_statement(
     alloc: Global,
     xs: Rc<Vec<Rc<StmtCode>>>,

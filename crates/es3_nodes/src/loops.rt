@@ -14,6 +14,10 @@ use es3_heap::Value;
 use es3_moves::frame::{Effect, Flow, Frame, Looping, Move, Task};
 
 /// The body of a loop, and what follows it.
+///
+/// # Errors
+///
+/// `Memory` where memory is wanting.
 pub fn begin_body(l: Box<Looping>) -> Result<Move, Memory>
     ensures plan { IfOk result (λ x. (s : Store) → move_plan x s ≡ st.loop_body (plain_loop l.value) l.value.acc (plain_labels l.value.labels.value) (plain_env l.value.env) s) }
     ensures small { IfOk result (λ x. size x < 18) }
@@ -24,6 +28,10 @@ pub fn begin_body(l: Box<Looping>) -> Result<Move, Memory>
 }
 
 /// The test of a loop, or its body where it has none.
+///
+/// # Errors
+///
+/// `Memory` where memory is wanting.
 pub fn begin_test(l: Box<Looping>) -> Result<Move, Memory>
     ensures plan { IfOk result (λ x. (s : Store) → move_plan x s ≡ st.at_test (plain_loop l.value) l.value.acc (plain_labels l.value.labels.value) (plain_env l.value.env) s) }
     ensures small { IfOk result (λ x. size x < 18) }
@@ -39,6 +47,10 @@ pub fn begin_test(l: Box<Looping>) -> Result<Move, Memory>
 }
 
 /// What is done with the value of a loop's test.
+///
+/// # Errors
+///
+/// `Memory` where memory is wanting.
 pub fn tested(v: &Value, mut l: Box<Looping>) -> Result<Move, Memory>
     ensures plan { IfOk result (λ x. (s : Store) → move_plan x s ≡ st.loop_test (plain_loop l.value) l.value.acc (plain_labels l.value.labels.value) (plain_env l.value.env) v.now s) }
     ensures small { IfOk result (λ x. size x < 24) }
@@ -51,6 +63,10 @@ pub fn tested(v: &Value, mut l: Box<Looping>) -> Result<Move, Memory>
 }
 
 /// The first node of a later turn of a loop, and what follows it: what is done after a turn, or else the test, or else the body.
+///
+/// # Errors
+///
+/// `Memory` where memory is wanting.
 pub fn first_node(l: Box<Looping>) -> Result<Move, Memory>
     ensures plan { IfOk result (λ x. IsFirst l.value x) }
     ensures small { IfOk result (λ x. size x < 18) }

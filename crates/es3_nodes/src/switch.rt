@@ -19,6 +19,10 @@ use es3_moves::frame::{Effect, End, Env, Flow, Frame, Labels, Move, Task};
 use std::rc::Rc;
 
 /// What follows a clause: the statements of those behind it, where it came to its end.
+///
+/// # Errors
+///
+/// `Memory` where memory is wanting.
 #[tactic(auto, using(crate::proofs::Clauses::carried_none))]
 pub fn after_clause(
     cs: Rc<Vec<CaseCode>>,
@@ -37,6 +41,10 @@ pub fn after_clause(
 }
 
 /// The statements of the clauses from a place on, one clause after another.
+///
+/// # Errors
+///
+/// `Memory` where memory is wanting.
 #[tactic(auto, using(crate::proofs::Clauses::bodies_none, crate::proofs::Clauses::bodies_some))]
 pub fn next_body(
     cs: Rc<Vec<CaseCode>>,
@@ -62,6 +70,10 @@ pub fn next_body(
 }
 
 /// The clauses from a place on, of which the first with the value counts; where none has it, those from the `default` on.
+///
+/// # Errors
+///
+/// `Memory` where memory is wanting.
 #[tactic(auto, using(crate::proofs::Clauses::find_none, crate::proofs::Clauses::find_some))]
 pub fn find_case(
     v: Value,
@@ -90,6 +102,10 @@ pub fn find_case(
 }
 
 /// What is done with the value of a clause's expression: the clause counts where that is the value looked for.
+///
+/// # Errors
+///
+/// `Memory` where memory is wanting.
 pub fn after_test(
     v: Value,
     cs: Rc<Vec<CaseCode>>,

@@ -23,6 +23,10 @@ fn write_items(props: &mut Properties, start: u32, items: Vec<Value>) -> Result<
 
 impl Properties {
     /// Gives an array's properties these items in the place of those that it had. There is no memory for 2^32 items or more.
+    ///
+    /// # Errors
+    ///
+    /// `Memory` where memory is wanting, or there are 2^32 items or more.
     pub fn set_items(&mut self, length_key: &Units, items: Vec<Value>) -> Result<(), Memory>
         requires { length_key.now ≡ codes "length" }
         ensures { OnOk result (self.new ≡ items_set items.items self.old) }
@@ -49,6 +53,10 @@ impl Properties {
     }
 
     /// Copies of the items of an array, in their order; a hole is undefined. There is no memory for 2^32 items or more.
+    ///
+    /// # Errors
+    ///
+    /// `Memory` where memory is wanting, or there are 2^32 items or more.
     pub fn items(&self, alloc: Global, length_key: &Units) -> Result<Vec<Value>, Memory>
         requires { length_key.now ≡ codes "length" }
         ensures { IfOk result (λ v. v.items ≡ values_in self.now) }
@@ -87,6 +95,10 @@ impl Properties {
 
     /// Gives an array these items behind those that it has (ES3 15.4.4.7); a hole is filled by undefined. There is no memory for 2^32
     /// items or more. Where the array has nothing but items in their order, only the new ones are gone through.
+    ///
+    /// # Errors
+    ///
+    /// `Memory` where memory is wanting, or there are 2^32 items or more.
     pub fn append_items(
         &mut self,
         alloc: Global,
@@ -131,6 +143,10 @@ impl Properties {
 
     /// Takes the last item of an array away (ES3 15.4.4.6), and answers it, or None where there is none; a hole before it is filled
     /// by undefined. Where the array has nothing but items in their order, the others are not gone through.
+    ///
+    /// # Errors
+    ///
+    /// `Memory` where memory is wanting.
     pub fn take_last(&mut self, alloc: Global, length_key: &Units) -> Result<Option<Value>, Memory>
         requires { length_key.now ≡ codes "length" }
         ensures answer { IfOk result (λ r. r ≡ last_value self.old) }

@@ -66,6 +66,10 @@ impl Object {
     }
 
     /// An object that is no function; an array has the length 0.
+    ///
+    /// # Errors
+    ///
+    /// `Memory` where memory is wanting.
     pub fn plain(alloc: Global, class: Class, proto: Option<ObjId>) -> Result<Object, Memory>
         ensures { IfOk result (λ o. o ≡ plain_object class proto) }
     {
@@ -83,6 +87,10 @@ impl Object {
     }
 
     /// An array of these items (ES3 11.1.4, 15.4.2.1). There is no memory for 2^32 items or more.
+    ///
+    /// # Errors
+    ///
+    /// `Memory` where memory is wanting, or there are 2^32 items or more.
     pub fn array(alloc: Global, items: Vec<Value>) -> Result<Object, Memory>
         ensures { IfOk result (λ o. o ≡ array_object items.items) }
     {
@@ -100,6 +108,10 @@ impl Object {
     }
 
     /// An error with its name and message (ES3 15.11).
+    ///
+    /// # Errors
+    ///
+    /// `Memory` where memory is wanting.
     pub fn error(
         alloc: Global,
         length_key: &Units,
@@ -125,6 +137,10 @@ impl Object {
     }
 
     /// Writes a property that may be written (ES3 8.6.2.2, 15.4.5.1).
+    ///
+    /// # Errors
+    ///
+    /// `Memory` where memory is wanting; then nothing changes.
     pub fn put(&mut self, length_key: &Units, key: &Units, value: Value) -> Result<(), Memory>
         requires { length_key.now ≡ codes "length" }
         ensures ok { OnOk result (self.new ≡ record self.old { props = lengthened self.old.class key.now (written key.now value self.old.props) }) }
@@ -138,6 +154,10 @@ impl Object {
     }
 
     /// Writes the property of an index that may be written (ES3 8.6.2.2, 15.4.5.1).
+    ///
+    /// # Errors
+    ///
+    /// `Memory` where memory is wanting; then nothing changes.
     pub fn put_item(&mut self, length_key: &Units, i: u32, value: Value) -> Result<(), Memory>
         requires name { length_key.now ≡ codes "length" }
         requires index { i < 4294967295 }

@@ -126,6 +126,10 @@ impl Properties {
     }
 
     /// The length and the items of an array.
+    ///
+    /// # Errors
+    ///
+    /// `Memory` where memory is wanting.
     pub fn of_array(alloc: Global, items: Vec<Value>) -> Result<Properties, Memory>
         requires { length items.items < 4294967296 }
         ensures { IfOk result (λ p. p ≡ length_property (length items.items) ∷ item_properties 0 items.items) }
@@ -173,6 +177,10 @@ impl Properties {
     }
 
     /// Writes a value to the property of a key, or makes a new one without attributes, the last.
+    ///
+    /// # Errors
+    ///
+    /// `Memory` where memory is wanting; then nothing changes.
     pub fn write(&mut self, length_key: &Units, k: &Units, value: Value) -> Result<(), Memory>
         requires { length_key.now ≡ codes "length" }
         ensures ok { OnOk result (self.new ≡ written k.now value self.old) }
@@ -183,6 +191,10 @@ impl Properties {
     }
 
     /// Gives the property of a key this value and these attributes, or makes a new one, the last.
+    ///
+    /// # Errors
+    ///
+    /// `Memory` where memory is wanting; then nothing changes.
     pub fn define(
         &mut self,
         length_key: &Units,
@@ -207,6 +219,10 @@ impl Properties {
     }
 
     /// What stands at an index.
+    ///
+    /// # Errors
+    ///
+    /// `Memory` where memory is wanting.
     pub fn find_item(&self, i: u32) -> Result<Option<&Held>, Memory>
         requires { i < 4294967295 }
         ensures { IfOk result (λ r. find (number_units i) self.now ≡ option_map (λ f. property (number_units i) f.value f.attrs) (option_copied r)) }
@@ -216,6 +232,10 @@ impl Properties {
     }
 
     /// Gives the item of an index this value and these attributes, or makes a new one, the last.
+    ///
+    /// # Errors
+    ///
+    /// `Memory` where memory is wanting; then nothing changes.
     pub fn define_item(&mut self, i: u32, value: Value, attrs: Attrs) -> Result<(), Memory>
         requires { i < 4294967295 }
         ensures ok { OnOk result (self.new ≡ defined (number_units i) value attrs self.old) }
@@ -228,6 +248,10 @@ impl Properties {
     }
 
     /// Writes a value to the item of an index, or makes a new one without attributes, the last.
+    ///
+    /// # Errors
+    ///
+    /// `Memory` where memory is wanting; then nothing changes.
     pub fn write_item(&mut self, i: u32, value: Value) -> Result<(), Memory>
         requires { i < 4294967295 }
         ensures ok { OnOk result (self.new ≡ written (number_units i) value self.old) }
@@ -239,6 +263,10 @@ impl Properties {
     }
 
     /// Takes the item of an index away, unless it is DontDelete (ES3 8.6.2.5). The answer is false exactly there.
+    ///
+    /// # Errors
+    ///
+    /// `Memory` where memory is wanting; then nothing changes.
     pub fn delete_item(&mut self, i: u32) -> Result<bool, Memory>
         requires { i < 4294967295 }
         ensures answer { IfOk result (λ b. b ≡ may_delete (find (number_units i) self.old)) }
@@ -363,6 +391,10 @@ impl Properties {
     }
 
     /// The keys in order, each with the attributes of its property.
+    ///
+    /// # Errors
+    ///
+    /// `Memory` where memory is wanting.
     pub fn names(&self, alloc: Global, length_key: &Units) -> Result<Vec<Name>, Memory>
         requires { length_key.now ≡ codes "length" }
         ensures { IfOk result (λ v. v.items ≡ names_of self.now) }

@@ -53,6 +53,10 @@ pub enum Value {
 
 impl Value {
     /// The same value once more: a text is copied, an object is shared.
+    ///
+    /// # Errors
+    ///
+    /// `Memory` where memory is wanting.
     pub fn copy(&self, alloc: Global) -> Result<Value, Memory>
         ensures { IfOk result (λ v. v ≡ self.now) }
     {

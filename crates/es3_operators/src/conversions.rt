@@ -31,6 +31,10 @@ fn settled<T: Drop>(r: Result<T, Stop>) -> Result<Result<T, Fault>, Memory>
 }
 
 /// The number of a value, or the fault that stops the run (ES3 9.3).
+///
+/// # Errors
+///
+/// `Memory` where memory is wanting.
 #[tactic(auto, using(crate::proofs::Stopping::takes_no_steps, crate::proofs::Stopping::settles))]
 pub fn number_of(alloc: Global, v: &Value, h: &Heap) -> Result<Result<Whole, Fault>, Memory>
     ensures { IfOk result (λ r. plain_result r ≡ number_of h.now v.now) }
@@ -39,6 +43,10 @@ pub fn number_of(alloc: Global, v: &Value, h: &Heap) -> Result<Result<Whole, Fau
 }
 
 /// The key that a value names, or the fault that stops the run (ES3 9.8).
+///
+/// # Errors
+///
+/// `Memory` where memory is wanting.
 #[tactic(auto, using(crate::proofs::Stopping::takes_no_steps, crate::proofs::Stopping::settles))]
 pub fn key_of(alloc: Global, v: &Value, h: &Heap) -> Result<Result<Units, Fault>, Memory>
     ensures { IfOk result (λ r. plain_result r ≡ text_of h.now v.now) }

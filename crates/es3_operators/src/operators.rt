@@ -15,6 +15,10 @@ use es3_tree::BinOp;
 use std::alloc::Global;
 
 /// What `a op b` gives (ES3 11.5 to 11.10).
+///
+/// # Errors
+///
+/// `Memory` where memory is wanting.
 pub fn operate(alloc: Global, op: BinOp, a: &Value, b: &Value, h: &Heap) -> Result<Given, Memory>
     ensures { IfOk result (λ g. plain_given g ≡ o.operate op h.now a.now b.now) }
 {

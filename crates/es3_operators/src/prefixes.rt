@@ -45,6 +45,10 @@ fn on_number(alloc: Global, sign: Sign, v: &Value, h: &Heap) -> Result<Given, Me
 }
 
 /// What `op v` gives for a value (ES3 11.4.2, 11.4.6 to 11.4.9).
+///
+/// # Errors
+///
+/// `Memory` where memory is wanting.
 pub fn convert(alloc: Global, op: Prefix, v: &Value, h: &Heap) -> Result<Given, Memory>
     ensures { IfOk result (λ g. plain_given g ≡ o.convert (plain_prefix op) h.now v.now) }
 {
@@ -58,6 +62,10 @@ pub fn convert(alloc: Global, op: Prefix, v: &Value, h: &Heap) -> Result<Given, 
 }
 
 /// The name of the type of a value (ES3 11.4.3).
+///
+/// # Errors
+///
+/// `Memory` where memory is wanting.
 pub fn type_name(alloc: Global, v: &Value, h: &Heap) -> Result<Units, Memory>
     ensures { IfOk result (λ x. x ≡ o.type_name h.now v.now) }
 {

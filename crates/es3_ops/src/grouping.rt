@@ -64,6 +64,10 @@ impl Ops {
     ghost use Rattle.es3_ops.specs.Listed.{front_of, last_of, front_with};
 
     /// The first operand alone.
+    ///
+    /// # Errors
+    ///
+    /// None: empty lists take no memory.
     pub fn new(alloc: Global, first: Expr) -> Result<Ops, Memory>
         ensures { IsOkAnd result (λ o. (front_of o ≡ []) × (last_of o ≡ Some (expr first))) }
     {
@@ -98,6 +102,10 @@ impl Ops {
     }
 
     /// The operand behind the last operator.
+    ///
+    /// # Errors
+    ///
+    /// None: it takes no memory.
     pub fn part(&mut self, part: Expr) -> Result<(), Memory>
         requires { IsNone (last_of self.old) }
         ensures succeeds { IsOk result }
@@ -109,6 +117,10 @@ impl Ops {
     }
 
     /// The tree of the list, in which what binds alike is grouped from the left (ES3 11.5 to 11.11).
+    ///
+    /// # Errors
+    ///
+    /// `Memory` where memory is wanting.
     pub fn finish(self) -> Result<Expr, Memory>
         requires { IsSome (last_of self) }
         ensures { IfOk result (λ t. (x : E) → last_of self ≡ Some x → Grouped 3 (front_of self) x (expr t)) }

@@ -155,6 +155,10 @@ fn tokens_from(tokens: &[Token], at: usize) -> &[Token]
 /// than twice as many brackets are open. What stands behind it is of no matter: an error comes only where no front of those tokens is
 /// such an expression, and it is then that of the first token from which none goes on. At the end of the tokens and past it no expression
 /// begins, which is told at the source's end.
+///
+/// # Errors
+///
+/// `ReadError::Syntax` with the byte where no expression goes on, `ReadError::TooDeep` where only ones go on that nest too deep, and `ReadError::Memory` where memory is wanting.
 pub fn read_expr(
     alloc: Global,
     tokens: &Tokens,

@@ -88,6 +88,10 @@ fn print_piece<'a>(
 }
 
 /// The text of a program (ES3 11 to 14), in UTF-8, or `Memory` where memory is wanting. It is ASCII where each name is.
+///
+/// # Errors
+///
+/// `Memory` where memory is wanting.
 pub fn print_program(alloc: Global, p: &Program) -> Result<Vec<u8>, Memory>
     ensures { IfOk result (λ text. text.items ≡ printed (program p.now)) }
 {

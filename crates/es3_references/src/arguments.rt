@@ -79,6 +79,10 @@ fn put_shared(
 }
 
 /// A value for a name of the scope of a number; the own name of a function expression isn't written.
+///
+/// # Errors
+///
+/// `Memory` where memory is wanting.
 pub fn write_slot(
     alloc: Global,
     c: u32,
@@ -125,6 +129,10 @@ fn parameter_of<'a>(object: ObjId, key: &Units, texts: &'a Texts) -> Option<(u32
 }
 
 /// A value for a member of an object (ES3 8.6.2.2, 10.1.8).
+///
+/// # Errors
+///
+/// `Memory` where memory is wanting.
 pub fn put_member(
     alloc: Global,
     object: ObjId,
@@ -362,6 +370,10 @@ fn shared_items(
 
 /// Makes the arguments object of an activation, which is the next object, and binds it to its name, unless the name is bound
 /// by now.
+///
+/// # Errors
+///
+/// `Memory` where memory is wanting.
 pub fn make_arguments(alloc: Global, c: u32, h: &mut Heap, texts: &mut Texts) -> Result<(), Memory>
     ensures store { OnOk result (store_of h.new texts.new ≡ a.with_arguments c (store_of h.old texts.old)) }
     ensures live { length h.old.list ≤ length h.new.list }

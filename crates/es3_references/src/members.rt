@@ -26,6 +26,10 @@ pub fn member_of(base: Value, key: Rc<Units>) -> Option<Ref>
 }
 
 /// A copy of the value of a member (ES3 8.6.2.1, 9.9, 15.5.5.1).
+///
+/// # Errors
+///
+/// `Memory` where memory is wanting.
 pub fn get_member(alloc: Global, base: &Value, key: &Units, h: &Heap) -> Result<Value, Memory>
     ensures { IfOk result (λ v. v ≡ r.get_member h.now base.now key.now) }
 {

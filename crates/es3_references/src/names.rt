@@ -110,6 +110,10 @@ fn resolve_arguments(chain: &Chain, h: &Heap, texts: &Texts) -> Result<Ref, Memo
 }
 
 /// What a name stands for where a chain of scopes is around it.
+///
+/// # Errors
+///
+/// `Memory` where memory is wanting.
 pub fn reference(chain: &Chain, name: &Rc<Units>, h: &Heap, texts: &Texts) -> Result<Ref, Memory>
     ensures { IfOk result (λ x. plain_ref x ≡ r.reference (plain_chain chain.now) (store_of h.now texts.now) name.now.value) }
 {

@@ -17,6 +17,10 @@ use std::alloc::Global;
 
 /// A copy of the value of a reference, and none exactly for a name that no scope has and for an arguments object that isn't
 /// made yet.
+///
+/// # Errors
+///
+/// `Memory` where memory is wanting.
 pub fn read(
     alloc: Global,
     reference: &Ref,
@@ -47,6 +51,10 @@ fn read_slot(alloc: Global, c: u32, name: &Units, texts: &Texts) -> Result<Optio
 }
 
 /// The receiver of a call of a reference (ES3 11.2.3).
+///
+/// # Errors
+///
+/// `Memory` where memory is wanting.
 pub fn base_of(alloc: Global, reference: &Ref) -> Result<Value, Memory>
     ensures { IfOk result (λ v. v ≡ r.base_of (plain_ref reference.now)) }
 {
@@ -62,6 +70,10 @@ pub fn base_of(alloc: Global, reference: &Ref) -> Result<Value, Memory>
 }
 
 /// Writes a value (ES3 8.7.2). A name that no scope has becomes one of the global object; what is no object keeps no member.
+///
+/// # Errors
+///
+/// `Memory` where memory is wanting.
 pub fn write(
     alloc: Global,
     reference: &Ref,
@@ -117,6 +129,10 @@ fn write_member(
 }
 
 /// Deletes what a reference stands for, and says whether it may go (ES3 11.4.1).
+///
+/// # Errors
+///
+/// `Memory` where memory is wanting.
 pub fn delete(
     alloc: Global,
     reference: &Ref,

@@ -24,6 +24,10 @@ use std::alloc::Global;
 use std::rc::Rc;
 
 /// What a statement does when it is entered, with the labels before it, if there are any.
+///
+/// # Errors
+///
+/// `Memory` where memory is wanting.
 #[tactic(auto, using(es3_moves::proofs::Rows::view_block, es3_moves::proofs::Rows::view_var, es3_moves::proofs::Rows::view_if, es3_moves::proofs::Rows::view_for, es3_moves::proofs::Rows::view_return, es3_moves::proofs::Rows::view_switch, es3_moves::proofs::Rows::view_try, es3_moves::proofs::Rows::view_declare))]
 pub fn enter_stmt(
     alloc: Global,

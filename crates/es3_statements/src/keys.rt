@@ -43,6 +43,10 @@ fn next_key(mut w: Box<Keyed>) -> Result<Move, Memory>
 }
 
 /// What follows the body, by how it ended: the next key, or the end of the loop.
+///
+/// # Errors
+///
+/// `Memory` where memory is wanting.
 pub fn after_key(mut w: Box<Keyed>, flow: Flow) -> Result<Move, Memory>
     ensures plan { IfOk result (λ x. (s : Store) → move_plan x s ≡ moves.resume (frame.KeyNext w) (plain_flow flow) s) }
     ensures small { IfOk result (λ x. size x < 9) }
@@ -68,6 +72,10 @@ fn begin_body(w: Box<Keyed>) -> Result<Move, Memory>
 }
 
 /// Writes a key, and goes on with the body.
+///
+/// # Errors
+///
+/// `Memory` where memory is wanting.
 pub fn write_key(
     alloc: Global,
     reference: &Ref,
@@ -86,6 +94,10 @@ pub fn write_key(
 }
 
 /// What is done once it is known what a key is written to.
+///
+/// # Errors
+///
+/// `Memory` where memory is wanting.
 pub fn key_target(k: Rc<Units>, w: Box<Keyed>, reference: Ref, h: &Heap) -> Result<Move, Memory>
     ensures plan { IfOk result (λ x. (s : Store) → s.heap ≡ h.now → move_plan x s ≡ target_of k.value w.value (plain_ref reference) s) }
     ensures small { IfOk result (λ x. size x < 24) }
@@ -95,6 +107,10 @@ pub fn key_target(k: Rc<Units>, w: Box<Keyed>, reference: Ref, h: &Heap) -> Resu
 }
 
 /// A key that a `for` .. `in` reaches, which is passed over where it is there no more.
+///
+/// # Errors
+///
+/// `Memory` where memory is wanting.
 pub fn begin_key(
     alloc: Global,
     k: Rc<Units>,
@@ -164,6 +180,10 @@ fn shared_keys(alloc: Global, keys: Vec<Units>) -> Result<Vec<Rc<Units>>, Memory
 }
 
 /// The keys of a value, the first of which comes next.
+///
+/// # Errors
+///
+/// `Memory` where memory is wanting.
 pub fn for_keys(
     alloc: Global,
     target: Rc<TargetCode>,

@@ -69,6 +69,10 @@ fn begin_with(
 }
 
 /// The body of a `with`, once its value is there.
+///
+/// # Errors
+///
+/// `Memory` where memory is wanting.
 pub fn with_value(
     alloc: Global,
     body: Rc<StmtCode>,

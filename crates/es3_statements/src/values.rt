@@ -24,6 +24,10 @@ use std::alloc::Global;
 use std::rc::Rc;
 
 /// What a statement does with a value.
+///
+/// # Errors
+///
+/// `Memory` where memory is wanting.
 pub fn use_effect(
     alloc: Global,
     then: Effect,

@@ -63,6 +63,10 @@ fn end_vars(end: VarsEnd) -> Result<Move, Memory>
 }
 
 /// The next variable of a `var` that has a value, or what follows the variables.
+///
+/// # Errors
+///
+/// `Memory` where memory is wanting.
 #[tactic(auto, using(crate::proofs::Places::var_none, crate::proofs::Places::var_some))]
 pub fn next_var(
     items: Rc<Vec<VarCode>>,
@@ -90,6 +94,10 @@ pub fn next_var(
 }
 
 /// Writes the value of a variable, and goes on with those behind it.
+///
+/// # Errors
+///
+/// `Memory` where memory is wanting.
 pub fn after_var(
     alloc: Global,
     reference: &Ref,

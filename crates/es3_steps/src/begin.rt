@@ -122,6 +122,10 @@ fn opened_list(alloc: Global, stack: &mut Stack, body: Body) -> Result<(), Memor
 }
 
 /// The token begins a clause of a `switch` over the value, behind these others, or ends it (ES3 12.11).
+///
+/// # Errors
+///
+/// `Memory` where memory is wanting.
 #[tactic(auto, using(es3_frames::proofs::Rows::cases_mapped))]
 pub fn clause(
     alloc: Global,
@@ -306,6 +310,10 @@ fn begin_by(
 }
 
 /// A statement begins with the token, or a list of them ends (ES3 12 to 14).
+///
+/// # Errors
+///
+/// `Memory` where memory is wanting.
 pub fn begin(alloc: Global, stack: &mut Stack, token: &Token) -> Result<Option<State>, Memory>
     ensures { IfOk result (λ s.
         next_of s (stack_of stack.new) ≡ begin_spec (stack_of stack.old) (spot_of token.now)) }
@@ -328,6 +336,10 @@ pub fn begin(alloc: Global, stack: &mut Stack, token: &Token) -> Result<Option<S
 }
 
 /// The token stands behind a name that begins a statement: a label, or an expression (ES3 12.4, 12.12).
+///
+/// # Errors
+///
+/// `Memory` where memory is wanting.
 pub fn begun(
     alloc: Global,
     stack: &mut Stack,

@@ -29,6 +29,10 @@ use es3_tree::{Func, Name, boxed, make_declaration, make_function};
 use std::alloc::Global;
 
 /// The name of a function, or the `(` of one without a name. A declaration has a name.
+///
+/// # Errors
+///
+/// `Memory` where memory is wanting.
 pub fn func(alloc: Global, declared: bool, at: u32, token: &Token) -> Result<Option<State>, Memory>
     ensures { IfOk result (λ s. (k : machine.Stack) → next_of s k ≡ func_step declared at k (spot_of token.now)) }
 {
@@ -57,6 +61,10 @@ fn bodied(alloc: Global, stack: &mut Stack, head: Head, params: Vec<Name>) -> Re
 }
 
 /// The first parameter, or the `)` of a function without parameters.
+///
+/// # Errors
+///
+/// `Memory` where memory is wanting.
 pub fn params(
     alloc: Global,
     stack: &mut Stack,
@@ -78,6 +86,10 @@ pub fn params(
 }
 
 /// A parameter behind these.
+///
+/// # Errors
+///
+/// `Memory` where memory is wanting.
 pub fn param(
     alloc: Global,
     head: Head,
@@ -95,6 +107,10 @@ pub fn param(
 }
 
 /// What stands behind a parameter: a comma, or the `)`.
+///
+/// # Errors
+///
+/// `Memory` where memory is wanting.
 pub fn param_end(
     alloc: Global,
     stack: &mut Stack,
@@ -131,6 +147,10 @@ fn declare(alloc: Global, stack: &mut Stack, function: Func, depth: u32) -> Resu
 }
 
 /// A function is whole: an expression, or a declaration.
+///
+/// # Errors
+///
+/// `Memory` where memory is wanting.
 pub fn func_made(
     alloc: Global,
     stack: &mut Stack,

@@ -18,6 +18,10 @@ use es3_lexer::{Kind, Punct, Token, Word};
 use std::alloc::Global;
 
 /// The head of a `for` begins with the token (ES3 12.6.3, 12.6.4).
+///
+/// # Errors
+///
+/// `Memory` where memory is wanting.
 pub fn for_open(alloc: Global, stack: &mut Stack, token: &Token) -> Result<Option<State>, Memory>
     ensures { IfOk result (λ s.
         next_of s (stack_of stack.new) ≡ for_open_step (stack_of stack.old) (spot_of token.now)) }
@@ -33,6 +37,10 @@ pub fn for_open(alloc: Global, stack: &mut Stack, token: &Token) -> Result<Optio
 }
 
 /// The second part of the head of a `for` begins with the token, or there is none (ES3 12.6.3).
+///
+/// # Errors
+///
+/// `Memory` where memory is wanting.
 pub fn for_second(
     alloc: Global,
     stack: &mut Stack,
@@ -51,6 +59,10 @@ pub fn for_second(
 }
 
 /// The third part of the head of a `for` begins with the token, or there is none (ES3 12.6.3).
+///
+/// # Errors
+///
+/// `Memory` where memory is wanting.
 pub fn for_third(
     alloc: Global,
     stack: &mut Stack,
@@ -71,6 +83,10 @@ pub fn for_third(
 }
 
 /// The value of a `return` that begins at the byte `at` begins with the token, or there is none (ES3 12.9).
+///
+/// # Errors
+///
+/// `Memory` where memory is wanting.
 pub fn returned(
     alloc: Global,
     stack: &mut Stack,
@@ -89,6 +105,10 @@ pub fn returned(
 }
 
 /// The token stands behind a `break`, where `breaks`, or a `continue`, that begins at the byte `at` (ES3 12.7, 12.8).
+///
+/// # Errors
+///
+/// `Memory` where memory is wanting.
 pub fn jumped(alloc: Global, breaks: bool, at: u32, token: &Token) -> Result<Option<State>, Memory>
     ensures { IfOk result (λ s. (k : Frames) → next_of s k ≡ jumped_step breaks at k (spot_of token.now)) }
 {

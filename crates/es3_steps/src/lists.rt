@@ -79,6 +79,10 @@ fn behind_comma(stack: &mut Stack, opened: Opened, items: Exprs) -> Result<State
 }
 
 /// What stands behind an item: a comma, or the bracket that ends the list.
+///
+/// # Errors
+///
+/// `Memory` where memory is wanting.
 pub fn after_item(
     alloc: Global,
     stack: &mut Stack,
@@ -100,6 +104,10 @@ pub fn after_item(
 }
 
 /// An item, or the bracket that ends the list.
+///
+/// # Errors
+///
+/// `Memory` where memory is wanting.
 pub fn listed(
     alloc: Global,
     stack: &mut Stack,
@@ -164,6 +172,10 @@ fn empty_object(alloc: Global, fields: Fields) -> Result<Option<State>, Memory>
 }
 
 /// The key of a property, or the `}` of an object without properties.
+///
+/// # Errors
+///
+/// `Memory` where memory is wanting.
 pub fn key(
     alloc: Global,
     stack: &mut Stack,
@@ -187,6 +199,10 @@ pub fn key(
 }
 
 /// What stands behind a property: a comma, or the `}` that ends the object.
+///
+/// # Errors
+///
+/// `Memory` where memory is wanting.
 pub fn after_field(alloc: Global, fields: Fields, token: &Token) -> Result<Option<State>, Memory>
     ensures { IfOk result (λ s. (k : machine.Stack) →
         next_of s k ≡ after_field_spec (map field_of fields.list.items) k (spot_of token.now)) }
@@ -201,6 +217,10 @@ pub fn after_field(alloc: Global, fields: Fields, token: &Token) -> Result<Optio
 }
 
 /// The name behind a point.
+///
+/// # Errors
+///
+/// `Memory` where memory is wanting.
 pub fn member(alloc: Global, object: Part, token: &Token) -> Result<Option<State>, Memory>
     ensures { IfOk result (λ s.
         (k : machine.Stack) → next_of s k ≡ member_step (expr object.tree.value) k (spot_of token.now)) }

@@ -59,6 +59,10 @@ fn opened(
 }
 
 /// An operand begins with the token, or none does.
+///
+/// # Errors
+///
+/// `Memory` where memory is wanting.
 pub fn operand(alloc: Global, stack: &mut Stack, token: &Token) -> Result<Option<State>, Memory>
     ensures { IfOk result (λ s.
         next_of s (stack_of stack.new) ≡ operand_spec (stack_of stack.old) (spot_of token.now)) }

@@ -99,6 +99,10 @@ fn within(alloc: Global, frame: Frame, done: Done, token: &Token) -> Result<Resu
 }
 
 /// The statement is whole, at the token: it closes what it stands in, as far as that is whole with it, and the token goes on from there.
+///
+/// # Errors
+///
+/// `Memory` where memory is wanting.
 #[tactic(auto, unfolding(es3_grammar::specs::Machine::resume))]
 pub fn resume(
     alloc: Global,

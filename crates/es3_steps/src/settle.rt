@@ -20,6 +20,10 @@ use es3_lexer::{Punct, Token};
 use std::alloc::Global;
 
 /// What an operator that waits, or a `new`, makes of the part behind it; none where that part can't be assigned to and must.
+///
+/// # Errors
+///
+/// `Memory` where memory is wanting.
 pub fn filled(alloc: Global, waiting: Waiting, part: Part) -> Result<Option<Part>, Memory>
     ensures { IfOk result (λ x. made_of x ≡ filled_spec (waiting_of waiting) (expr part.tree.value)) }
 {
@@ -109,6 +113,10 @@ fn settle(
 }
 
 /// What stands behind a part that no `.`, `[` or `(` may follow.
+///
+/// # Errors
+///
+/// `Memory` where memory is wanting.
 pub fn past(
     alloc: Global,
     stack: &mut Stack,
@@ -137,6 +145,10 @@ fn arguments(alloc: Global, stack: &mut Stack, callee: Part) -> State
 }
 
 /// What stands behind an operand.
+///
+/// # Errors
+///
+/// `Memory` where memory is wanting.
 pub fn have(
     alloc: Global,
     stack: &mut Stack,

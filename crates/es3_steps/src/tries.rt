@@ -31,6 +31,10 @@ fn finally_begins(
 }
 
 /// The token stands behind the block of a `try`.
+///
+/// # Errors
+///
+/// `Memory` where memory is wanting.
 pub fn tried(
     alloc: Global,
     stack: &mut Stack,
@@ -51,6 +55,10 @@ pub fn tried(
 }
 
 /// The token is the name in `catch`, behind the block of its `try`.
+///
+/// # Errors
+///
+/// `Memory` where memory is wanting.
 pub fn catch_name(
     alloc: Global,
     stack: &mut Stack,
@@ -72,6 +80,10 @@ pub fn catch_name(
 }
 
 /// The token stands behind the block of a `catch`, with its name, and that of its `try`.
+///
+/// # Errors
+///
+/// `Memory` where memory is wanting.
 pub fn caught(
     alloc: Global,
     stack: &mut Stack,

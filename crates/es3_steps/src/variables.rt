@@ -17,6 +17,10 @@ use es3_tree::Name;
 use std::alloc::Global;
 
 /// The token is the name of a variable behind these others, in the head of a `for` where `in_head` (ES3 12.2).
+///
+/// # Errors
+///
+/// `Memory` where memory is wanting.
 pub fn item(
     alloc: Global,
     in_head: bool,
@@ -36,6 +40,10 @@ pub fn item(
 }
 
 /// The token stands behind the last variable so far: one more follows, or the `var` or the first part of the head of a `for` ends.
+///
+/// # Errors
+///
+/// `Memory` where memory is wanting.
 pub fn after_variable(
     alloc: Global,
     in_head: bool,
@@ -59,6 +67,10 @@ pub fn after_variable(
 }
 
 /// The token stands behind the name of a variable: its value follows, or the object of a `for` .. `in`, or it has no value.
+///
+/// # Errors
+///
+/// `Memory` where memory is wanting.
 pub fn item_end(
     alloc: Global,
     stack: &mut Stack,

@@ -49,6 +49,10 @@ impl From<Memory> for ReadError {
 /// functions, and at none of whose tokens more than twice as many brackets are open. Each token takes constant time, apart from the
 /// parts that it closes, and no stack of calls grows with the nesting. An error is that of the first token from which no such program
 /// goes on.
+///
+/// # Errors
+///
+/// `ReadError::Syntax` with the byte where no program goes on, `ReadError::TooDeep` where only programs go on that nest too deep, and `ReadError::Memory` where memory is wanting.
 pub fn read_program(alloc: Global, tokens: &Tokens, nest: u32) -> Result<Program, ReadError>
     requires { nest < 2 ^ 32 - 1 }
     ensures answer { Reads result (answer nest tokens.now.end (map placed_of tokens.now.list.items)) }

@@ -51,6 +51,10 @@ fn awaited(punct: Punct, after: After, token: &Token) -> Option<State>
 }
 
 /// What may come behind the token, or nothing where it may not stand there.
+///
+/// # Errors
+///
+/// `Memory` where memory is wanting.
 #[tactic(auto, unfolding(es3_grammar::specs::Machine::step))]
 pub fn step(
     alloc: Global,

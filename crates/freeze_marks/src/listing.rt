@@ -65,6 +65,10 @@ pub fn public_keys(alloc: Global, h: &Heap, value: &Value) -> Result<Option<Vec<
 }
 
 /// Some texts as values, in their order.
+///
+/// # Errors
+///
+/// `Memory` where memory is wanting.
 pub fn texts(alloc: Global, keys: Vec<Units>) -> Result<Vec<Value>, Memory>
     ensures { IfOk result (λ v. v.items ≡ map Value.Text keys.items) }
 {

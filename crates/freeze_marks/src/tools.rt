@@ -13,6 +13,10 @@ use row_outcomes::{Outcome, new_array, thrown, value_or};
 use std::alloc::Global;
 
 /// `cajita.freeze(v)`: a record or an array is frozen, and the argument is the answer.
+///
+/// # Errors
+///
+/// `Stop::Memory` where memory is wanting.
 pub fn freeze(
     alloc: Global,
     h: &mut Heap,
@@ -31,6 +35,10 @@ pub fn freeze(
 }
 
 /// `cajita.isFrozen(v)`: whether the argument can't change.
+///
+/// # Errors
+///
+/// `Stop::Memory` where memory is wanting.
 pub fn is_frozen(
     alloc: Global,
     h: &Heap,
@@ -47,6 +55,10 @@ pub fn is_frozen(
 
 /// `cajita.copy(v)`: a new record or array that has what the argument has. It throws a TypeError `bad argument` where the
 /// argument is neither, and the run stops where an array has 2^32 items or more.
+///
+/// # Errors
+///
+/// `Stop::Number` where the items of an array are 2^32 or more, and `Stop::Memory` where memory is wanting.
 pub fn copy(
     alloc: Global,
     h: &mut Heap,
@@ -63,6 +75,10 @@ pub fn copy(
 
 /// `cajita.snapshot(v)`: a new frozen record or array that has what the argument has. It throws a TypeError `bad argument`
 /// where the argument is neither, and the run stops where an array has 2^32 items or more.
+///
+/// # Errors
+///
+/// `Stop::Number` where the items of an array are 2^32 or more, and `Stop::Memory` where memory is wanting.
 pub fn snapshot(
     alloc: Global,
     h: &mut Heap,
@@ -79,6 +95,10 @@ pub fn snapshot(
 
 /// `cajita.keys(v)`: a new array of the argument's public keys. It throws a TypeError `no object` where the argument is
 /// undefined or null, and the run stops where there are 2^32 keys or more.
+///
+/// # Errors
+///
+/// `Stop::Number` where the keys are 2^32 or more, and `Stop::Memory` where memory is wanting.
 pub fn keys(
     alloc: Global,
     h: &mut Heap,

@@ -76,7 +76,11 @@ fn touch_of_maker(alloc: Global, h: &Heap, by: u32, f: &Value) -> Result<Option<
 }
 
 /// What a guard is about to touch, while the module `by` runs: an object with a name, if it touches one. An absent argument is
-/// undefined. The only error is want of memory: where the guard's own conversion of a key stops, nothing is touched.
+/// undefined. Where the guard's own conversion of a key stops, nothing is touched.
+///
+/// # Errors
+///
+/// `Memory` where memory is wanting.
 pub fn touched_by(
     alloc: Global,
     h: &Heap,

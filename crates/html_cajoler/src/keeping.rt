@@ -254,6 +254,10 @@ fn keep_all<F: Asks>(
 
 /// What is kept of a document: the elements and attributes of the table, and texts, which are joined where they come to stand side by side. In the place of each link
 /// and each image stands what the rule answers for it, joined to the base where there is one; where it answers nothing, the attribute is dropped.
+///
+/// # Errors
+///
+/// `Memory` where memory is wanting.
 pub fn clean_html<F: Asks>(
     alloc: Global,
     document: &[Html],

@@ -73,6 +73,10 @@ fn put_all_shown_value(out: &mut Vec<u8>, bytes: &[u8]) -> Result<(), AllocError
 }
 
 /// Writes a text, as `print_html` does.
+///
+/// # Errors
+///
+/// `Memory` where memory is wanting.
 pub fn put_text(alloc: Global, out: &mut Vec<u8>, text: &Units) -> Result<(), Memory>
     ensures { OnOk result (out.new.items ≡ out.old.items ++ p.printed_text text.now) }
 {
@@ -112,6 +116,10 @@ fn put_attrs(alloc: Global, out: &mut Vec<u8>, attrs: &[Attr]) -> Result<(), Mem
 }
 
 /// Writes the tag with which an element begins, as `print_html` does.
+///
+/// # Errors
+///
+/// `Memory` where memory is wanting.
 pub fn put_start(
     alloc: Global,
     out: &mut Vec<u8>,
@@ -127,6 +135,10 @@ pub fn put_start(
 }
 
 /// Writes the tag with which an element ends, as `print_html` does of those that have one.
+///
+/// # Errors
+///
+/// `Memory` where memory is wanting.
 pub fn put_end(out: &mut Vec<u8>, name: &Units) -> Result<(), Memory>
     ensures { OnOk result (out.new.items ≡ out.old.items ++ p.end_tag name.now) }
 {
@@ -165,6 +177,10 @@ fn put_all(alloc: Global, out: &mut Vec<u8>, nodes: &[Html]) -> Result<(), Memor
 }
 
 /// The text of a document in UTF-8. Where the document is what is kept of one that was read, the text is read as it again.
+///
+/// # Errors
+///
+/// `Memory` where memory is wanting.
 pub fn print_html(alloc: Global, document: &Clean) -> Result<Vec<u8>, Memory>
     ensures { IfOk result (λ v. v.items ≡ p.printed many (trees document.now)) }
 {

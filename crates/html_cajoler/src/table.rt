@@ -205,6 +205,10 @@ fn value_in<F: Asks>(
 
 /// The value that is kept of an attribute on an element, both names in lower case, or None where it is dropped. Of a link or an image it is what the rule answers,
 /// and nothing else.
+///
+/// # Errors
+///
+/// `Memory` where memory is wanting.
 pub fn attr_value<F: Asks>(
     alloc: Global,
     tag: &Units,

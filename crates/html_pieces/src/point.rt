@@ -236,6 +236,10 @@ fn any_point(alloc: Global, s: &[char], first: bool, inner: &Units) -> Result<St
 
 /// What stands at a point, which has some characters, and no more than there are. `first`: nothing but white space stands before; `inner`: the name of the
 /// innermost open element, and no name where none is open.
+///
+/// # Errors
+///
+/// `Memory` where memory is wanting.
 pub fn point_at(alloc: Global, s: &[char], first: bool, inner: &Units) -> Result<Step, Memory>
     requires some { 0 < length s.now }
     requires small { length s.now < 2 ^ 32 }

@@ -226,6 +226,10 @@ fn read_text(alloc: Global, text: &str) -> Result<Vec<Html>, HtmlError>
 /// The trees that bytes of UTF-8 spell, which are fewer than 2^32: texts, where references stand for their characters, and elements with attributes, in which at
 /// most 128 nest. Comments and a document type are no trees. A text that is not UTF-8 is refused first; the other refusals come from left to right, and at one
 /// place in the order of `HtmlError`.
+///
+/// # Errors
+///
+/// A variant of `HtmlError` with the byte where the text is refused, and `HtmlError::Memory` where memory is wanting.
 pub fn read_html(alloc: Global, text: &[u8]) -> Result<Vec<Html>, HtmlError>
     requires { length text.now < 2 ^ 32 }
     ensures { IsRead result text.now }

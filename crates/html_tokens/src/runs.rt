@@ -48,6 +48,10 @@ fn push_char(units: &mut Vec<u16>, c: char) -> Result<(), AllocError>
 }
 
 /// The units of these characters.
+///
+/// # Errors
+///
+/// `Memory` where memory is wanting.
 pub fn units_of(alloc: Global, s: &[char]) -> Result<Units, Memory>
     ensures { IfOk result (λ units. units ≡ units_of_chars s.now) }
 {
@@ -59,6 +63,10 @@ pub fn units_of(alloc: Global, s: &[char]) -> Result<Units, Memory>
 }
 
 /// The units up to where the run ends, or to the end.
+///
+/// # Errors
+///
+/// `Memory` where memory is wanting.
 pub fn run_at(alloc: Global, s: &[char], until: Until) -> Result<Run, Memory>
     ensures { IfOk result (λ r. run_of r ≡ run_spec (until_of until) 0 s.now) }
 {

@@ -1,7 +1,7 @@
 //! Trees of HTML, and why a text of HTML is refused.
 #![tactic(auto)]
 
-ghost use Rattle.std.specs.Prelude.{◌≡◌, OnOk};
+ghost use Rattle.std.specs.Prelude.{◌≡◌, OnErr, OnOk};
 ghost use Rattle.html_grammar.specs.Trees.{text_node, element, snoc};
 ghost use Rattle.html_tree.specs.Views.{tree, trees, attrs_of};
 
@@ -77,10 +77,15 @@ pub fn make_element(name: Units, attrs: Vec<Attr>, content: Vec<Html>) -> Html
     Html::Element(name, attrs, content)
 }
 
-/// Appends a node. Where memory is wanting, it is let go.
+/// Appends a node. Where memory is wanting, it is let go, and the list stays.
+///
+/// # Errors
+///
+/// `Memory` where memory is wanting.
 #[tactic(auto, using(crate::proofs::Rows::trees_push))]
 pub fn push(list: &mut Vec<Html>, node: Html) -> Result<(), Memory>
-    ensures { OnOk result (trees list.new.items ≡ snoc (trees list.old.items) (tree node)) }
+    ensures pushed { OnOk result (trees list.new.items ≡ snoc (trees list.old.items) (tree node)) }
+    ensures stays { OnErr result (list.new.items ≡ list.old.items) }
 {
     list.push(node)?;
     Ok(())

@@ -38,6 +38,10 @@ pub enum Asked {
 }
 
 /// Does what is asked of a node. The rule says which URLs an attribute may be given, joined to the base where there is one, and what stands in their place.
+///
+/// # Errors
+///
+/// `Memory` where memory is wanting.
 pub fn perform<F: Asks>(
     alloc: Global,
     document: &mut Document,

@@ -201,7 +201,11 @@ fn push_line(alloc: Global, out: &mut Vec<u8>, names: &Names, item: &Item) -> Re
     push(out, b"\n")
 }
 
-/// The log: a line for each item, in order, in UTF-8; each line ends with a line feed. The only error is want of memory.
+/// The log: a line for each item, in order, in UTF-8; each line ends with a line feed.
+///
+/// # Errors
+///
+/// `Memory` where memory is wanting.
 pub fn log(alloc: Global, names: &Names, items: &[Item]) -> Result<Vec<u8>, Memory>
     ensures { IfOk result (λ bytes. bytes.items ≡ log (names_of names.now) (all_told items.now)) }
 {

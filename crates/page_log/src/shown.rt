@@ -41,7 +41,10 @@ fn shown_object(alloc: Global, heap: &Heap, o: ObjId) -> Result<Shown, Memory>
 }
 
 /// What the log shows of a value, as the store is now: a text in its 16-bit units, an object by what it is and by its name in the log.
-/// The only error is want of memory.
+///
+/// # Errors
+///
+/// `Memory` where memory is wanting.
 pub fn shown_value(alloc: Global, heap: &Heap, v: &Value) -> Result<Shown, Memory>
     ensures { IfOk result (λ shown. shown_of shown ≡ shown_value heap.now v.now) }
 {

@@ -176,8 +176,11 @@ fn key_copy(alloc: Global, key: Option<&Units>) -> Result<Option<Units>, Memory>
 
 impl PageNatives {
     /// Natives of which none was called, for at most 64 modules, with what is lent of a document, and the rule that says which URLs an
-    /// attribute may be given, joined to the base where there is one. Touches are told where they are asked for. The only error is
-    /// want of memory.
+    /// attribute may be given, joined to the base where there is one. Touches are told where they are asked for.
+    ///
+    /// # Errors
+    ///
+    /// `Memory` where memory is wanting.
     pub fn new(
         alloc: Global,
         runtime: ObjId,
@@ -220,7 +223,11 @@ impl PageNatives {
         take_first(&mut self.waiting, owner)
     }
 
-    /// Tells how a turn of the page ended. The only error is want of memory; then nothing was told.
+    /// Tells how a turn of the page ended.
+    ///
+    /// # Errors
+    ///
+    /// `Memory` where memory is wanting; then nothing was told.
     pub fn tell_end(&mut self, label: Label, end: Ended) -> Result<(), Memory>
         ensures ok { OnOk result (kept_of self.new ≡ tells (ended (label_of label) (end_of end) ∷ []) (kept_of self.old)) }
         ensures err { OnErr result (kept_of self.new ≡ kept_of self.old) }

@@ -34,6 +34,10 @@ fn new_object(h: &mut Heap, by: u32) -> Result<Outcome, Stop>
 
 /// `Object(v)` (ES3 15.2.1.1, 15.2.2.1): a new object for no value, `undefined` and `null`, and an object itself. It throws a
 /// TypeError `not allowed` for another value.
+///
+/// # Errors
+///
+/// `Stop::Memory` where memory is wanting.
 pub fn object_from(alloc: Global, h: &mut Heap, by: u32, args: &[Value]) -> Result<Outcome, Stop>
     ensures outcome { Comes (object_from by (argument 0 args.now) h.old) result h.new }
     ensures live { length h.old.list ≤ length h.new.list }
@@ -46,6 +50,10 @@ pub fn object_from(alloc: Global, h: &mut Heap, by: u32, args: &[Value]) -> Resu
 }
 
 /// `Function(..)` (ES3 15.3.1.1, 15.3.2.1) throws a TypeError `not allowed`.
+///
+/// # Errors
+///
+/// `Stop::Memory` where memory is wanting.
 pub fn function_from(alloc: Global, h: &mut Heap, by: u32) -> Result<Outcome, Stop>
     ensures outcome { Comes (function_from by h.old) result h.new }
     ensures live { length h.old.list ≤ length h.new.list }
@@ -55,6 +63,10 @@ pub fn function_from(alloc: Global, h: &mut Heap, by: u32) -> Result<Outcome, St
 
 /// `Array(..)` (ES3 15.4.1.1, 15.4.2.1): an array of the arguments. It throws a TypeError `not allowed` for one number alone,
 /// and the run stops where the arguments are 2^32 or more.
+///
+/// # Errors
+///
+/// `Stop::Number` where the arguments are 2^32 or more, and `Stop::Memory` where memory is wanting.
 pub fn array_from(alloc: Global, h: &mut Heap, by: u32, args: &[Value]) -> Result<Outcome, Stop>
     ensures outcome { Comes (array_from by args.now h.old) result h.new }
     ensures live { length h.old.list ≤ length h.new.list }
@@ -66,6 +78,10 @@ pub fn array_from(alloc: Global, h: &mut Heap, by: u32, args: &[Value]) -> Resul
 }
 
 /// `toString()` (ES3 15.2.4.2): the text of the receiver. The run stops where it has none.
+///
+/// # Errors
+///
+/// `Stop::Depth` or `Stop::Convert` where the receiver has no text, and `Stop::Memory` where memory is wanting.
 pub fn to_string(alloc: Global, h: &Heap, this: &Value) -> Result<Outcome, Stop>
     ensures { Comes (to_text this.now h.now) result h.now }
 {
@@ -74,6 +90,10 @@ pub fn to_string(alloc: Global, h: &Heap, this: &Value) -> Result<Outcome, Stop>
 }
 
 /// `valueOf()` (ES3 15.2.4.4): the receiver.
+///
+/// # Errors
+///
+/// `Stop::Memory` where memory is wanting.
 pub fn value_of(alloc: Global, h: &Heap, this: &Value) -> Result<Outcome, Stop>
     ensures { Comes (to_value this.now h.now) result h.now }
 {

@@ -53,6 +53,10 @@ fn write(out: &mut Vec<u8>, text: &[u8]) -> Result<(), AllocError>
 }
 
 /// Appends a punctuator (ES3 7.7).
+///
+/// # Errors
+///
+/// `Memory` where memory is wanting.
 pub fn write_punct(out: &mut Vec<u8>, sign: Punct) -> Result<(), Memory>
     ensures { OnOk result (out.new.items ≡ then_text out.old.items (token_text (token.punct (punct_number sign)))) }
 {
@@ -61,6 +65,10 @@ pub fn write_punct(out: &mut Vec<u8>, sign: Punct) -> Result<(), Memory>
 }
 
 /// Appends a reserved word (ES3 7.5).
+///
+/// # Errors
+///
+/// `Memory` where memory is wanting.
 pub fn write_word(out: &mut Vec<u8>, word: Word) -> Result<(), Memory>
     ensures { OnOk result (out.new.items ≡ then_text out.old.items (token_text (token.word (word_number word)))) }
 {
@@ -69,6 +77,10 @@ pub fn write_word(out: &mut Vec<u8>, word: Word) -> Result<(), Memory>
 }
 
 /// Appends a name (ES3 7.6), in UTF-8.
+///
+/// # Errors
+///
+/// `Memory` where memory is wanting.
 pub fn write_name(out: &mut Vec<u8>, name: &Name) -> Result<(), Memory>
     ensures { OnOk result (out.new.items ≡ then_text out.old.items (token_text (token.name (text name.now)))) }
 {
@@ -79,6 +91,10 @@ pub fn write_name(out: &mut Vec<u8>, name: &Name) -> Result<(), Memory>
 }
 
 /// Appends a text as a string literal (ES3 7.8.4).
+///
+/// # Errors
+///
+/// `Memory` where memory is wanting.
 pub fn write_text(out: &mut Vec<u8>, units: &Units) -> Result<(), Memory>
     ensures { OnOk result (out.new.items ≡ then_text out.old.items (token_text (token.text units.now))) }
 {
@@ -88,6 +104,10 @@ pub fn write_text(out: &mut Vec<u8>, units: &Units) -> Result<(), Memory>
 }
 
 /// Appends the key of a property (ES3 11.1.5), always as a string literal.
+///
+/// # Errors
+///
+/// `Memory` where memory is wanting.
 pub fn write_key(out: &mut Vec<u8>, key: &Name) -> Result<(), Memory>
     ensures { OnOk result (out.new.items ≡ then_text out.old.items (token_text (token.text (text key.now)))) }
 {
@@ -102,6 +122,10 @@ fn digits(alloc: Global, number: Whole) -> Result<String, AllocError>
 }
 
 /// Appends a number (ES3 7.8.3).
+///
+/// # Errors
+///
+/// `Memory` where memory is wanting.
 pub fn write_number(out: &mut Vec<u8>, number: Whole) -> Result<(), Memory>
     ensures { OnOk result (out.new.items ≡ then_text out.old.items (token_text (token.num number))) }
 {

@@ -130,6 +130,10 @@ impl<P: Copied> IndexedProps<P> {
     }
 
     /// Puts something at a key: one that is there keeps its place, and a new one goes last.
+    ///
+    /// # Errors
+    ///
+    /// `Memory` where memory is wanting; then nothing changes.
     pub fn insert(&mut self, k: &Units, p: P) -> Result<(), Memory>
         ensures ok { OnOk result (entries self.new ≡ insert_entry same_units (entries self.old) k.now p) }
         ensures err { OnErr result (self.new ≡ self.old) }
@@ -144,6 +148,10 @@ impl<P: Copied> IndexedProps<P> {
     }
 
     /// What stands at an index, as at its text, which is made only where a key behind the slots may be an index.
+    ///
+    /// # Errors
+    ///
+    /// `Memory` where memory is wanting.
     pub fn get_at(&self, i: u32) -> Result<Option<&P>, Memory>
         ensures { IfOk result (λ r. option_copied r ≡ lookup (same_units (number_units i)) (entries self.now)) }
     {
@@ -166,6 +174,10 @@ impl<P: Copied> IndexedProps<P> {
 
     /// Puts something at an index, as at its text, which is made only where no slot can take it. A full slot keeps its place, and a
     /// new one is made where all that there is stands in slots before it.
+    ///
+    /// # Errors
+    ///
+    /// `Memory` where memory is wanting; then nothing changes.
     pub fn insert_at(&mut self, i: u32, p: P) -> Result<(), Memory>
         ensures ok { OnOk result (entries self.new ≡ insert_entry same_units (entries self.old) (number_units i) p) }
         ensures there { OnOk result (IsTrue (is_full (slice_get self.old.slots i)) → self.new ≡ record { slots = slice_set self.old.slots i (Some p); others = self.old.others }) }
@@ -186,6 +198,10 @@ impl<P: Copied> IndexedProps<P> {
     }
 
     /// Takes an index away, as its text, which is made only where a key behind the slots may be an index.
+    ///
+    /// # Errors
+    ///
+    /// `Memory` where memory is wanting; then nothing changes.
     pub fn remove_at(&mut self, i: u32) -> Result<bool, Memory>
         ensures answer { IfOk result (λ b. b ≡ is_some (lookup (same_units (number_units i)) (entries self.old))) }
         ensures ok { OnOk result (entries self.new ≡ remove_entry (same_units (number_units i)) (entries self.old)) }

@@ -70,6 +70,10 @@ impl<P: Drop> ListProps<P> {
     }
 
     /// Puts something at a key: one that is there keeps its place, and a new one goes last.
+    ///
+    /// # Errors
+    ///
+    /// `Memory` where memory is wanting; then nothing changes.
     pub fn insert(&mut self, k: &Units, p: P) -> Result<(), Memory>
         ensures ok { OnOk result (self.new ≡ insert_entry same_units self.old k.now p) }
         ensures err { OnErr result (self.new ≡ self.old) }

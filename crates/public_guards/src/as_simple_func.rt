@@ -32,6 +32,10 @@ fn simple(
 
 /// `asSimpleFunc(f)` (ES3 11.2.3): a function that modules may call without a receiver. It throws a TypeError `not a function`
 /// where `f` is none that they may use, and `bad receiver` where it is a method that wants a receiver.
+///
+/// # Errors
+///
+/// `Stop::Memory` where memory is wanting.
 pub fn as_simple_func(alloc: Global, h: &mut Heap, by: u32, f: &Value) -> Result<Outcome, Stop>
     ensures outcome { Comes (by_row rows.as_simple_func by (f.now ∷ []) h.old) result h.new }
     ensures live { length h.old.list ≤ length h.new.list }

@@ -38,6 +38,10 @@ fn call_at(
 /// The call of a value's method with these arguments (ES3 11.2.3), recorded. It throws a TypeError: `no object` where `o` is
 /// undefined or null, then `not a function` where the property is none that modules may use. The run stops where the key has
 /// no text.
+///
+/// # Errors
+///
+/// `Stop::Depth` or `Stop::Convert` where the key has no text, and `Stop::Memory` where memory is wanting.
 pub fn call_with(
     alloc: Global,
     h: &mut Heap,

@@ -35,6 +35,10 @@ fn call_constructor(
 
 /// The call of a constructor with these arguments (ES3 11.2.2), which is not recorded. It throws a TypeError
 /// `not a constructor` where `f` is none.
+///
+/// # Errors
+///
+/// `Stop::Memory` where memory is wanting.
 pub fn construct_with(
     alloc: Global,
     h: &mut Heap,

@@ -59,6 +59,10 @@ fn delete_at(alloc: Global, h: &mut Heap, by: u32, o: &Value, k: &Units) -> Resu
 /// `deletePub(o, k)` (ES3 11.4.1): a record loses a key and the marks for it, and true is the answer. It throws a TypeError:
 /// `no object` where `o` is undefined or null, then `bad key` where the key is hidden, `toString` or `valueOf`, then
 /// `not deletable` where `o` is frozen or no record. The run stops where the key has no text.
+///
+/// # Errors
+///
+/// `Stop::Depth` or `Stop::Convert` where the key has no text, and `Stop::Memory` where memory is wanting.
 pub fn delete_pub(
     alloc: Global,
     h: &mut Heap,

@@ -27,6 +27,10 @@ fn has_at(alloc: Global, h: &mut Heap, by: u32, k: &Units, o: &Value) -> Result<
 
 /// `inPub(k, o)` (ES3 11.8.7): whether a value has a public property. It throws a TypeError `no object` where `o` is no object,
 /// and the run stops before where the key has no text.
+///
+/// # Errors
+///
+/// `Stop::Depth` or `Stop::Convert` where the key has no text, and `Stop::Memory` where memory is wanting.
 pub fn in_pub(alloc: Global, h: &mut Heap, by: u32, k: &Value, o: &Value) -> Result<Outcome, Stop>
     ensures outcome { Comes (by_row rows.in_pub by (k.now ∷ o.now ∷ []) h.old) result h.new }
     ensures live { length h.old.list ≤ length h.new.list }

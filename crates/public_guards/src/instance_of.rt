@@ -52,6 +52,10 @@ fn is_made_by(alloc: Global, h: &Heap, kind: FuncKind, x: &Value) -> Result<bool
 
 /// `instanceOf(v, f)` (ES3 11.8.6): whether a value is an error that a constructor makes. It throws a TypeError `not a function`
 /// where `f` is none that modules may use.
+///
+/// # Errors
+///
+/// `Stop::Memory` where memory is wanting.
 pub fn instance_of(
     alloc: Global,
     h: &mut Heap,

@@ -11,6 +11,10 @@ use row_outcomes::Outcome;
 use std::alloc::Global;
 
 /// `key(v)`: the text of a value (ES3 9.8). The run stops where it has none.
+///
+/// # Errors
+///
+/// `Stop::Depth` or `Stop::Convert` where the value has no text, and `Stop::Memory` where memory is wanting.
 pub fn key(alloc: Global, h: &Heap, by: u32, v: &Value) -> Result<Outcome, Stop>
     ensures { Comes (by_row rows.key by (v.now ∷ []) h.now) result h.now }
 {

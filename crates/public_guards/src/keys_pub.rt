@@ -28,6 +28,10 @@ fn listed(alloc: Global, h: &mut Heap, by: u32, keys: Vec<Units>) -> Result<Outc
 
 /// `keysPub(o)` (ES3 12.6.4): a new array of the public keys of a value, without a name. It throws a TypeError `no object`
 /// where `o` is undefined or null, and the run stops where there are 2^32 keys or more.
+///
+/// # Errors
+///
+/// `Stop::Number` where the keys are 2^32 or more, and `Stop::Memory` where memory is wanting.
 pub fn keys_pub(alloc: Global, h: &mut Heap, by: u32, o: &Value) -> Result<Outcome, Stop>
     ensures outcome { Comes (by_row rows.keys_pub by (o.now ∷ []) h.old) result h.new }
     ensures live { length h.old.list ≤ length h.new.list }

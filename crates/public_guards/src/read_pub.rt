@@ -41,6 +41,10 @@ fn read_at(alloc: Global, h: &mut Heap, x: &Value, k: &Units) -> Result<Outcome,
 /// `readPub(o, k)` (ES3 11.2.1): the value of a public property, undefined where there is none, or a method of the value. A key
 /// that was read of a record is marked. It throws a TypeError `no object` where `o` is undefined or null, and the run stops
 /// where the key has no text.
+///
+/// # Errors
+///
+/// `Stop::Depth` or `Stop::Convert` where the key has no text, and `Stop::Memory` where memory is wanting.
 pub fn read_pub(alloc: Global, h: &mut Heap, by: u32, o: &Value, k: &Value) -> Result<Outcome, Stop>
     ensures outcome { Comes (by_row (rows.read_pub 2) by (o.now ∷ k.now ∷ []) h.old) result h.new }
     ensures live { length h.old.list ≤ length h.new.list }

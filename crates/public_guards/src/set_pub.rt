@@ -130,6 +130,10 @@ fn set_at(
 /// It throws a TypeError: `no object` where `o` is undefined or null, then `bad key` where the key is hidden, `toString` or
 /// `valueOf`, then `not writable` where `o` is frozen, is neither a record nor an array, or has no such item. The run stops
 /// where the key has no text, and where an array would have 2^32 items.
+///
+/// # Errors
+///
+/// `Stop::Depth` or `Stop::Convert` where the key has no text, `Stop::Number` where an array would have 2^32 items, and `Stop::Memory` where memory is wanting.
 pub fn set_pub(
     alloc: Global,
     h: &mut Heap,

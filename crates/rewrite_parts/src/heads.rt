@@ -12,6 +12,10 @@ use es3_tree::{Expr, Name, Stmt, VarItem, make_var};
 use std::alloc::Global;
 
 /// `var NAME=VALUE;` (ES3 12.2).
+///
+/// # Errors
+///
+/// `Memory` where memory is wanting.
 pub fn declaration(alloc: Global, name: Name, value: Option<Expr>) -> Result<Stmt, Memory>
     ensures { IfOk result (λ s. stmt s ≡ tree.var (tree.more_items name.text (of_maybe_expr value) tree.no_items)) }
 {
@@ -19,6 +23,10 @@ pub fn declaration(alloc: Global, name: Name, value: Option<Expr>) -> Result<Stm
 }
 
 /// Puts a copy of the arguments behind the variables.
+///
+/// # Errors
+///
+/// `Memory` where memory is wanting.
 pub fn add_arguments(alloc: Global, items: &mut Vec<VarItem>) -> Result<(), Memory>
     ensures { OnOk result (of_items items.new.items ≡ items_joined (of_items items.old.items) (args_items true tree.no_items)) }
 {
@@ -32,6 +40,10 @@ pub fn add_arguments(alloc: Global, items: &mut Vec<VarItem>) -> Result<(), Memo
 }
 
 /// Puts that many temporaries behind the variables.
+///
+/// # Errors
+///
+/// `Memory` where memory is wanting.
 pub fn add_temporaries(alloc: Global, items: &mut Vec<VarItem>, count: u32) -> Result<(), Memory>
     ensures { OnOk result (of_items items.new.items ≡ items_joined (of_items items.old.items) (temp_items 0 count tree.no_items)) }
 {
@@ -45,6 +57,10 @@ pub fn add_temporaries(alloc: Global, items: &mut Vec<VarItem>, count: u32) -> R
 }
 
 /// Puts a `var` of the variables behind the statements, where there is one (ES3 12.2).
+///
+/// # Errors
+///
+/// `Memory` where memory is wanting.
 pub fn add_var(out: &mut Vec<Stmt>, items: Vec<VarItem>) -> Result<(), Memory>
     ensures { OnOk result (of_stmts out.new.items ≡ joined (of_stmts out.old.items) (var_stmts (of_items items.items) tree.no_stmts)) }
 {

@@ -23,6 +23,10 @@ pub enum Place {
 
 impl Place {
     /// The value assigned to it (ES3 11.13.1).
+    ///
+    /// # Errors
+    ///
+    /// `Memory` where memory is wanting.
     pub fn assign(self, alloc: Global, value: Expr) -> Result<Expr, Memory>
         ensures { IfOk result (λ x. expr x ≡ assigned (place_form self) (expr value)) }
     {
@@ -63,6 +67,10 @@ pub enum HeldPlace {
 impl HeldPlace {
     /// `++` where `up`, else `--`, before it where `before`, else behind it (ES3 11.3, 11.4.4, 11.4.5). Behind a member, its old value is held
     /// in the first temporary behind those of the member.
+    ///
+    /// # Errors
+    ///
+    /// `Memory` where memory is wanting.
     pub fn step(self, alloc: Global, up: bool, before: bool) -> Result<Expr, Memory>
         ensures { IfOk result (λ x. expr x ≡ stepped up before (held_form self)) }
     {
@@ -82,6 +90,10 @@ impl HeldPlace {
     }
 
     /// An assignment with that operator (ES3 11.13.2).
+    ///
+    /// # Errors
+    ///
+    /// `Memory` where memory is wanting.
     pub fn compound(self, alloc: Global, op: BinOp, operand: Expr) -> Result<Expr, Memory>
         ensures { IfOk result (λ x. expr x ≡ compounded op (held_form self) (expr operand)) }
     {

@@ -21,6 +21,10 @@ use std::alloc::Global;
 pub const LOOP_TEMPORARIES: u32 = 3;
 
 /// The key of this turn.
+///
+/// # Errors
+///
+/// `Memory` where memory is wanting.
 pub fn current_key(alloc: Global, first: u32) -> Result<Expr, Memory>
     requires { first + 3 < 2 ^ 32 }
     ensures { IfOk result (λ x. expr x ≡ key_of first) }
@@ -77,6 +81,10 @@ fn turn(alloc: Global, first: u32, written: Stmt, body: Stmt) -> Result<Stmt, Me
 }
 
 /// The loop over the keys of the object, whose temporaries begin with that number: each turn does what writes the key, and then the body.
+///
+/// # Errors
+///
+/// `Memory` where memory is wanting.
 pub fn loop_over_keys(
     alloc: Global,
     first: u32,

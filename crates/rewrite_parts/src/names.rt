@@ -25,6 +25,10 @@ pub const ARGUMENTS: &str = "a___";
 pub const NOWHERE: u32 = 0;
 
 /// A name of the guarded program's own (ES3 7.6).
+///
+/// # Errors
+///
+/// `Memory` where memory is wanting.
 pub fn own_name(alloc: Global, word: &str) -> Result<Name, Memory>
     ensures { IfOk result (λ n. text_in n ≡ word.now) }
 {
@@ -35,6 +39,10 @@ pub fn own_name(alloc: Global, word: &str) -> Result<Name, Memory>
 }
 
 /// A name of the module (ES3 7.6).
+///
+/// # Errors
+///
+/// `Memory` where memory is wanting.
 pub fn copied_name(alloc: Global, text: &Units) -> Result<Name, Memory>
     ensures { IfOk result (λ n. text_in n ≡ text.now) }
 {
@@ -45,6 +53,10 @@ pub fn copied_name(alloc: Global, text: &Units) -> Result<Name, Memory>
 }
 
 /// Names of the module, as those of parameters (ES3 13).
+///
+/// # Errors
+///
+/// `Memory` where memory is wanting.
 pub fn copied_names(alloc: Global, texts: &[Units]) -> Result<Vec<Name>, Memory>
     ensures { IfOk result (λ names. names_in names.items ≡ texts.now) }
 {
@@ -56,6 +68,10 @@ pub fn copied_names(alloc: Global, texts: &[Units]) -> Result<Vec<Name>, Memory>
 }
 
 /// A name of the module, or a label of it, where there is one (ES3 12.7, 12.8, 13).
+///
+/// # Errors
+///
+/// `Memory` where memory is wanting.
 pub fn maybe_name(alloc: Global, text: &Option<Units>) -> Result<Option<Name>, Memory>
     ensures { IfOk result (λ name. text_of name ≡ text.now) }
 {
@@ -66,6 +82,10 @@ pub fn maybe_name(alloc: Global, text: &Option<Units>) -> Result<Option<Name>, M
 }
 
 /// The value of a name of the guarded program's own (ES3 11.1.2).
+///
+/// # Errors
+///
+/// `Memory` where memory is wanting.
 pub fn own_variable(alloc: Global, word: &str) -> Result<Expr, Memory>
     ensures { IfOk result (λ x. expr x ≡ tree.name word.now) }
 {
@@ -73,6 +93,10 @@ pub fn own_variable(alloc: Global, word: &str) -> Result<Expr, Memory>
 }
 
 /// The value of a name of the module (ES3 11.1.2).
+///
+/// # Errors
+///
+/// `Memory` where memory is wanting.
 pub fn copied_variable(alloc: Global, text: &Units) -> Result<Expr, Memory>
     ensures { IfOk result (λ x. expr x ≡ tree.name text.now) }
 {
@@ -80,6 +104,10 @@ pub fn copied_variable(alloc: Global, text: &Units) -> Result<Expr, Memory>
 }
 
 /// A call of the runtime's function of that name (ES3 11.2.3).
+///
+/// # Errors
+///
+/// `Memory` where memory is wanting.
 pub fn runtime_call<const N: usize>(
     alloc: Global,
     function: &str,

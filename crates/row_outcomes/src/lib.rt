@@ -86,6 +86,10 @@ pub fn text_or(
 }
 
 /// What a value is to a caller, or the stop in its place.
+///
+/// # Errors
+///
+/// The stop that stands in the place of the value.
 pub fn outcome_of(value: Result<Value, Stop>) -> Result<Outcome, Stop>
     ensures { result ≡ outcome_of value }
 {
@@ -93,6 +97,10 @@ pub fn outcome_of(value: Result<Value, Stop>) -> Result<Outcome, Stop>
 }
 
 /// Some values once more, in their order.
+///
+/// # Errors
+///
+/// `Memory` where memory is wanting.
 pub fn copied(alloc: Global, values: &[Value]) -> Result<Vec<Value>, Memory>
     ensures { IfOk result (λ copies. copies.items ≡ values.now) }
 {

@@ -86,6 +86,10 @@ impl Pieces {
     }
 
     /// The units from the place `from` up to the place `to`, without the latter.
+    ///
+    /// # Errors
+    ///
+    /// `AllocError` where memory is wanting.
     pub fn part(&self, alloc: Global, from: usize, to: usize) -> Result<Vec<u16>, AllocError>
         requires order { from ≤ to }
         requires within { to ≤ length self.now }
@@ -106,6 +110,10 @@ impl Pieces {
     }
 
     /// Appends the units to a list. Where memory is wanting, some of them may be there.
+    ///
+    /// # Errors
+    ///
+    /// `AllocError` where memory is wanting.
     pub fn push_to(&self, units: &mut Vec<u16>) -> Result<(), AllocError>
         ensures { OnOk result (units.new.items ≡ units.old.items ++ self.now) }
     {
@@ -113,6 +121,10 @@ impl Pieces {
     }
 
     /// A long text in one piece.
+    ///
+    /// # Errors
+    ///
+    /// `AllocError` where memory is wanting.
     pub fn of(alloc: Global, units: Vec<u16>) -> Result<Pieces, AllocError>
         requires { 40 < vec_len units }
         ensures { IfOk result (λ pieces. pieces ≡ units.items) }
@@ -124,6 +136,10 @@ impl Pieces {
     }
 
     /// This text with the units behind it.
+    ///
+    /// # Errors
+    ///
+    /// `AllocError` where memory is wanting.
     pub fn appended(&self, alloc: Global, units: &[u16]) -> Result<Pieces, AllocError>
         requires { length self.now + length units.now < 2 ^ 32 }
         ensures { IfOk result (λ pieces. pieces ≡ self.now ++ units.now) }
@@ -140,6 +156,10 @@ impl Pieces {
     }
 
     /// This text with the units before it.
+    ///
+    /// # Errors
+    ///
+    /// `AllocError` where memory is wanting.
     pub fn prepended(&self, alloc: Global, units: &[u16]) -> Result<Pieces, AllocError>
         requires { length units.now + length self.now < 2 ^ 32 }
         ensures { IfOk result (λ pieces. pieces ≡ units.now ++ self.now) }

@@ -65,6 +65,10 @@ impl Drop for Text {
 
 impl Text {
     /// The text of a list of units.
+    ///
+    /// # Errors
+    ///
+    /// `AllocError` where memory is wanting.
     pub fn of(alloc: Global, units: &[u16]) -> Result<Text, AllocError>
         ensures { IfOk result (λ text. text ≡ units.now) }
     {
@@ -75,6 +79,10 @@ impl Text {
     }
 
     /// The text of a list of units, which becomes its own where it is long.
+    ///
+    /// # Errors
+    ///
+    /// `AllocError` where memory is wanting.
     pub fn of_list(alloc: Global, units: Vec<u16>) -> Result<Text, AllocError>
         ensures is { IfOk result (λ text. text ≡ units.items) }
         ensures small { IfOk result (All (λ u. u < 65536)) }
@@ -88,6 +96,10 @@ impl Text {
     }
 
     /// The text whose units are the numbers of the bytes.
+    ///
+    /// # Errors
+    ///
+    /// `AllocError` where memory is wanting.
     pub fn of_ascii(alloc: Global, bytes: &[u8]) -> Result<Text, AllocError>
         ensures { IfOk result (λ text. text ≡ bytes.now) }
     {
@@ -104,6 +116,10 @@ impl Text {
     }
 
     /// The decimal digits of a number, which is kept with them.
+    ///
+    /// # Errors
+    ///
+    /// `AllocError` where memory is wanting.
     pub fn of_index(alloc: Global, index: u32) -> Result<Text, AllocError>
         ensures { IfOk result (λ text. text ≡ decimal index) }
     {
@@ -113,6 +129,10 @@ impl Text {
     }
 
     /// The same text, and where it is short, its number is kept from now on, in this one and all that share it.
+    ///
+    /// # Errors
+    ///
+    /// `AllocError` where memory is wanting.
     pub fn keyed(&self, alloc: Global) -> Result<Text, AllocError>
         ensures { IfOk result (λ text. text ≡ self.now) }
     {
@@ -183,6 +203,10 @@ impl Text {
     }
 
     /// The same text, counted once more.
+    ///
+    /// # Errors
+    ///
+    /// `AllocError` where memory is wanting.
     pub fn share(&self) -> Result<Text, AllocError>
         ensures { IfOk result (λ text. text ≡ self.now) }
     {
@@ -232,6 +256,10 @@ impl Text {
     }
 
     /// The units from the place `from` up to the place `to`, without the latter.
+    ///
+    /// # Errors
+    ///
+    /// `AllocError` where memory is wanting.
     pub fn part(&self, alloc: Global, from: usize, to: usize) -> Result<Text, AllocError>
         requires order { from ≤ to }
         requires within { to ≤ length self.now }
@@ -270,6 +298,10 @@ impl Text {
     }
 
     /// All units, in a list of their own.
+    ///
+    /// # Errors
+    ///
+    /// `AllocError` where memory is wanting.
     pub fn all(&self, alloc: Global) -> Result<Vec<u16>, AllocError>
         ensures { IfOk result (λ units. units.items ≡ self.now) }
     {
@@ -279,6 +311,10 @@ impl Text {
     }
 
     /// This text with the other behind it.
+    ///
+    /// # Errors
+    ///
+    /// `AllocError` where memory is wanting.
     pub fn join(&self, alloc: Global, other: &Text) -> Result<Text, AllocError>
         requires { length self.now + length other.now < 2 ^ 32 }
         ensures { IfOk result (λ text. text ≡ self.now ++ other.now) }

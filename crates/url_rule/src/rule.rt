@@ -50,6 +50,10 @@ impl<F: Asks> UriRule<F> {
     }
 
     /// The rows of the table once more.
+    ///
+    /// # Errors
+    ///
+    /// `Memory` where memory is wanting.
     pub fn rows(&self, alloc: Global) -> Result<Vec<UriRow>, Memory>
         ensures { IfOk result (λ rows. rows_of rows.items ≡ rows_of self.now.table.items) }
     {
@@ -85,6 +89,10 @@ impl<F: Asks> UriRule<F> {
     /// Else it is the text of the URL that is read, joined to the base where there is one, and None exactly where there is no such URL, where its scheme is neither
     /// `http` nor `https`, where it has no host, where no row of the table matches, or, for a sheet, where its text has a backslash. A URL past 4 GB is want of
     /// memory.
+    ///
+    /// # Errors
+    ///
+    /// `Memory` where memory is wanting, or a URL is longer than 4 GB.
     pub fn read(
         &self,
         alloc: Global,
@@ -109,6 +117,10 @@ impl<F: Asks> UriRule<F> {
 
 impl UriRule<Vec<UriRow>> {
     /// The rule of a table that is asked itself.
+    ///
+    /// # Errors
+    ///
+    /// `Memory` where memory is wanting.
     pub fn of_table(alloc: Global, table: Vec<UriRow>) -> Result<UriRule<Vec<UriRow>>, Memory>
         ensures { IfOk result (λ rule. rule.table.items ≡ table.items) }
     {

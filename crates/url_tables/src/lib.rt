@@ -37,6 +37,10 @@ fn row(alloc: Global, row: &TableRow) -> Result<UriRow, Memory>
 }
 
 /// The rule of these rows, which the table is asked for.
+///
+/// # Errors
+///
+/// `Memory` where memory is wanting.
 pub fn rule_of(alloc: Global, rows: &[TableRow]) -> Result<UriRule<Vec<UriRow>>, Memory>
     ensures { IfOk result (λ rule. rows_of rule.table.items ≡ map (λ r. row_in r.0 r.1.now (option_copied r.2) r.3) rows.now) }
 {
@@ -47,7 +51,11 @@ pub fn rule_of(alloc: Global, rows: &[TableRow]) -> Result<UriRule<Vec<UriRow>>,
     UriRule::of_table(alloc, table)
 }
 
-/// The URL that a text names, to which others are joined, and none where the text is empty. Errors are those of `url`.
+/// The URL that a text names, to which others are joined, and none where the text is empty.
+///
+/// # Errors
+///
+/// As `Url::parse`.
 pub fn base_of(alloc: Global, text: &str) -> ParseResult<Option<Url>> {
     if text.is_empty() {
         return Ok(None);

@@ -1,5 +1,5 @@
 -- Parts whose temporaries are numbered: what a part is, and the next free number, by the number that is free before it.
-use Rattle.std.specs.Prelude.{◌≡◌, ℕ, ◌+◌, ◌^◌, ◌<◌, Result, IfOk, OnOk}
+use Rattle.std.specs.Prelude.{◌≡◌, ℕ, ◌+◌, ◌^◌, ◌<◌, Result, IfOk, OnErr, OnOk}
 use Rattle.caja_units.specs.declared.Memory.{Memory}
 
 abbrev pub Numbered : Type 0 → Type 0
@@ -30,3 +30,4 @@ pub record Takes (answer : Result ℕ Memory) (before count after : ℕ) : Type 
   pub first : IfOk answer (λ i. i ≡ before)
   pub taken : OnOk answer (after ≡ before + count)
   pub fits : IfOk answer (λ i. i + 3 < 2 ^ 32)
+  pub stays : OnErr answer (after ≡ before)

@@ -19,6 +19,10 @@ fn ask(alloc: Global, function: &str, arguments: Vec<Expr>) -> Result<Box<Expr>,
 }
 
 /// A call with one argument.
+///
+/// # Errors
+///
+/// `Memory` where memory is wanting.
 pub fn ask_one(alloc: Global, function: &str, a: Box<Expr>) -> Result<Box<Expr>, Memory>
     ensures { IfOk result (λ x. source.expr x.value ≡ forms.ask function.now (forms.list1 (source.expr a.value))) }
 {
@@ -27,6 +31,10 @@ pub fn ask_one(alloc: Global, function: &str, a: Box<Expr>) -> Result<Box<Expr>,
 }
 
 /// A call with two arguments.
+///
+/// # Errors
+///
+/// `Memory` where memory is wanting.
 pub fn ask_two(
     alloc: Global,
     function: &str,
@@ -40,6 +48,10 @@ pub fn ask_two(
 }
 
 /// A call with three arguments.
+///
+/// # Errors
+///
+/// `Memory` where memory is wanting.
 pub fn ask_three(
     alloc: Global,
     function: &str,
@@ -58,6 +70,10 @@ pub fn ask_three(
 }
 
 /// The value of a name that nothing declares.
+///
+/// # Errors
+///
+/// `Memory` where memory is wanting.
 pub fn outer(alloc: Global, name: &Name) -> Result<Box<Expr>, Memory>
     ensures { IfOk result (λ x. source.expr x.value ≡ forms.outer (source.word name.now)) }
 {
@@ -65,6 +81,10 @@ pub fn outer(alloc: Global, name: &Name) -> Result<Box<Expr>, Memory>
 }
 
 /// The value put into a name that nothing declares.
+///
+/// # Errors
+///
+/// `Memory` where memory is wanting.
 pub fn set_outer(alloc: Global, name: &Name, value: Box<Expr>) -> Result<Box<Expr>, Memory>
     ensures { IfOk result (λ x. source.expr x.value ≡ forms.set_outer (source.word name.now) (source.expr value.value)) }
 {
@@ -72,6 +92,10 @@ pub fn set_outer(alloc: Global, name: &Name, value: Box<Expr>) -> Result<Box<Exp
 }
 
 /// The member of an object.
+///
+/// # Errors
+///
+/// `Memory` where memory is wanting.
 pub fn get(alloc: Global, object: Box<Expr>, key: Box<Expr>) -> Result<Box<Expr>, Memory>
     ensures { IfOk result (λ x. source.expr x.value ≡ forms.get (source.expr object.value) (source.expr key.value)) }
 {
@@ -79,6 +103,10 @@ pub fn get(alloc: Global, object: Box<Expr>, key: Box<Expr>) -> Result<Box<Expr>
 }
 
 /// The value put into a member of an object.
+///
+/// # Errors
+///
+/// `Memory` where memory is wanting.
 pub fn set(
     alloc: Global,
     object: Box<Expr>,
@@ -92,6 +120,10 @@ pub fn set(
 }
 
 /// A call of a member of an object, which is the receiver.
+///
+/// # Errors
+///
+/// `Memory` where memory is wanting.
 pub fn call_member(
     alloc: Global,
     object: Box<Expr>,
@@ -106,6 +138,10 @@ pub fn call_member(
 }
 
 /// A call of a value without a receiver.
+///
+/// # Errors
+///
+/// `Memory` where memory is wanting.
 pub fn call_value(
     alloc: Global,
     callee: Box<Expr>,
@@ -118,6 +154,10 @@ pub fn call_value(
 }
 
 /// An object that a function constructs.
+///
+/// # Errors
+///
+/// `Memory` where memory is wanting.
 pub fn construct(
     alloc: Global,
     constructor: Box<Expr>,

@@ -15,6 +15,10 @@ use es3_tree::{
 use std::alloc::Global;
 
 /// `$v.dis(function ($dis, ..) { .. })`.
+///
+/// # Errors
+///
+/// `Memory` where memory is wanting.
 pub fn taking_receiver(alloc: Global, params: &[Name], body: Vec<Stmt>) -> Result<Box<Expr>, Memory>
     ensures { IfOk result (λ x. source.expr x.value ≡ forms.taking_receiver (source.words params.now) (source.of_stmts body.items)) }
 {
@@ -29,6 +33,10 @@ pub fn taking_receiver(alloc: Global, params: &[Name], body: Vec<Stmt>) -> Resul
 }
 
 /// `var f = e;`
+///
+/// # Errors
+///
+/// `Memory` where memory is wanting.
 pub fn declares(alloc: Global, name: &Name, value: Box<Expr>) -> Result<Stmt, Memory>
     ensures { IfOk result (λ s. source.stmt s ≡ forms.declares (source.word name.now) (source.expr value.value)) }
 {
@@ -40,6 +48,10 @@ pub fn declares(alloc: Global, name: &Name, value: Box<Expr>) -> Result<Stmt, Me
 }
 
 /// `(function () { var f = e; return f; })()`.
+///
+/// # Errors
+///
+/// `Memory` where memory is wanting.
 pub fn named(alloc: Global, name: &Name, value: Box<Expr>) -> Result<Box<Expr>, Memory>
     ensures { IfOk result (λ x. source.expr x.value ≡ forms.named (source.word name.now) (source.expr value.value)) }
 {
@@ -65,6 +77,10 @@ fn variable(name: Name) -> VarItem
 }
 
 /// The variables of a body's head: its temporaries, of which so many are taken, and then these names.
+///
+/// # Errors
+///
+/// `Memory` where memory is wanting.
 pub fn head_items(alloc: Global, taken: u32, names: &[Units]) -> Result<Vec<VarItem>, Memory>
     ensures { IfOk result (λ v. source.of_items v.items ≡ forms.items (forms.temporaries_from 0 taken ++ names.now)) }
 {
@@ -94,6 +110,10 @@ fn head(alloc: Global, taken: u32, names: &[Units]) -> Result<Vec<Stmt>, Memory>
 }
 
 /// A body: a `var` of its temporaries and of these names, where there is one, the functions that it declares, and its statements.
+///
+/// # Errors
+///
+/// `Memory` where memory is wanting.
 pub fn body_from(
     alloc: Global,
     taken: u32,

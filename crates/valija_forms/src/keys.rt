@@ -17,6 +17,10 @@ use es3_tree::{
 use std::alloc::Global;
 
 /// The key at which the loop is: the object, its keys and the place among these are held in three temporaries from `first` on.
+///
+/// # Errors
+///
+/// `Memory` where memory is wanting.
 pub fn key_now(alloc: Global, first: u32) -> Result<Box<Expr>, Memory>
     requires { first + 3 < 2 ^ 32 }
     ensures { IfOk result (λ x. source.expr x.value ≡ forms.key_now first) }
@@ -69,6 +73,10 @@ fn turn(alloc: Global, first: u32, written: Box<Expr>, body: Box<Stmt>) -> Resul
 }
 
 /// The loop: the object, its keys and the place among these are held in three temporaries from `first` on, and before each turn the key is `written`.
+///
+/// # Errors
+///
+/// `Memory` where memory is wanting.
 pub fn over_keys(
     alloc: Global,
     first: u32,

@@ -40,6 +40,10 @@ impl HeldKey {
 }
 
 /// A member with a written key.
+///
+/// # Errors
+///
+/// `Memory` where memory is wanting.
 pub fn hold(alloc: Global, first: u32, object: Box<Expr>, key: Name) -> Result<Held, Memory>
     ensures holding { IfOk result (λ h. source.expr h.holding.value ≡ forms.holds first (source.expr object.value)) }
     ensures object { IfOk result (λ h. h.object ≡ first) }
@@ -53,6 +57,10 @@ pub fn hold(alloc: Global, first: u32, object: Box<Expr>, key: Name) -> Result<H
 }
 
 /// A member with a computed key, which is held in the temporary of the number `second`.
+///
+/// # Errors
+///
+/// `Memory` where memory is wanting.
 pub fn hold_key(
     alloc: Global,
     first: u32,
@@ -89,6 +97,10 @@ impl Held {
     }
 
     /// `++` where `up`, else `--`, before the member.
+    ///
+    /// # Errors
+    ///
+    /// `Memory` where memory is wanting.
     pub fn step_before(self, alloc: Global, up: bool) -> Result<Box<Expr>, Memory>
         ensures { IfOk result (λ x.
             source.expr x.value ≡ forms.stepped_before up (source.expr self.holding.value) (forms.kept self.object) (key_form self.key)) }
@@ -99,6 +111,10 @@ impl Held {
     }
 
     /// `++` where `up`, else `--`, behind the member, whose old value is kept in the temporary of the number `last`.
+    ///
+    /// # Errors
+    ///
+    /// `Memory` where memory is wanting.
     pub fn step_behind(self, alloc: Global, up: bool, last: u32) -> Result<Box<Expr>, Memory>
         ensures { IfOk result (λ x.
             source.expr x.value ≡ forms.stepped_behind up last (source.expr self.holding.value) (forms.kept self.object) (key_form self.key)) }
@@ -112,6 +128,10 @@ impl Held {
     }
 
     /// The operator of `+=` and its kin, with its right operand.
+    ///
+    /// # Errors
+    ///
+    /// `Memory` where memory is wanting.
     pub fn compound(self, alloc: Global, op: BinOp, operand: Box<Expr>) -> Result<Box<Expr>, Memory>
         ensures { IfOk result (λ x. source.expr x.value
             ≡ forms.compounded op (source.expr self.holding.value) (forms.kept self.object) (key_form self.key) (source.expr operand.value)) }
@@ -124,6 +144,10 @@ impl Held {
 }
 
 /// `++` where `up`, else `--`, before a name that nothing declares.
+///
+/// # Errors
+///
+/// `Memory` where memory is wanting.
 pub fn step_outer(alloc: Global, up: bool, name: &Name) -> Result<Box<Expr>, Memory>
     ensures { IfOk result (λ x. source.expr x.value ≡ forms.stepped_outer up (source.word name.now)) }
 {
@@ -132,6 +156,10 @@ pub fn step_outer(alloc: Global, up: bool, name: &Name) -> Result<Box<Expr>, Mem
 }
 
 /// `++` where `up`, else `--`, behind a name that nothing declares, whose old value is kept in a temporary.
+///
+/// # Errors
+///
+/// `Memory` where memory is wanting.
 pub fn step_outer_behind(
     alloc: Global,
     up: bool,

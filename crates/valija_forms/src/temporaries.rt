@@ -27,6 +27,10 @@ impl Temporaries {
     }
 
     /// Takes so many, and answers the number of the first. Where three more would not fit, memory is wanting: no form takes more.
+    ///
+    /// # Errors
+    ///
+    /// `Memory` where three more, or so many, would not fit.
     pub fn take(&mut self, count: u32) -> Result<u32, Memory>
         ensures { Takes result self.old.taken count self.new.taken }
     {
@@ -43,6 +47,10 @@ impl Temporaries {
 }
 
 /// The name of the temporary of that number (ES3 7.6).
+///
+/// # Errors
+///
+/// `Memory` where memory is wanting.
 pub fn temporary_word(alloc: Global, number: u32) -> Result<Name, Memory>
     ensures { IfOk result (λ n. source.word n ≡ forms.word (forms.temporary number)) }
 {
@@ -54,6 +62,10 @@ pub fn temporary_word(alloc: Global, number: u32) -> Result<Name, Memory>
 }
 
 /// The value of the temporary of that number (ES3 11.1.2).
+///
+/// # Errors
+///
+/// `Memory` where memory is wanting.
 pub fn kept(alloc: Global, number: u32) -> Result<Box<Expr>, Memory>
     ensures { IfOk result (λ x. source.expr x.value ≡ forms.kept number) }
 {
@@ -61,6 +73,10 @@ pub fn kept(alloc: Global, number: u32) -> Result<Box<Expr>, Memory>
 }
 
 /// The value put into the temporary of that number (ES3 11.13.1).
+///
+/// # Errors
+///
+/// `Memory` where memory is wanting.
 pub fn keeps(alloc: Global, number: u32, value: Box<Expr>) -> Result<Box<Expr>, Memory>
     ensures { IfOk result (λ x. source.expr x.value ≡ forms.keeps number (source.expr value.value)) }
 {
@@ -69,6 +85,10 @@ pub fn keeps(alloc: Global, number: u32, value: Box<Expr>) -> Result<Box<Expr>, 
 }
 
 /// The one, and then the other (ES3 11.14).
+///
+/// # Errors
+///
+/// `Memory` where memory is wanting.
 pub fn then(alloc: Global, first: Box<Expr>, last: Box<Expr>) -> Result<Box<Expr>, Memory>
     ensures { IfOk result (λ x. source.expr x.value ≡ placed.comma (source.expr first.value) (source.expr last.value)) }
 {
@@ -76,6 +96,10 @@ pub fn then(alloc: Global, first: Box<Expr>, last: Box<Expr>) -> Result<Box<Expr
 }
 
 /// A number literal (ES3 7.8.3).
+///
+/// # Errors
+///
+/// `Memory` where memory is wanting.
 pub fn number(alloc: Global, value: u32) -> Result<Box<Expr>, Memory>
     ensures { IfOk result (λ x. source.expr x.value ≡ forms.number value) }
 {
@@ -83,6 +107,10 @@ pub fn number(alloc: Global, value: u32) -> Result<Box<Expr>, Memory>
 }
 
 /// A key that is converted to a text once (ES3 11.6.1).
+///
+/// # Errors
+///
+/// `Memory` where memory is wanting.
 pub fn as_key(alloc: Global, key: Box<Expr>) -> Result<Box<Expr>, Memory>
     ensures { IfOk result (λ x. source.expr x.value ≡ forms.as_key (source.expr key.value)) }
 {
@@ -91,6 +119,10 @@ pub fn as_key(alloc: Global, key: Box<Expr>) -> Result<Box<Expr>, Memory>
 }
 
 /// A value as a number (ES3 11.4.6).
+///
+/// # Errors
+///
+/// `Memory` where memory is wanting.
 pub fn as_number(alloc: Global, value: Box<Expr>) -> Result<Box<Expr>, Memory>
     ensures { IfOk result (λ x. source.expr x.value ≡ forms.as_number (source.expr value.value)) }
 {
@@ -98,6 +130,10 @@ pub fn as_number(alloc: Global, value: Box<Expr>) -> Result<Box<Expr>, Memory>
 }
 
 /// One more where `up`, else one less (ES3 11.6).
+///
+/// # Errors
+///
+/// `Memory` where memory is wanting.
 pub fn one_by(alloc: Global, up: bool, value: Box<Expr>) -> Result<Box<Expr>, Memory>
     ensures { IfOk result (λ x. source.expr x.value ≡ forms.one_by up (source.expr value.value)) }
 {

@@ -19,6 +19,10 @@ pub const RECEIVER: &str = "$dis";
 pub const NOWHERE: u32 = 0;
 
 /// A word of the lowering's own.
+///
+/// # Errors
+///
+/// `Memory` where memory is wanting.
 pub fn own_word(alloc: Global, text: &str) -> Result<Name, Memory>
     ensures { IfOk result (λ n. source.word n ≡ forms.word text.now) }
 {
@@ -29,6 +33,10 @@ pub fn own_word(alloc: Global, text: &str) -> Result<Name, Memory>
 }
 
 /// A word of the source.
+///
+/// # Errors
+///
+/// `Memory` where memory is wanting.
 pub fn copied(alloc: Global, name: &Name) -> Result<Name, Memory>
     ensures { IfOk result (λ n. source.word n ≡ forms.word name.now.text) }
 {
@@ -39,6 +47,10 @@ pub fn copied(alloc: Global, name: &Name) -> Result<Name, Memory>
 }
 
 /// The label of a jump, where there is one (ES3 12.7, 12.8).
+///
+/// # Errors
+///
+/// `Memory` where memory is wanting.
 pub fn copied_label(alloc: Global, label: &Option<Name>) -> Result<Option<Name>, Memory>
     ensures { IfOk result (λ l. source.word_of l ≡ forms.label_of (source.word_of label.now)) }
 {
@@ -49,6 +61,10 @@ pub fn copied_label(alloc: Global, label: &Option<Name>) -> Result<Option<Name>,
 }
 
 /// The parameters of a function that takes a receiver: the receiver, and then those of the source (ES3 13).
+///
+/// # Errors
+///
+/// `Memory` where memory is wanting.
 pub fn with_receiver(alloc: Global, params: &[Name]) -> Result<Vec<Name>, Memory>
     ensures { IfOk result (λ names. source.words names.items ≡ forms.word forms.receiver_name ∷ map (λ x. forms.word x.text) (source.words params.now)) }
 {
@@ -60,6 +76,10 @@ pub fn with_receiver(alloc: Global, params: &[Name]) -> Result<Vec<Name>, Memory
 }
 
 /// The value of a name of the lowering's own (ES3 11.1.2).
+///
+/// # Errors
+///
+/// `Memory` where memory is wanting.
 pub fn own_name(alloc: Global, text: &str) -> Result<Box<Expr>, Memory>
     ensures { IfOk result (λ x. source.expr x.value ≡ forms.name text.now) }
 {
@@ -67,6 +87,10 @@ pub fn own_name(alloc: Global, text: &str) -> Result<Box<Expr>, Memory>
 }
 
 /// The value of a name of the source (ES3 11.1.2).
+///
+/// # Errors
+///
+/// `Memory` where memory is wanting.
 pub fn copied_name(alloc: Global, name: &Name) -> Result<Box<Expr>, Memory>
     ensures { IfOk result (λ x. source.expr x.value ≡ forms.name name.now.text) }
 {
@@ -74,6 +98,10 @@ pub fn copied_name(alloc: Global, name: &Name) -> Result<Box<Expr>, Memory>
 }
 
 /// A word of the source as a text (ES3 7.8.4).
+///
+/// # Errors
+///
+/// `Memory` where memory is wanting.
 pub fn as_text(alloc: Global, word: &Name) -> Result<Box<Expr>, Memory>
     ensures { IfOk result (λ x. source.expr x.value ≡ forms.text_of (source.word word.now)) }
 {

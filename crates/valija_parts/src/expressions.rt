@@ -31,6 +31,10 @@ use valija_forms::temporaries::then;
 use valija_forms::words::{as_text, copied};
 
 /// An expression that has no parts.
+///
+/// # Errors
+///
+/// `Memory` where memory is wanting.
 pub fn leaf(alloc: Global, e: Expr) -> Result<Box<Expr>, Memory>
     ensures { (n : ℕ) → Gives result n held.expr (source.expr e, n) }
 {
@@ -38,6 +42,10 @@ pub fn leaf(alloc: Global, e: Expr) -> Result<Box<Expr>, Memory>
 }
 
 /// A text (ES3 7.8.4).
+///
+/// # Errors
+///
+/// `Memory` where memory is wanting.
 pub fn text(alloc: Global, text: &Units) -> Result<Box<Expr>, Memory>
     ensures { (n : ℕ) → Gives result n held.expr (placed.text text.now, n) }
 {
@@ -46,6 +54,10 @@ pub fn text(alloc: Global, text: &Units) -> Result<Box<Expr>, Memory>
 }
 
 /// `this` (ES3 11.1.1).
+///
+/// # Errors
+///
+/// `Memory` where memory is wanting.
 pub fn this(alloc: Global, scope: &Scope<'_>) -> Result<Box<Expr>, Memory>
     ensures { (n : ℕ) → Gives result n held.expr (names_of.receiver (scope_of scope.now), n) }
 {
@@ -53,6 +65,10 @@ pub fn this(alloc: Global, scope: &Scope<'_>) -> Result<Box<Expr>, Memory>
 }
 
 /// A name (ES3 11.1.2).
+///
+/// # Errors
+///
+/// `Memory` where memory is wanting.
 pub fn name(alloc: Global, scope: &Scope<'_>, name: &Name) -> Result<Box<Expr>, Memory>
     ensures { (n : ℕ) → Gives result n held.expr (names_of.read_name (scope_of scope.now) (source.word name.now), n) }
 {
@@ -60,6 +76,10 @@ pub fn name(alloc: Global, scope: &Scope<'_>, name: &Name) -> Result<Box<Expr>, 
 }
 
 /// A function expression: it takes no temporaries of what is around it (ES3 13).
+///
+/// # Errors
+///
+/// `Memory` where memory was wanting for the function.
 pub fn function(function: Result<Box<Expr>, Memory>) -> Result<Box<Expr>, Memory>
     ensures { (x : Placed tree.expr) (n : ℕ) → IfOk function (λ e. source.expr e.value ≡ x) → Gives result n held.expr (x, n) }
 {
@@ -67,6 +87,10 @@ pub fn function(function: Result<Box<Expr>, Memory>) -> Result<Box<Expr>, Memory
 }
 
 /// An array literal of these elements (ES3 11.1.4).
+///
+/// # Errors
+///
+/// `Memory` where memory is wanting, or was for one of its parts.
 pub fn array(alloc: Global, elements: Result<Vec<Expr>, Memory>) -> Result<Box<Expr>, Memory>
     ensures { (x : Numbered (Placed tree.exprs)) (n m : ℕ) → Gives elements m held.exprs (x n) → Gives result m held.expr (one placed.array x n) }
 {
@@ -75,6 +99,10 @@ pub fn array(alloc: Global, elements: Result<Vec<Expr>, Memory>) -> Result<Box<E
 }
 
 /// An object literal of these properties (ES3 11.1.5).
+///
+/// # Errors
+///
+/// `Memory` where memory is wanting, or was for one of its parts.
 pub fn object(alloc: Global, fields: Result<Vec<(Name, Expr)>, Memory>) -> Result<Box<Expr>, Memory>
     ensures { (x : Numbered (Placed tree.fields)) (n m : ℕ) → Gives fields m held.fields (x n) → Gives result m held.expr (one placed.object x n) }
 {
@@ -83,6 +111,10 @@ pub fn object(alloc: Global, fields: Result<Vec<(Name, Expr)>, Memory>) -> Resul
 }
 
 /// The member of an object behind a point (ES3 11.2.1).
+///
+/// # Errors
+///
+/// `Memory` where memory is wanting, or was for one of its parts.
 pub fn dot(
     alloc: Global,
     object: Result<Box<Expr>, Memory>,
@@ -96,6 +128,10 @@ pub fn dot(
 }
 
 /// The member of an object in brackets (ES3 11.2.1).
+///
+/// # Errors
+///
+/// `Memory` where memory is wanting, or was for one of its parts.
 pub fn index(
     alloc: Global,
     object: Result<Box<Expr>, Memory>,
@@ -110,6 +146,10 @@ pub fn index(
 }
 
 /// A call with these arguments (ES3 11.2.3).
+///
+/// # Errors
+///
+/// `Memory` where memory is wanting, or was for one of its parts.
 pub fn call(
     alloc: Global,
     scope: &Scope<'_>,
@@ -125,6 +165,10 @@ pub fn call(
 }
 
 /// A `new` with these arguments (ES3 11.2.2).
+///
+/// # Errors
+///
+/// `Memory` where memory is wanting, or was for one of its parts.
 pub fn new(
     alloc: Global,
     constructor: Result<Box<Expr>, Memory>,
@@ -139,6 +183,10 @@ pub fn new(
 }
 
 /// A prefix operator with its operand (ES3 11.4).
+///
+/// # Errors
+///
+/// `Memory` where memory is wanting, or was for one of its parts.
 pub fn unary(
     alloc: Global,
     scope: &Scope<'_>,
@@ -152,6 +200,10 @@ pub fn unary(
 }
 
 /// `++` where `up`, else `--`, before its operand or behind it, with temporaries from the number `first` on (ES3 11.3, 11.4.4, 11.4.5).
+///
+/// # Errors
+///
+/// `Memory` where memory is wanting, or was for one of its parts.
 pub fn step(
     alloc: Global,
     scope: &Scope<'_>,
@@ -169,6 +221,10 @@ pub fn step(
 }
 
 /// An assignment: with the operator of `+=` and its kin, or with none for `=`, with temporaries from the number `first` on (ES3 11.13).
+///
+/// # Errors
+///
+/// `Memory` where memory is wanting, or was for one of its parts.
 pub fn assign(
     alloc: Global,
     scope: &Scope<'_>,
@@ -203,6 +259,10 @@ fn operator(
 }
 
 /// A binary operator with its operands (ES3 11.5 to 11.10).
+///
+/// # Errors
+///
+/// `Memory` where memory is wanting, or was for one of its parts.
 pub fn binary(
     alloc: Global,
     op: BinOp,
@@ -218,6 +278,10 @@ pub fn binary(
 }
 
 /// `left && right` (ES3 11.11).
+///
+/// # Errors
+///
+/// `Memory` where memory is wanting, or was for one of its parts.
 pub fn and(
     alloc: Global,
     left: Result<Box<Expr>, Memory>,
@@ -232,6 +296,10 @@ pub fn and(
 }
 
 /// `left || right` (ES3 11.11).
+///
+/// # Errors
+///
+/// `Memory` where memory is wanting, or was for one of its parts.
 pub fn or(
     alloc: Global,
     left: Result<Box<Expr>, Memory>,
@@ -246,6 +314,10 @@ pub fn or(
 }
 
 /// `test ? yes : no` (ES3 11.12).
+///
+/// # Errors
+///
+/// `Memory` where memory is wanting, or was for one of its parts.
 pub fn choice(
     alloc: Global,
     test: Result<Box<Expr>, Memory>,
@@ -261,6 +333,10 @@ pub fn choice(
 }
 
 /// `left, right` (ES3 11.14).
+///
+/// # Errors
+///
+/// `Memory` where memory is wanting, or was for one of its parts.
 pub fn comma(
     alloc: Global,
     left: Result<Box<Expr>, Memory>,
@@ -275,6 +351,10 @@ pub fn comma(
 }
 
 /// A name that is called, written, stepped or asked for its type.
+///
+/// # Errors
+///
+/// `Memory` where memory is wanting.
 pub fn name_place(alloc: Global, name: &Name) -> Result<Place, Memory>
     ensures { (n : ℕ) → Gives result n place_of (wanted.at_name (forms.word name.now.text), n) }
 {
@@ -282,6 +362,10 @@ pub fn name_place(alloc: Global, name: &Name) -> Result<Place, Memory>
 }
 
 /// The member of an object behind a point, as what is called, written, stepped or deleted.
+///
+/// # Errors
+///
+/// `Memory` where memory is wanting, or was for one of its parts.
 pub fn dot_place(
     alloc: Global,
     object: Result<Box<Expr>, Memory>,
@@ -294,6 +378,10 @@ pub fn dot_place(
 }
 
 /// The member of an object in brackets, as what is called, written, stepped or deleted.
+///
+/// # Errors
+///
+/// `Memory` where memory is wanting, or was for one of its parts.
 pub fn index_place(
     object: Result<Box<Expr>, Memory>,
     key: Result<Box<Expr>, Memory>,
@@ -307,6 +395,10 @@ pub fn index_place(
 }
 
 /// What is no name and no member.
+///
+/// # Errors
+///
+/// `Memory` where memory is wanting, or was for one of its parts.
 pub fn other_place(e: Result<Box<Expr>, Memory>) -> Result<Place, Memory>
     ensures { (x : Numbered (Placed tree.expr)) (n m : ℕ) → Gives e m held.expr (x n) → Gives result m place_of (one wanted.elsewhere x n) }
 {

@@ -19,6 +19,10 @@ use valija_forms::temporaries::number;
 use valija_forms::words::{NOWHERE, RECEIVER, as_text, copied_name, own_name, own_word};
 
 /// What `this` is.
+///
+/// # Errors
+///
+/// `Memory` where memory is wanting.
 pub fn receiver(alloc: Global, scope: &Scope<'_>) -> Result<Box<Expr>, Memory>
     ensures { IfOk result (λ x. source.expr x.value ≡ wanted.receiver (scope_of scope.now)) }
 {
@@ -40,6 +44,10 @@ fn own_arguments(alloc: Global, name: &Name) -> Result<Box<Expr>, Memory>
 }
 
 /// The value of a name.
+///
+/// # Errors
+///
+/// `Memory` where memory is wanting.
 pub fn read_name(alloc: Global, scope: &Scope<'_>, name: &Name) -> Result<Box<Expr>, Memory>
     ensures { IfOk result (λ x. source.expr x.value ≡ wanted.read_name (scope_of scope.now) (source.word name.now)) }
 {
@@ -53,6 +61,10 @@ pub fn read_name(alloc: Global, scope: &Scope<'_>, name: &Name) -> Result<Box<Ex
 }
 
 /// A value put into a name.
+///
+/// # Errors
+///
+/// `Memory` where memory is wanting.
 pub fn write_name(
     alloc: Global,
     scope: &Scope<'_>,
@@ -71,6 +83,10 @@ pub fn write_name(
 }
 
 /// `typeof` a name (ES3 11.4.3).
+///
+/// # Errors
+///
+/// `Memory` where memory is wanting.
 pub fn type_of_name(alloc: Global, scope: &Scope<'_>, name: &Name) -> Result<Box<Expr>, Memory>
     ensures { IfOk result (λ x. source.expr x.value ≡ wanted.type_of_name (scope_of scope.now) (source.word name.now)) }
 {
@@ -85,6 +101,10 @@ pub fn type_of_name(alloc: Global, scope: &Scope<'_>, name: &Name) -> Result<Box
 }
 
 /// The operator of `+=` and its kin at a name, with its right operand (ES3 11.13.2).
+///
+/// # Errors
+///
+/// `Memory` where memory is wanting.
 pub fn op_of_name(
     alloc: Global,
     scope: &Scope<'_>,
@@ -116,6 +136,10 @@ pub fn name_takes(scope: &Scope<'_>, before: bool, name: &Name) -> u32
 }
 
 /// `++` where `up`, else `--`, before a name or behind it; the temporary of the number `first` is there for an old value (ES3 11.3, 11.4.4, 11.4.5).
+///
+/// # Errors
+///
+/// `Memory` where memory is wanting.
 pub fn step_name(
     alloc: Global,
     scope: &Scope<'_>,

@@ -86,6 +86,10 @@ fn prefix(alloc: Global, op: UnOp, operand: Box<Expr>) -> Result<Box<Expr>, Memo
 
 impl Place {
     /// Its value.
+    ///
+    /// # Errors
+    ///
+    /// `Memory` where memory is wanting.
     pub fn value(self, alloc: Global, scope: &Scope<'_>) -> Result<Box<Expr>, Memory>
         ensures { IfOk result (λ x. source.expr x.value ≡ wanted.value_of (scope_of scope.now) (place_of self)) }
     {
@@ -98,6 +102,10 @@ impl Place {
     }
 
     /// A call: of a member, whose object is the receiver, or of a value (ES3 11.2.3).
+    ///
+    /// # Errors
+    ///
+    /// `Memory` where memory is wanting.
     pub fn called(
         self,
         alloc: Global,
@@ -142,6 +150,10 @@ impl Place {
     }
 
     /// `delete` of a member, `typeof` of a name, or another prefix operator with its operand (ES3 11.4).
+    ///
+    /// # Errors
+    ///
+    /// `Memory` where memory is wanting.
     pub fn prefixed(self, alloc: Global, scope: &Scope<'_>, op: UnOp) -> Result<Box<Expr>, Memory>
         ensures { IfOk result (λ x. source.expr x.value ≡ wanted.prefixed (scope_of scope.now) op (place_of self)) }
     {
@@ -153,6 +165,10 @@ impl Place {
     }
 
     /// `++` where `up`, else `--`, before the place or behind it, with temporaries from the number `first` on (ES3 11.3, 11.4.4, 11.4.5).
+    ///
+    /// # Errors
+    ///
+    /// `Memory` where memory is wanting.
     pub fn stepped(
         self,
         alloc: Global,
@@ -216,6 +232,10 @@ impl Place {
     }
 
     /// An assignment to the place: with the operator of `+=` and its kin, or with none for `=`, with temporaries from the number `first` on (ES3 11.13).
+    ///
+    /// # Errors
+    ///
+    /// `Memory` where memory is wanting.
     pub fn assigned(
         self,
         alloc: Global,
@@ -235,6 +255,10 @@ impl Place {
     }
 
     /// The value put into the place, where it is what the head of a `for` .. `in` names (ES3 12.6.4).
+    ///
+    /// # Errors
+    ///
+    /// `Memory` where memory is wanting.
     pub fn written(
         self,
         alloc: Global,

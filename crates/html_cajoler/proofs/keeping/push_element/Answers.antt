@@ -10,7 +10,7 @@ returns c =
     let ts = trees c.args.content.items in
     let xs = attrs_of c.args.attrs.items in
     let h = trees c.end_text.new.kept.nodes.items in
-    ok_then c.push.result c.push.ensures (λ e r.
+    ok_then c.push.result c.push.ensures.pushed (λ e r.
     element_kept (trees c.args.kept.now.nodes.items) h (trees c.push.new.list.items) c.args.kept.now.text.items c.end_text.new.kept.text.items c.args.name.now xs ts r
     c.in_ok-end_text.ensures.same
     (e ∙ ap (snoc h) (c.make_element.ensures ∙ ap (λ (n : List ℕ). element n xs ts) c.in_ok-name.ensures))

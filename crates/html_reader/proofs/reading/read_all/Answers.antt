@@ -17,7 +17,7 @@ loop-i-preserved-in-Text c =
     let f = fits_at _ _ _ (ap step_of c.in-Text.is) c.in_ok-units.ensures.fits in
     record {
       rest = loop_text c.loop-i.at c.width.result c.loop-i.i c.in-Text.n c.loop-i.first _ (stack c.loop-i.open.items) (trees c.loop-i.here.items) _ c.in-Text.units c.args.chars.now _ _ rest at f c.width.ensures c.still_first-first.ensures
-          (c.in_ok-push-in-Text.ensures ∙ ap (snoc (trees c.loop-i.here.items)) c.text.ensures) c.loop-i.invariant.rest;
+          (c.in_ok-push-in-Text.ensures.pushed ∙ ap (snoc (trees c.loop-i.here.items)) c.text.ensures) c.loop-i.invariant.rest;
       place = placed c.args.chars.now _ c.loop-i.i c.in-Text.n c.loop-i.at c.width.result _ rest c.width.ensures c.loop-i.invariant.place;
       within = fitted c.args.chars.now _ c.loop-i.i c.in-Text.n rest c.loop-i-test.true f.1;
     }
