@@ -69,7 +69,7 @@ impl Stack {
     #[tactic(auto, using(crate::proofs::Stacks::pushed))]
     pub fn push(&mut self, frame: Frame) -> Result<(), Memory>
         ensures pushed { OnOk result (stack_of self.new ≡ frame_of frame ∷ stack_of self.old) }
-        ensures stays { OnErr result (self.new ≡ self.old) }
+        ensures stays { OnErr result (stack_of self.new ≡ stack_of self.old) }
     {
         let sums = after(&frame, self.sums());
         self.entries.push(Entry { frame, sums })?;

@@ -8,7 +8,7 @@ use Rattle.es3_stmt.proofs.read.read_program.Goals as goal
 
 pub loop-token-init : goal.loop-token-init
 loop-token-init c = record {
-  reads = begun _ _ (start (stack_of c.push.new.self)) (rw (c.in_ok-push.ensures, c.new-stack.ensures, c.new.ensures));
+  reads = begun _ _ (start (stack_of c.push.new.self)) (rw (c.in_ok-push.ensures.pushed, c.new-stack.ensures, c.new.ensures));
   few = omega arith;
 }
 
